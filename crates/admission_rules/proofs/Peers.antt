@@ -1,6 +1,6 @@
 -- The cookies of peers after one is put.
-use Rattle.std.proofs.Common.{◌≡◌, ◌≢◌, ℕ, ◌+◌, Some, List, [], ◌∷◌, length, true, false, is_some}
-use Rattle.std.proofs.Common.{refl, arith}
+use Rattle.std.proofs.Common.{arith, false, is_some, length, List, refl, Some, true, ℕ, [], ◌+◌}
+use Rattle.std.proofs.Common.{◌∷◌, ◌≡◌, ◌≢◌}
 use Rattle.std.specs.Str.{bytes_eq}
 use Rattle.std.proofs.lemmas.Bool.{false_from_ne_true}
 use Rattle.std.proofs.lemmas.Slice.Eq.{bytes_eq-Decides}

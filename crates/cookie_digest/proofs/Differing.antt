@@ -1,6 +1,6 @@
 -- The bits in which bytes differ.
-use Rattle.std.proofs.Common.{◌≡◌, ◌↔◌, ◌∙◌, ℕ, ◌+◌, ◌<◌, List, slice_index, length, bit_or, arith}
-use Rattle.std.proofs.Common.{sym, ap, refl, inl, inr}
+use Rattle.std.proofs.Common.{ap, arith, bit_or, inl, inr, length, List, refl, slice_index, sym, ℕ}
+use Rattle.std.proofs.Common.{◌+◌, ◌<◌, ◌↔◌, ◌∙◌, ◌≡◌}
 use Rattle.std.specs.Prelude.{bit_xor}
 use Rattle.std.proofs.lemmas.Bool.{cases_lt}
 use Rattle.std.proofs.lemmas.List.{ext_get_or}

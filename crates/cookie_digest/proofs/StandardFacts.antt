@@ -1,8 +1,8 @@
 -- The digests of RFC 1321's test suite and of the handshake, so that a wrong definition doesn't
 -- check.
-use Rattle.std.specs.Prelude.{◌≡◌, [], ◌∷◌, codes, refl}
+use Rattle.std.specs.Prelude.{codes, refl, [], ◌∷◌, ◌≡◌}
 use Rattle.std.specs.Fmt.{digits}
-use Rattle.md5.specs.Md5.{block_words, rounds, compress, hash_after, digest_bytes, md5}
+use Rattle.md5.specs.Md5.{block_words, compress, digest_bytes, hash_after, md5, rounds}
 use Rattle.cookie_digest.specs.Digest.{digest_of}
 
 pub md5-of_nothing : md5 (codes "") ≡ 0xd4 ∷ 0x1d ∷ 0x8c ∷ 0xd9 ∷ 0x8f ∷ 0x00 ∷ 0xb2 ∷ 0x04 ∷ 0xe9

@@ -1,18 +1,16 @@
 -- What ends inside a part of a head can be completed, and what no part begins no head does.
-use Rattle.external_terms.proofs.Words.{◌≡◌, ℕ, zero, suc, ◌+◌, ◌-◌, ◌<◌, ◌^◌}
-use Rattle.external_terms.proofs.Words.{List, [], ◌∷◌, ◌++◌, length, get_or, replicate}
-use Rattle.external_terms.proofs.Words.{Result, Ok, Err, IfOk, IfErr, refl, sym, ap, subst, ◌∙◌}
-use Rattle.external_terms.proofs.Words.{arith, rules, append_assoc, append-nil, length-append}
-use Rattle.external_terms.proofs.Words.{length-replicate, from_be_bytes, w16, w32, be_bytes_2}
-use Rattle.external_terms.proofs.Words.{be_bytes_4}
-use Rattle.external_terms.proofs.Words.{Width, number_len, number_limit}
-use Rattle.external_terms.proofs.Words.{number_bytes, IsAtomTag, IsCut, IsTermFault, IsTag}
-use Rattle.external_terms.proofs.Words.{IsMark, IsNumber, IsLong, IsCounted, IsAtom}
-use Rattle.external_terms.proofs.FormLemmas.{number_same, behind_mark}
-use Rattle.external_terms.specs.declared.fault.TermFault.{TermFault}
-use Rattle.external_terms.specs.declared.fault.TermFault.TheVariants as faults
-use Rattle.external_terms.specs.declared.tag.Tag.TheVariants as tags
-use Rattle.external_terms.specs.declared.form.Width.TheVariants as widths
+use Rattle.external_terms.proofs
+use Rattle.external_terms.specs
+use proofs.Words.{ap, append-nil, append_assoc, arith, be_bytes_2, be_bytes_4, Err, from_be_bytes}
+use proofs.Words.{get_or, IfErr, IfOk, IsAtom, IsAtomTag, IsCounted, IsCut, IsLong, IsMark}
+use proofs.Words.{IsNumber, IsTag, IsTermFault, length, length-append, length-replicate, List}
+use proofs.Words.{number_bytes, number_len, number_limit, Ok, refl, replicate, Result, rules, subst}
+use proofs.Words.{suc, sym, w16, w32, Width, zero, ℕ, [], ◌++◌, ◌+◌, ◌-◌, ◌<◌, ◌^◌, ◌∙◌, ◌∷◌, ◌≡◌}
+use proofs.FormLemmas.{behind_mark, number_same}
+use specs.declared.fault.TermFault.{TermFault}
+use specs.declared.fault.TermFault.TheVariants as faults
+use specs.declared.tag.Tag.TheVariants as tags
+use specs.declared.form.Width.TheVariants as widths
 
 -- ---- a fault of a part is one of the whole
 

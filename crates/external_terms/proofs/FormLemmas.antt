@@ -1,14 +1,14 @@
 -- Bytes begin with one head at most: each part of a head is found by the bytes before it.
-use Rattle.external_terms.proofs.Words.{◌≡◌, ℕ, ◌+◌, ◌*◌, ◌<◌, ◌==◌, Bool, true, false, List, []}
-use Rattle.external_terms.proofs.Words.{◌∷◌, ◌++◌, length, take, drop, get_or, find, Option, Some}
-use Rattle.external_terms.proofs.Words.{refl, sym, ap, subst, ◌∙◌, arith, append_assoc, take_at}
-use Rattle.external_terms.proofs.Words.{drop_at, from_be_bytes, to_be_bytes, w16, w32}
-use Rattle.external_terms.proofs.Words.{from_be_bytes-to_be_bytes_2, from_be_bytes-to_be_bytes_4}
-use Rattle.external_terms.proofs.Words.{Tag, Form, Width, tag_byte, number_limit, number_bytes}
-use Rattle.external_terms.proofs.Words.{form, IsCounted, IsAtom, IsNode, HasForm, IsHead, IsAtomTag}
-use Rattle.external_terms.proofs.Words.{inl, inr}
-use Rattle.external_terms.specs.declared.tag.Tag.TheVariants as tags
-use Rattle.external_terms.specs.declared.form.Width.TheVariants as widths
+use Rattle.external_terms.proofs
+use Rattle.external_terms.specs
+use proofs.Words.{ap, append_assoc, arith, Bool, drop, drop_at, false, find, Form, form}
+use proofs.Words.{from_be_bytes, from_be_bytes-to_be_bytes_2, from_be_bytes-to_be_bytes_4, get_or}
+use proofs.Words.{HasForm, inl, inr, IsAtom, IsAtomTag, IsCounted, IsHead, IsNode, length, List}
+use proofs.Words.{number_bytes, number_limit, Option, refl, Some, subst, sym, Tag, tag_byte, take}
+use proofs.Words.{take_at, to_be_bytes, true, w16, w32, Width, ℕ, [], ◌*◌, ◌++◌, ◌+◌, ◌<◌, ◌==◌}
+use proofs.Words.{◌∙◌, ◌∷◌, ◌≡◌}
+use specs.declared.tag.Tag.TheVariants as tags
+use specs.declared.form.Width.TheVariants as widths
 
 -- pieces of one length at the front of the same bytes are the same, and so is what stands behind
 -- them

@@ -1,18 +1,12 @@
 -- What ends inside a part of a head can be completed, part by part, and what no part begins not.
-use Rattle.external_terms.proofs.Words.{◌≡◌, ℕ, ◌+◌, ◌*◌, ◌<◌, Bool, true}
-use Rattle.external_terms.proofs.Words.{false, List, [], ◌∷◌, ◌++◌, length, replicate}
-use Rattle.external_terms.proofs.Words.{refl, sym, ap, subst, ◌∙◌}
-use Rattle.external_terms.proofs.Words.{append_assoc, append-nil}
-use Rattle.external_terms.proofs.Words.{length-replicate}
-use Rattle.external_terms.proofs.Words.{Tag, Form, tag_byte, number_limit}
-use Rattle.external_terms.proofs.Words.{number_bytes, form, IsTag}
-use Rattle.external_terms.proofs.Words.{IsNumber, IsLong, IsNode}
-use Rattle.external_terms.proofs.Words.{HasForm, IsBehind, IsSomeHead}
-use Rattle.external_terms.proofs.FormLemmas.{behind_first, behind_count}
-use Rattle.external_terms.proofs.FormLemmas.{behind_named, tag_same}
+use Rattle.external_terms.proofs
+use proofs.Words.{ap, append-nil, append_assoc, Bool, false, Form, form, HasForm, IsBehind, IsLong}
+use proofs.Words.{IsNode, IsNumber, IsSomeHead, IsTag, length, length-replicate, List, number_bytes}
+use proofs.Words.{number_limit, refl, replicate, subst, sym, Tag, tag_byte, true, ℕ, [], ◌*◌, ◌++◌}
+use proofs.Words.{◌+◌, ◌<◌, ◌∙◌, ◌∷◌, ◌≡◌}
+use proofs.FormLemmas.{behind_count, behind_first, behind_named, tag_same}
+use proofs.CutLemmas.{has_limit, least_counted, Stands}
 use Rattle.external_terms.specs.declared.form.Width.TheVariants as widths
-use Rattle.external_terms.proofs.CutLemmas.{Stands}
-use Rattle.external_terms.proofs.CutLemmas.{has_limit, least_counted}
 
 -- ---- the parts of a head
 

@@ -1,16 +1,15 @@
 -- Terms one behind the other: what a head leaves to come, and that bytes begin with so many terms
 -- in one way.
-use Rattle.external_terms.proofs.Words.{◌≡◌, ◌↔◌, ℕ, zero, suc, ◌+◌, ◌<◌, List, [], ◌∷◌, ◌++◌}
-use Rattle.external_terms.proofs.Words.{length, refl, sym, ap, subst, ◌∙◌, arith, append_assoc}
-use Rattle.external_terms.proofs.Words.{append-nil, length-append}
-use Rattle.external_terms.proofs.Words.{IsHead, Terms, none, next, count_of, bytes_of, AreTerms}
-use Rattle.external_terms.proofs.Words.{SpellsTerms}
-use Rattle.external_terms.proofs.Words.{IsTermFault, IsSomeHead, ◌-◌, ◌*◌, ◌^◌, ◌≤◌, take, drop}
-use Rattle.external_terms.proofs.Words.{take_at, drop_at}
-use Rattle.external_terms.proofs.FormLemmas.{head_same}
-use Rattle.external_terms.specs.declared.fault.TermFault.{TermFault}
-use Rattle.external_terms.specs.declared.fault.TermFault.TheVariants as faults
-use Rattle.external_terms.specs.declared.tag.Tag.TheVariants as tags
+use Rattle.external_terms.proofs
+use Rattle.external_terms.specs
+use proofs.Words.{ap, append-nil, append_assoc, AreTerms, arith, bytes_of, count_of, drop, drop_at}
+use proofs.Words.{IsHead, IsSomeHead, IsTermFault, length, length-append, List, next, none, refl}
+use proofs.Words.{SpellsTerms, subst, suc, sym, take, take_at, Terms, zero, ℕ, [], ◌*◌, ◌++◌, ◌+◌}
+use proofs.Words.{◌-◌, ◌<◌, ◌^◌, ◌↔◌, ◌∙◌, ◌∷◌, ◌≡◌, ◌≤◌}
+use proofs.FormLemmas.{head_same}
+use specs.declared.fault.TermFault.{TermFault}
+use specs.declared.fault.TermFault.TheVariants as faults
+use specs.declared.tag.Tag.TheVariants as tags
 
 -- ---- terms behind terms
 

@@ -1,15 +1,14 @@
 -- The parts of values, one behind the other, and that values are terms.
-use Rattle.external_terms.proofs.Words.{◌≡◌, ℕ, ◌+◌, ◌<◌, ◌^◌, List, [], ◌∷◌, ◌++◌, length, refl}
-use Rattle.external_terms.proofs.Words.{sym, ap, subst, ◌∙◌, arith, append_assoc, append-nil, w16}
-use Rattle.external_terms.proofs.Words.{w32, to_be_bytes}
-use Rattle.external_terms.proofs.Words.{IsAtom, IsHead, none, next, bytes_of, SpellsTerms}
-use Rattle.external_terms.proofs.Words.{SpellsTerm}
-use Rattle.external_terms.specs.Values.{small_integer_bytes, atom_bytes, Process, ProcessFits}
-use Rattle.external_terms.specs.Values.{process_bytes, Reference, ReferenceFits, reference_bytes}
-use Rattle.external_terms.specs.Values.{tuple_head, list_head, nil_bytes, numbers_bytes}
-use Rattle.external_terms.specs.Values.{binary_bytes}
-use Rattle.external_terms.specs.declared.tag.Tag.TheVariants as tags
-use Rattle.external_terms.specs.declared.form.Width.TheVariants as widths
+use Rattle.external_terms.proofs
+use Rattle.external_terms.specs
+use proofs.Words.{ap, append-nil, append_assoc, arith, bytes_of, IsAtom, IsHead, length, List, next}
+use proofs.Words.{none, refl, SpellsTerm, SpellsTerms, subst, sym, to_be_bytes, w16, w32, ℕ, []}
+use proofs.Words.{◌++◌, ◌+◌, ◌<◌, ◌^◌, ◌∙◌, ◌∷◌, ◌≡◌}
+use specs.Values.{atom_bytes, binary_bytes, list_head, nil_bytes, numbers_bytes, Process}
+use specs.Values.{process_bytes, ProcessFits, Reference, reference_bytes, ReferenceFits}
+use specs.Values.{small_integer_bytes, tuple_head}
+use specs.declared.tag.Tag.TheVariants as tags
+use specs.declared.form.Width.TheVariants as widths
 
 -- what stands behind the node of a process, behind its id, and behind its serial
 abbrev pub after_serial : Process → List ℕ → List ℕ

@@ -1,24 +1,22 @@
 -- Where a peer is heard, its scope runs, its link is up and visible; and what it may say is
 -- accepted.
 use Rattle.frame_laws.proofs
-use proofs.Words.{fresh, judged, judgement, None, opened, verdict, always, frame_taken, Message2}
-use proofs.Words.{Begun, begun, kept_peers, list_all-append}
-use proofs.Words.{PartKind, peer_limit, rows_before, rows_kept, so_far, AreFrom}
-use proofs.Words.{said_at, scope_in, option_map_or}
-use proofs.Words.{Accepted, accepted, agrees, and_parts, ap, AreStated, arith}
-use proofs.Words.{awaits, Bool, but, cond, Entry, eqb-true, Event, events, false, fewer_length}
-use proofs.Words.{filter, filter-append, first_broken, flat_map, frame_checks, group_named, groups}
-use proofs.Words.{groups_are, groups_named, has_sync, HasRoom, heard, heard_runs, heard_whole}
-use proofs.Words.{History, how_many_append, is_accepted, is_from, is_full, is_local, is_open}
-use proofs.Words.{is_peer, is_running, is_up, is_visible, is_whole, IsPlayed, IsPlayedIn, IsListing}
-use proofs.Words.{IsRowListing, le-leb, length, length-append, lie, List, list_all, listed}
-use proofs.Words.{listed_named, map, MaySay, members, members_are, message_checks}
-use proofs.Words.{nat_le, None, occurrences, open_first, opened, Opening, Option}
-use proofs.Words.{past, peer_foreign, peer_of, peer_rows, Pid, pid_named, pids_named, present_link}
-use proofs.Words.{refl, Refused, Reply, Row, row, rows_are, rows_of, Rule, same, same_decides}
-use proofs.Words.{same_pid, same_row, same_row_decides, Some, stands_in, stated, subst}
-use proofs.Words.{sym, taken, talk, talk_of, true, Verdict, verdict, whole_awaits, ℕ, []}
-use proofs.Words.{◌&&◌, ◌++◌, ◌+◌, ◌<◌, ◌==◌, ◌∙◌, ◌∷◌, ◌≡◌, ◌≤◌}
+use proofs.Words.{Accepted, accepted, agrees, always, and_parts, ap, AreFrom, AreStated, arith}
+use proofs.Words.{awaits, Begun, begun, Bool, but, cond, Entry, eqb-true, Event, events, false}
+use proofs.Words.{fewer_length, filter, filter-append, first_broken, flat_map, frame_checks}
+use proofs.Words.{frame_taken, fresh, group_named, groups, groups_are, groups_named, has_sync}
+use proofs.Words.{HasRoom, heard, heard_runs, heard_whole, History, how_many_append, is_accepted}
+use proofs.Words.{is_from, is_full, is_local, is_open, is_peer, is_running, is_up, is_visible}
+use proofs.Words.{is_whole, IsListing, IsPlayed, IsPlayedIn, IsRowListing, judged, judgement}
+use proofs.Words.{kept_peers, le-leb, length, length-append, lie, List, list_all, list_all-append}
+use proofs.Words.{listed, listed_named, map, MaySay, members, members_are, Message2, message_checks}
+use proofs.Words.{nat_le, None, occurrences, open_first, opened, Opening, Option, option_map_or}
+use proofs.Words.{PartKind, past, peer_foreign, peer_limit, peer_of, peer_rows, Pid, pid_named}
+use proofs.Words.{pids_named, present_link, refl, Refused, Reply, Row, row, rows_are, rows_before}
+use proofs.Words.{rows_kept, rows_of, Rule, said_at, same, same_decides, same_pid, same_row}
+use proofs.Words.{same_row_decides, scope_in, so_far, Some, stands_in, stated, subst, sym, taken}
+use proofs.Words.{talk, talk_of, true, Verdict, verdict, whole_awaits, ℕ, [], ◌&&◌, ◌++◌, ◌+◌, ◌<◌}
+use proofs.Words.{◌==◌, ◌∙◌, ◌∷◌, ◌≡◌, ◌≤◌}
 
 -- ---- a peer that is heard is visible
 

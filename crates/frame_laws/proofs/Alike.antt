@@ -1,18 +1,14 @@
 -- What an accepted message makes of what is kept, and of what all that came makes.
 use Rattle.frame_laws.proofs
-use proofs.Words.{Accepted, accepted, all_hold, always, and_parts, ap, arith, Begun}
-use proofs.Words.{begun, begun_of, Bool, but, completed}
-use proofs.Words.{cond, delivered, Entry, eqb-true, Event, false}
-use proofs.Words.{first_broken, follows, frame_checks, frame_taken, heard}
-use proofs.Words.{History, is_next, is_open, is_up}
-use proofs.Words.{is_whole, IsPlayedIn, IsStep, judgement, kept_after}
-use proofs.Words.{lie, link_version, List, Message, message_checks, message_of}
-use proofs.Words.{message_taken, Message2, none_begun, None, open_first, Opening, Option}
-use proofs.Words.{option_and_then, option_map_or, option_to_list, PartKind, past, Pid, refl}
-use proofs.Words.{Reply, Row, rows_before, Rule, same, same_decides, seen_by}
-use proofs.Words.{Some, subst, sym}
-use proofs.Words.{true, unbroken, ℕ, []}
-use proofs.Words.{awaits, ◌&&◌, ◌++◌, ◌==◌, ◌||◌, ◌∙◌, ◌≡◌}
+use proofs.Words.{Accepted, accepted, all_hold, always, and_parts, ap, arith, awaits, Begun, begun}
+use proofs.Words.{begun_of, Bool, but, completed, cond, delivered, Entry, eqb-true, Event, false}
+use proofs.Words.{first_broken, follows, frame_checks, frame_taken, heard, History, is_next}
+use proofs.Words.{is_open, is_up, is_whole, IsPlayedIn, IsStep, judgement, kept_after, lie}
+use proofs.Words.{link_version, List, Message, Message2, message_checks, message_of, message_taken}
+use proofs.Words.{None, none_begun, open_first, Opening, Option, option_and_then, option_map_or}
+use proofs.Words.{option_to_list, PartKind, past, Pid, refl, Reply, Row, rows_before, Rule, same}
+use proofs.Words.{same_decides, seen_by, Some, subst, sym, true, unbroken, ℕ, [], ◌&&◌, ◌++◌, ◌==◌}
+use proofs.Words.{◌||◌, ◌∙◌, ◌≡◌}
 use proofs.KeptStands.{rules_met}
 use proofs.NotRefused.{kept_of}
 

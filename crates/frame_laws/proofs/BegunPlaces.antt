@@ -1,18 +1,15 @@
 -- What is begun at a place in what a node owed is the first parts of one message.
 use Rattle.frame_laws.proofs
-use proofs.Words.{ap, arith, before_last, Begun, begun_after, begun_by, begun_of}
-use proofs.Words.{bodies_of, Bool, cond, drop, drop-append-add, drop-append-le, Entry, false}
-use proofs.Words.{frames_said, History, is_some, IsBegun, IsNode, leb-false, leb-true, length}
-use proofs.Words.{length-append, length-drop, length-map, lie, List, map, map-append, Message}
-use proofs.Words.{message_taken, Message2, narrow, nat_le, None, Opening, option_to_list}
-use proofs.Words.{out_in, OutFrame, owed, owes, PartKind, parts, parts_from, past, refl, Row}
-use proofs.Words.{said_frames}
-use proofs.Words.{take-map}
-use proofs.Words.{Some, Speaks, subst, suc, sym, take, take_past, take-append-add, take-append-le}
-use proofs.Words.{true, whole, zero, ℕ, [], ◌++◌, ◌+◌, ◌-◌, ◌<◌, ◌==◌, ◌∙◌, ◌∷◌, ◌≡◌, ◌≤◌}
+use proofs.Words.{ap, arith, before_last, Begun, begun_after, begun_by, begun_of, bodies_of, Bool}
+use proofs.Words.{cond, drop, drop-append-add, drop-append-le, Entry, false, frames_said, History}
+use proofs.Words.{is_some, IsBegun, IsNode, leb-false, leb-true, length, length-append, length-drop}
+use proofs.Words.{length-map, lie, List, map, map-append, Message, Message2, message_taken, narrow}
+use proofs.Words.{nat_le, None, Opening, option_to_list, out_in, OutFrame, owed, owes, PartKind}
+use proofs.Words.{parts, parts_from, past, refl, Row, said_frames, Some, Speaks, subst, suc, sym}
+use proofs.Words.{take, take-append-add, take-append-le, take-map, take_past, true, whole, zero, ℕ}
+use proofs.Words.{[], ◌++◌, ◌+◌, ◌-◌, ◌<◌, ◌==◌, ◌∙◌, ◌∷◌, ◌≡◌, ◌≤◌}
 use proofs.Calm.{message_ends, said_apart}
-use proofs.Handshakes.{begins_message}
-use proofs.Handshakes.{first_byte, IsClosed, no_message, of_hellos}
+use proofs.Handshakes.{begins_message, first_byte, IsClosed, no_message, of_hellos}
 use proofs.OneView.{element}
 use proofs.Orderly.{bodies_apart, bodies_owing}
 use proofs.Pieces.{begun_apart, IsPiece, last_ends, piece_at, pieces, value_of}

@@ -1,16 +1,14 @@
 -- What bodies make of a view, one after the other.
 use Rattle.frame_laws.proofs
-use proofs.Words.{Opening}
-use proofs.Words.{ap, append-nil, arith, Entry, false, heard, is_about_rows, IsHonest, known}
-use proofs.Words.{AreInOrder, begins_in_order, begun_by, begun_by_more, begun_of, completed}
-use proofs.Words.{completed_by}
-use proofs.Words.{completed_by_more, ends_rows, frames_said, IsFew, AreThere, kept_after}
-use proofs.Words.{Begun, message_taken, Message2, option_and_then, PartKind, so_far_behind}
-use proofs.Words.{subst, length, List, Message, messages_said, None, Option, option_map_or}
-use proofs.Words.{option_to_list, Pid, refl, says_rows, seen_by, slice_get, slice_get_within, Some}
-use proofs.Words.{stated, suc, sym, take, take-append-add, take-append-le, true, view_of, zero, ℕ}
-use proofs.Words.{[], ◌++◌, ◌+◌, ◌∙◌, ◌∷◌, ◌≡◌}
-use proofs.Calm.{seen_apart, said_apart}
+use proofs.Words.{ap, append-nil, AreInOrder, AreThere, arith, begins_in_order, Begun, begun_by}
+use proofs.Words.{begun_by_more, begun_of, completed, completed_by, completed_by_more, ends_rows}
+use proofs.Words.{Entry, false, frames_said, heard, is_about_rows, IsFew, IsHonest, kept_after}
+use proofs.Words.{known, length, List, Message, Message2, message_taken, messages_said, None}
+use proofs.Words.{Opening, Option, option_and_then, option_map_or, option_to_list, PartKind, Pid}
+use proofs.Words.{refl, says_rows, seen_by, slice_get, slice_get_within, so_far_behind, Some}
+use proofs.Words.{stated, subst, suc, sym, take, take-append-add, take-append-le, true, view_of}
+use proofs.Words.{zero, ℕ, [], ◌++◌, ◌+◌, ◌∙◌, ◌∷◌, ◌≡◌}
+use proofs.Calm.{said_apart, seen_apart}
 
 -- ---- lists
 

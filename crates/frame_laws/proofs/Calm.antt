@@ -1,14 +1,12 @@
 -- What frames make of a view, and which leave it.
 use Rattle.frame_laws.proofs
-use proofs.Words.{AllByRecursion, ap, arith, before_last, begun_by, Bool, completed_by}
-use proofs.Words.{cond, false, flat_map-append, frames_said, has_rows, is_about_rows, IsText}
-use proofs.Words.{List, map, map-append, Message, Message2, message_taken, narrow, None, Option}
-use proofs.Words.{option_to_list, OutFrame, PartKind, parts, parts_from, Pid, refl, Row}
-use proofs.Words.{said_frames}
-use proofs.Words.{all_append, drop, max_rows, same, seen, seen_by, slice_get, Some, subst, suc}
-use proofs.Words.{true, whole, wide, zero, ℕ, [], ◌++◌, ◌==◌, ◌∙◌, ◌∷◌, ◌≡◌}
-use proofs.Handshakes.{begins_message, first_byte}
-use proofs.Handshakes.{IsClosed, no_message}
+use proofs.Words.{all_append, AllByRecursion, ap, arith, before_last, begun_by, Bool, completed_by}
+use proofs.Words.{cond, drop, false, flat_map-append, frames_said, has_rows, is_about_rows, IsText}
+use proofs.Words.{List, map, map-append, max_rows, Message, Message2, message_taken, narrow, None}
+use proofs.Words.{Option, option_to_list, OutFrame, PartKind, parts, parts_from, Pid, refl, Row}
+use proofs.Words.{said_frames, same, seen, seen_by, slice_get, Some, subst, suc, true, whole, wide}
+use proofs.Words.{zero, ℕ, [], ◌++◌, ◌==◌, ◌∙◌, ◌∷◌, ◌≡◌}
+use proofs.Handshakes.{begins_message, first_byte, IsClosed, no_message}
 use proofs.Pieces.{begun_apart, completed_apart, pieces, pieces_complete, pieces_end}
 use proofs.Sayable.{asks_alike, asks_sayable, downs_alike, downs_sayable, IsSayable, reads}
 use proofs.Sayable.{reads_hold, said, said_all}

@@ -1,16 +1,14 @@
 -- The rows of each message are of the node's own name, and of its creation at the opening of the
 -- link.
 use Rattle.frame_laws.proofs
-use proofs.Words.{entered}
-use proofs.Words.{Accepted, ap, arith, Bool, but, cond, creation, Entry, Event, false, is_of}
-use proofs.Words.{is_open, is_opened_by, is_some, IsNode, leb-false, leb-true, lie, List}
-use proofs.Words.{message_taken, Message2, moment, nat_le, Speaks, None, Opening, out_in, OutFrame}
-use proofs.Words.{owed}
-use proofs.Words.{owes, Owing, own_name_frame, past, refl, Refused, slice_get, Some, subst, suc}
-use proofs.Words.{sym, true, unowed, Verdict, zero, ℕ, [], ◌∙◌, ◌∷◌, ◌≡◌, ◌≤◌}
+use proofs.Words.{Accepted, ap, arith, Bool, but, cond, creation, entered, Entry, Event, false}
+use proofs.Words.{is_of, is_open, is_opened_by, is_some, IsNode, leb-false, leb-true, lie, List}
+use proofs.Words.{Message2, message_taken, moment, nat_le, None, Opening, out_in, OutFrame, owed}
+use proofs.Words.{owes, Owing, own_name_frame, past, refl, Refused, slice_get, Some, Speaks, subst}
+use proofs.Words.{suc, sym, true, unowed, Verdict, zero, ℕ, [], ◌∙◌, ◌∷◌, ◌≡◌, ◌≤◌}
 use proofs.Handshakes.{no_message}
 use proofs.Openings.{open_low, same_creation, unborn_out}
-use proofs.Places.{Parted, InFirst, InSecond, part, all_at, owed_here, earlier_moment}
+use proofs.Places.{all_at, earlier_moment, InFirst, InSecond, owed_here, part, Parted}
 use proofs.Spoken.{IsSpoken, node_before, owed_say, speaks_now}
 
 module _ (o : Opening) (es : List Entry) (e : Entry) (l v : ℕ) where

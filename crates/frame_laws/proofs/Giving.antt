@@ -1,14 +1,13 @@
 -- What a peer has given came on the link: its Name first, or its Challenge.
 use Rattle.frame_laws.proofs
-use proofs.Words.{fresh, judgement}
 use proofs.Words.{Accepted, accepted, all_append, AllByRecursion, and_frame, and_parts, ap, arith}
 use proofs.Words.{Bool, but, ByDial, ByPeer, came, Challenge, cond, delivered, ends, Entry}
-use proofs.Words.{eqb-true, Event, false, Far, far, frame_fits, given_in, hello_in, is_open}
-use proofs.Words.{is_some, is_whole, IsAskedOnce, IsPlayedIn, IsNamedFirst, length, lie, List, Name}
-use proofs.Words.{nat_le, None, none_taken, not, Opened, opened, Opening, Option, option_and_then}
-use proofs.Words.{past, peer_in, refl, Refused, Reply, Rule, slice_get, Some, Start, subst, sym}
-use proofs.Words.{Taken, taken, true, Verdict, ℕ, [], ◌&&◌, ◌++◌, ◌==◌, ◌||◌, ◌∙◌}
-use proofs.Words.{◌∷◌, ◌≡◌}
+use proofs.Words.{eqb-true, Event, false, Far, far, frame_fits, fresh, given_in, hello_in, is_open}
+use proofs.Words.{is_some, is_whole, IsAskedOnce, IsNamedFirst, IsPlayedIn, judgement, length, lie}
+use proofs.Words.{List, Name, nat_le, None, none_taken, not, Opened, opened, Opening, Option}
+use proofs.Words.{option_and_then, past, peer_in, refl, Refused, Reply, Rule, slice_get, Some}
+use proofs.Words.{Start, subst, sym, Taken, taken, true, Verdict, ℕ, [], ◌&&◌, ◌++◌, ◌==◌, ◌||◌}
+use proofs.Words.{◌∙◌, ◌∷◌, ◌≡◌}
 use proofs.Bodies.{stands_first, stands_last}
 
 -- ---- the first frame on a link that its peer opened

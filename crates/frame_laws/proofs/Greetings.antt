@@ -2,26 +2,23 @@
 -- that it accepted.
 use Rattle.frame_laws.proofs
 use proofs.Numbers.{opens_next, owed_number}
-use proofs.Words.{IsVersion, link_version, Message2, message_taken, said_frames}
-use proofs.Words.{entered, judgement}
-use proofs.Words.{Accepted, AllByRecursion, ap, arith, Bool, but, ByDial, ByPeer}
-use proofs.Words.{Challenge, challenge_bytes, challenge_frame, challenge_frame-spelled}
-use proofs.Words.{challenge_in, cond, creation, Entry, eqb-false, eqb-true, Event, false, hello_in}
-use proofs.Words.{History, is_open, is_opened_by, is_some, IsPlayedIn, IsNode, IsWritten, length}
-use proofs.Words.{lie, List, map, Message, moment, name_bytes, name_frame}
-use proofs.Words.{name_frame-spelled, narrow, None, Opened, opened, Opening, opening_of, Option}
-use proofs.Words.{option_map_or, out_in, OutFrame, owed, owes, Owing, owing, own_challenge}
-use proofs.Words.{own_flags, own_hello, own_name_frame, past, refl, Refused, slice_get, Some}
-use proofs.Words.{SpellsChallenge-read, Start, start_of, status_frame, StatusWord, sym, true}
-use proofs.Words.{unowed, Verdict, version_bytes, version_read, wide, ℕ, [], ◌++◌, ◌+◌, ◌<◌, ◌==◌}
-use proofs.Words.{◌^◌, ◌∙◌, ◌∷◌, ◌≡◌}
-use proofs.Words.{◌≤◌}
+use proofs.Words.{Accepted, AllByRecursion, ap, arith, Bool, but, ByDial, ByPeer, Challenge}
+use proofs.Words.{challenge_bytes, challenge_frame, challenge_frame-spelled, challenge_in, cond}
+use proofs.Words.{creation, entered, Entry, eqb-false, eqb-true, Event, false, hello_in, History}
+use proofs.Words.{is_open, is_opened_by, is_some, IsNode, IsPlayedIn, IsVersion, IsWritten}
+use proofs.Words.{judgement, length, lie, link_version, List, map, Message, Message2, message_taken}
+use proofs.Words.{moment, name_bytes, name_frame, name_frame-spelled, narrow, None, Opened, opened}
+use proofs.Words.{Opening, opening_of, Option, option_map_or, out_in, OutFrame, owed, owes, Owing}
+use proofs.Words.{owing, own_challenge, own_flags, own_hello, own_name_frame, past, refl, Refused}
+use proofs.Words.{said_frames, slice_get, Some, SpellsChallenge-read, Start, start_of, status_frame}
+use proofs.Words.{StatusWord, sym, true, unowed, Verdict, version_bytes, version_read, wide, ℕ, []}
+use proofs.Words.{◌++◌, ◌+◌, ◌<◌, ◌==◌, ◌^◌, ◌∙◌, ◌∷◌, ◌≡◌, ◌≤◌}
 use proofs.Handshakes.{all_closed, begins_it, begins_message, first_byte, HoldsOfHellos}
 use proofs.Pieces.{pieces}
 use proofs.Openings.{opening_low, same_creation, unborn_out}
 use proofs.OwnLimits.{own_creation_fits}
-use proofs.Places.{all_at, first_of_both, Parted, InFirst, InSecond, part, owed_here}
-use proofs.Places.{earlier_moment, this_moment}
+use proofs.Places.{all_at, earlier_moment, first_of_both, InFirst, InSecond, owed_here, part}
+use proofs.Places.{Parted, this_moment}
 use proofs.Spoken.{Holds, node_before, owed_hold}
 use proofs.Sayable.{IsSayable, reads, reads_hold}
 

@@ -1,13 +1,13 @@
 -- What was handed out of a link, and what waits for it, is what was owed to it, in order.
 use Rattle.frame_laws.proofs
 use proofs.Numbers.{entered_more, unopened}
-use proofs.Words.{Accepted, accepted, entered, IsStep, Rule, and_parts, ap, append-nil}
-use proofs.Words.{append_assoc, arith, Bool, but, drops, ends}
-use proofs.Words.{Entry, eq-eqb, eqb-true, Event, false, frames_of, handed, is_open, is_opened_by}
-use proofs.Words.{IsPlayedIn, leb-false, leb-true, List, map, map-append, nat_le}
-use proofs.Words.{open_opened, Opening, out_in, OutFrame, owed, owing, past, refl, Refused, Reply}
-use proofs.Words.{sent, subst, sym, true, unborn, unborn_waiting, unowed, Verdict, waiting}
-use proofs.Words.{waiting_in, ℕ, [], ◌&&◌, ◌++◌, ◌+◌, ◌<◌, ◌==◌, ◌∙◌, ◌∷◌, ◌≡◌, ◌≤◌}
+use proofs.Words.{Accepted, accepted, and_parts, ap, append-nil, append_assoc, arith, Bool, but}
+use proofs.Words.{drops, ends, entered, Entry, eq-eqb, eqb-true, Event, false, frames_of, handed}
+use proofs.Words.{is_open, is_opened_by, IsPlayedIn, IsStep, leb-false, leb-true, List, map}
+use proofs.Words.{map-append, nat_le, open_opened, Opening, out_in, OutFrame, owed, owing, past}
+use proofs.Words.{refl, Refused, Reply, Rule, sent, subst, sym, true, unborn, unborn_waiting}
+use proofs.Words.{unowed, Verdict, waiting, waiting_in, ℕ, [], ◌&&◌, ◌++◌, ◌+◌, ◌<◌, ◌==◌, ◌∙◌, ◌∷◌}
+use proofs.Words.{◌≡◌, ◌≤◌}
 use proofs.Places.{frames_owing}
 
 -- what was owed and not handed out: it waits, or it was dropped with the link

@@ -1,21 +1,17 @@
 -- The frames of the handshake, whose bodies spell no message.
 use Rattle.frame_laws.proofs
-use proofs.Words.{all_append, ack_bytes, AckFrame, AllByRecursion, ap}
-use proofs.Words.{AwaitAck, AwaitAnswer, AwaitChallenge, Awaited, AwaitMessage, AwaitName}
-use proofs.Words.{AwaitReply, AwaitStatus, Bool, Challenge, challenge_frame, cond, digest_for}
-use proofs.Words.{discovers, false, frame_owes, frame_taken, get_or, History}
-use proofs.Words.{is_dialling, is_name_up, is_some, is_visible, IsNode}
-use proofs.Words.{IsText, lie, List, map}
-use proofs.Words.{Message, Message2, message2_bytes}
-use proofs.Words.{message_bytes, message_owes, message_taken, Name, name_frame, narrow}
-use proofs.Words.{None, Option, option_map, option_map_or, OutFrame}
-use proofs.Words.{own_challenge, own_challenge_frame, own_name_frame, PartKind}
-use proofs.Words.{read_message, read_message2, refl, refusal_owes}
-use proofs.Words.{reply_bytes, reply_frame, ReplyFrame, Rule, running_scopes}
-use proofs.Words.{Some, SpellsMessage, SpellsMessage-read, SpellsMessage2}
-use proofs.Words.{SpellsMessage2-read, status_frame, status_of, StatusWord, sym}
-use proofs.Words.{true, true_to, welcome, whole, wide, ℕ, [], ◌++◌}
-use proofs.Words.{◌==◌, ◌||◌, ◌∙◌, ◌∷◌, ◌≡◌}
+use proofs.Words.{ack_bytes, AckFrame, all_append, AllByRecursion, ap, AwaitAck, AwaitAnswer}
+use proofs.Words.{AwaitChallenge, Awaited, AwaitMessage, AwaitName, AwaitReply, AwaitStatus, Bool}
+use proofs.Words.{Challenge, challenge_frame, cond, digest_for, discovers, false, frame_owes}
+use proofs.Words.{frame_taken, get_or, History, is_dialling, is_name_up, is_some, is_visible}
+use proofs.Words.{IsNode, IsText, lie, List, map, Message, Message2, message2_bytes, message_bytes}
+use proofs.Words.{message_owes, message_taken, Name, name_frame, narrow, None, Option, option_map}
+use proofs.Words.{option_map_or, OutFrame, own_challenge, own_challenge_frame, own_name_frame}
+use proofs.Words.{PartKind, read_message, read_message2, refl, refusal_owes, reply_bytes}
+use proofs.Words.{reply_frame, ReplyFrame, Rule, running_scopes, Some, SpellsMessage}
+use proofs.Words.{SpellsMessage-read, SpellsMessage2, SpellsMessage2-read, status_frame, status_of}
+use proofs.Words.{StatusWord, sym, true, true_to, welcome, whole, wide, ℕ, [], ◌++◌, ◌==◌, ◌||◌}
+use proofs.Words.{◌∙◌, ◌∷◌, ◌≡◌}
 use proofs.OwnLimits.{scopes_text}
 
 -- ---- bodies

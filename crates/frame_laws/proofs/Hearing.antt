@@ -1,27 +1,22 @@
 -- What is heard of a node is what it said.
 use Rattle.frame_laws.proofs
-use proofs.Words.{Accepted, and_parts, ap, append-nil, arith, Begun}
-use proofs.Words.{begun, begun_of, Bool, but, came}
-use proofs.Words.{cond, delivered, ends_rows, Entry, eqb-true, Event, false}
-use proofs.Words.{fresh, frame_taken, has_rows, HasGiven, heard}
-use proofs.Words.{HeardIsSaid, History, is_open, is_up}
-use proofs.Words.{is_whole, IsGiven, IsHonest, IsPlayedIn, IsStep, kept_after, known}
-use proofs.Words.{length, lie, link_version, List, Message}
-use proofs.Words.{message_taken, none_begun, None, Opening, Option}
-use proofs.Words.{option_map_or, option_to_list, past, Pid, refl, Refused}
-use proofs.Words.{Reply, Rule, said_at, same_decides, says_rows, seen_by}
-use proofs.Words.{slice_get, slice_get_within, Some, Speaks, stated, subst, sym, take}
-use proofs.Words.{take-append-le, tells_rows, told_rows, true, Verdict, view_of, ℕ, []}
-use proofs.Words.{inl, inr, KeepsOrNot}
-use proofs.Words.{◌&&◌, ◌++◌, ◌+◌, ◌==◌, ◌||◌, ◌∙◌, ◌∷◌, ◌≡◌}
+use proofs.Words.{Accepted, and_parts, ap, append-nil, arith, Begun, begun, begun_of, Bool, but}
+use proofs.Words.{came, cond, delivered, ends_rows, Entry, eqb-true, Event, false, frame_taken}
+use proofs.Words.{fresh, has_rows, HasGiven, heard, HeardIsSaid, History, inl, inr, is_open, is_up}
+use proofs.Words.{is_whole, IsGiven, IsHonest, IsPlayedIn, IsStep, KeepsOrNot, kept_after, known}
+use proofs.Words.{length, lie, link_version, List, Message, message_taken, None, none_begun}
+use proofs.Words.{Opening, Option, option_map_or, option_to_list, past, Pid, refl, Refused, Reply}
+use proofs.Words.{Rule, said_at, same_decides, says_rows, seen_by, slice_get, slice_get_within}
+use proofs.Words.{Some, Speaks, stated, subst, sym, take, take-append-le, tells_rows, told_rows}
+use proofs.Words.{true, Verdict, view_of, ℕ, [], ◌&&◌, ◌++◌, ◌+◌, ◌==◌, ◌||◌, ◌∙◌, ◌∷◌, ◌≡◌}
 use proofs.Accepting.{is_up_there}
-use proofs.Bodies.{anew, apart_so, begun_more, completes_there, honest_first, is_known}
-use proofs.Bodies.{left_so, says_ends, stands_first, stands_last, take_last, view_more}
+use proofs.Bodies.{anew, apart_so, begun_more, completes_there, honest_first, is_known, left_so}
+use proofs.Bodies.{says_ends, stands_first, stands_last, take_last, view_more}
 use proofs.KeptStands.{up_back}
 use proofs.KnownAfter.{known_after}
 use proofs.NotRefused.{kept_of}
 use proofs.Spoken.{speaks_now}
-use proofs.Alike.{AcceptsAlike, accepts_alike, Alike, NeedsAlike, some_whole, taken_same}
+use proofs.Alike.{accepts_alike, AcceptsAlike, Alike, NeedsAlike, some_whole, taken_same}
 use proofs.RefusedParts.{Before, from_or, heard_before, or_true, quiet_heard, refused_alike}
 use proofs.RefusedParts.{refused_apart, stated_before, stopped_alike}
 

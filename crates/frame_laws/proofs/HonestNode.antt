@@ -1,9 +1,9 @@
 -- What a node owes to a link is honest.
 use Rattle.frame_laws.proofs
-use proofs.Words.{AreThere, ap, bodies_of, creation, History, is_some, IsFew, IsHonest, IsNode}
-use proofs.Words.{lie, List, message_taken, moment, out, Owing, PartKind, PassesThrough, refl}
-use proofs.Words.{slice_get, so_far_behind, Some, Speaks, subst, suc, sym, take, view_of, zero, ℕ}
-use proofs.Words.{[], ◌∙◌, ◌∷◌, ◌≡◌}
+use proofs.Words.{ap, AreThere, bodies_of, creation, History, is_some, IsFew, IsHonest, IsNode, lie}
+use proofs.Words.{List, message_taken, moment, out, Owing, PartKind, PassesThrough, refl, slice_get}
+use proofs.Words.{so_far_behind, Some, Speaks, subst, suc, sym, take, view_of, zero, ℕ, [], ◌∙◌}
+use proofs.Words.{◌∷◌, ◌≡◌}
 use proofs.FromHere.{rows_own}
 use proofs.LinksTell.{all_tell}
 use proofs.Orderly.{out_orderly}

@@ -2,15 +2,15 @@
 -- Join and a Leave its peer is heard.
 use Rattle.frame_laws.proofs
 use proofs.Words.{Accepted, accepted, all_hold, always, and_parts, ap, arith, awaits, Begun, begun}
-use proofs.Words.{Bool, but, cond, ends, Entry, entry_link, eqb-true, Event, false}
-use proofs.Words.{first_broken, first_of, frame_checks, frame_taken, fresh, heard, hears}
-use proofs.Words.{is_open, is_opened_by, is_running, is_some, is_up, is_visible, is_whole}
-use proofs.Words.{is_whole_in, IsPlayedIn, IsStep, judgement, kept_after, lie, List, message_checks}
-use proofs.Words.{Message2, none_begun, None, not, open_first, Opened, opened, Opening, Option}
-use proofs.Words.{option_and_then, option_map_or, PartKind, past, refl, Refused, Reply}
-use proofs.Words.{Row, Rule, said_at, same, same_decides, Some, stopped_heard, subst, sym, taken}
-use proofs.Words.{talk, true, unbroken, unwrap_or, Verdict, whole_awaits, completed, eq-eqb}
-use proofs.Words.{given_kept, has_bit, start_of, ℕ, [], ◌&&◌, ◌==◌, ◌||◌, ◌∙◌, ◌∷◌, ◌≡◌}
+use proofs.Words.{Bool, but, completed, cond, ends, Entry, entry_link, eq-eqb, eqb-true, Event}
+use proofs.Words.{false, first_broken, first_of, frame_checks, frame_taken, fresh, given_kept}
+use proofs.Words.{has_bit, heard, hears, is_open, is_opened_by, is_running, is_some, is_up}
+use proofs.Words.{is_visible, is_whole, is_whole_in, IsPlayedIn, IsStep, judgement, kept_after, lie}
+use proofs.Words.{List, Message2, message_checks, None, none_begun, not, open_first, Opened, opened}
+use proofs.Words.{Opening, Option, option_and_then, option_map_or, PartKind, past, refl, Refused}
+use proofs.Words.{Reply, Row, Rule, said_at, same, same_decides, Some, start_of, stopped_heard}
+use proofs.Words.{subst, sym, taken, talk, true, unbroken, unwrap_or, Verdict, whole_awaits, ℕ, []}
+use proofs.Words.{◌&&◌, ◌==◌, ◌||◌, ◌∙◌, ◌∷◌, ◌≡◌}
 use proofs.Pieces.{value_of}
 
 abbrev pub is_sync : PartKind → Bool

@@ -1,17 +1,15 @@
 -- What is known over a link after an entry: what its message makes of what was known before.
 use Rattle.frame_laws.proofs
 use proofs.Refusals.{refused_heard}
-use proofs.Words.{sym, ◌∙◌}
-use proofs.Words.{fresh}
 use proofs.Words.{Accepted, accepted, and_parts, ap, arith, Awaited, AwaitMessage, awaits, Bool}
-use proofs.Words.{but, ByDial, ByPeer, cond, done_now, ends, Entry, entry_link}
-use proofs.Words.{eq-eqb, eqb-true, Event, false, first_broken, first_of, frame_checks}
-use proofs.Words.{framed_heard, heard, hears, History, is_last, is_message, is_open, is_whole}
-use proofs.Words.{IsPlayedIn, IsStep, known, lie, List, Message, message_at}
-use proofs.Words.{message_heard, None, said_at, not, open_first, Opening, opening_heard}
-use proofs.Words.{option_to_list, past, Pid, proved_heard, refl, Refused, Reply, Rule, Said, seen}
-use proofs.Words.{seen_by, Some, stated_in, stopped_heard, subst, sym, Talk, talk, true, unwrap_or}
-use proofs.Words.{Verdict, whole_is_message, ℕ, [], ◌&&◌, ◌==◌, ◌∙◌, ◌∷◌, ◌≡◌}
+use proofs.Words.{but, ByDial, ByPeer, cond, done_now, ends, Entry, entry_link, eq-eqb, eqb-true}
+use proofs.Words.{Event, false, first_broken, first_of, frame_checks, framed_heard, fresh, heard}
+use proofs.Words.{hears, History, is_last, is_message, is_open, is_whole, IsPlayedIn, IsStep, known}
+use proofs.Words.{lie, List, Message, message_at, message_heard, None, not, open_first, Opening}
+use proofs.Words.{opening_heard, option_to_list, past, Pid, proved_heard, refl, Refused, Reply}
+use proofs.Words.{Rule, Said, said_at, seen, seen_by, Some, stated_in, stopped_heard, subst, sym}
+use proofs.Words.{Talk, talk, true, unwrap_or, Verdict, whole_is_message, ℕ, [], ◌&&◌, ◌==◌, ◌∙◌}
+use proofs.Words.{◌∷◌, ◌≡◌}
 
 was_heard : (ended opens whole said : Bool) → (((not ended && opens) && whole) && said) ≡ true
     → ((opens && whole) && said) ≡ true

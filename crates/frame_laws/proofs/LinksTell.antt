@@ -1,30 +1,26 @@
 -- What each other event says of a scope to a link, and so what every entry says.
 use Rattle.frame_laws.proofs
 use proofs.Refusals.{refused_told}
-use proofs.Words.{Accepted, accepted, all_hold, AllByRecursion, always, and_parts, ap}
-use proofs.Words.{arith, Awaited, AwaitMessage, awaits, Begun, begun, Bool, but, ByDial, ByPeer}
-use proofs.Words.{completed, cond, done_now, ends, Entry, entry_link, eq-eqb, eqb-true, Event}
-use proofs.Words.{false}
+use proofs.Words.{Accepted, accepted, all_hold, AllByRecursion, always, and_parts, ap, arith}
+use proofs.Words.{Awaited, AwaitMessage, awaits, Begun, begun, Bool, but, ByDial, ByPeer, completed}
+use proofs.Words.{cond, done_now, ends, Entry, entry_link, eq-eqb, eqb-true, Event, false}
 use proofs.Words.{first_broken, first_of, frame_checks, frame_owes, frame_taken, framed_heard}
-use proofs.Words.{fresh, heard, History, if_visible, is_last, is_message, is_open}
-use proofs.Words.{is_running, is_some, is_up, is_visible, is_whole, IsListing, IsNode, IsStep}
-use proofs.Words.{IsText, IsWritten, length, lie, link_version, List, local_rows}
-use proofs.Words.{local_rows_are, max_rows, Message, message_checks, message_heard}
-use proofs.Words.{message_owes, message_taken, Message2, nat_le, None, not, not-false, open_first}
-use proofs.Words.{Opening, opening_heard, Option, option_and_then, option_map_or, owed, own}
-use proofs.Words.{PartKind, parts, past, Pid, proved_heard, refl, refusal_owes, Refused, Reply, Row}
-use proofs.Words.{row, rows_of, Rule, Said, said_at, said_frames, same, same_decides, Some, Speaks}
-use proofs.Words.{stopped_heard, subst, sym, talk, tells, told, told_runs, true, unbroken}
-use proofs.Words.{unwrap_or}
-use proofs.Words.{Verdict, whole, whole_is_message, wide, ℕ, [], ◌&&◌, ◌++◌, ◌==◌, ◌||◌, ◌∙◌, ◌∷◌}
-use proofs.Words.{◌≡◌}
+use proofs.Words.{fresh, heard, History, if_visible, is_last, is_message, is_open, is_running}
+use proofs.Words.{is_some, is_up, is_visible, is_whole, IsListing, IsNode, IsStep, IsText}
+use proofs.Words.{IsWritten, length, lie, link_version, List, local_rows, local_rows_are, max_rows}
+use proofs.Words.{Message, Message2, message_checks, message_heard, message_owes, message_taken}
+use proofs.Words.{nat_le, None, not, not-false, open_first, Opening, opening_heard, Option}
+use proofs.Words.{option_and_then, option_map_or, owed, own, PartKind, parts, past, Pid}
+use proofs.Words.{proved_heard, refl, refusal_owes, Refused, Reply, Row, row, rows_of, Rule, Said}
+use proofs.Words.{said_at, said_frames, same, same_decides, Some, Speaks, stopped_heard, subst, sym}
+use proofs.Words.{talk, tells, told, told_runs, true, unbroken, unwrap_or, Verdict, whole}
+use proofs.Words.{whole_is_message, wide, ℕ, [], ◌&&◌, ◌++◌, ◌==◌, ◌||◌, ◌∙◌, ◌∷◌, ◌≡◌}
 use proofs.Calm.{AllCalm, calm_asks, calm_closed, calm_down, calm_hello, calm_message, HasNoRows}
 use proofs.Calm.{is_part}
-use proofs.Handshakes.{dial_all, frame_all, HoldsOfHellos}
-use proofs.Handshakes.{of_hellos, refusal_all}
+use proofs.Handshakes.{dial_all, frame_all, HoldsOfHellos, of_hellos, refusal_all}
 use proofs.OwnLimits.{scope_text}
 use proofs.Pieces.{pieces, value_of}
-use proofs.RowsTell.{join_tells, leave_tells, exit_tells}
+use proofs.RowsTell.{exit_tells, join_tells, leave_tells}
 use proofs.Spoken.{node_before, speaks_now}
 use proofs.Telling.{AllTell, Ended, EntryTells, Silent, Spoke, Tells, told_sync}
 use proofs.Sayable.{downs_alike, downs_sayable, IsSayable, reads, reads_hold}

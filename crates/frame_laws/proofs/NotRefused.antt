@@ -1,17 +1,15 @@
 -- What an honest node says on a link, over which it is heard, is not refused.
 use Rattle.frame_laws.proofs
-use proofs.Words.{and_parts, ap, AreFrom, AreInOrder, AreThere, arith, Begun, begun}
-use proofs.Words.{begun_of, Bool, but, comes_next, cond, delivered, Entry, Event, false}
-use proofs.Words.{fewer_length, follows, frame_taken, frames_said, heard, History}
-use proofs.Words.{is_accepted, is_from, is_next, is_running, is_up, is_visible, IsFew}
-use proofs.Words.{IsGiven, IsHonest, IsPlayedIn, IsStep, judgement, last_in_order, length, lie}
-use proofs.Words.{limit, link_version, List, list_all, MaySay, MaySaySoFar, Message}
-use proofs.Words.{message_taken, Message2, None, Opening, Option}
+use proofs.Words.{and_parts, ap, AreFrom, AreInOrder, AreThere, arith, Begun, begun, begun_of, Bool}
+use proofs.Words.{but, comes_next, cond, delivered, Entry, Event, false, fewer_length, follows}
+use proofs.Words.{frame_taken, frames_said, heard, History, is_accepted, is_from, is_next}
+use proofs.Words.{is_running, is_up, is_visible, IsFew, IsGiven, IsHonest, IsPlayedIn, IsStep}
+use proofs.Words.{judgement, last_in_order, length, lie, limit, link_version, List, list_all}
+use proofs.Words.{MaySay, MaySaySoFar, Message, Message2, message_taken, None, Opening, Option}
 use proofs.Words.{option_map_or, option_to_list, PartKind, past, peer_limit, Pid, refl, Refused}
-use proofs.Words.{Row}
-use proofs.Words.{rows_before, rows_of, Rule, same, same_decides, same_row, same_row_decides}
-use proofs.Words.{same_sym, seen, slice_get, so_far, so_far_behind, Some, stated, subst, sym}
-use proofs.Words.{true, view_of, ℕ, [], ◌&&◌, ◌++◌, ◌+◌, ◌==◌, ◌||◌, ◌∙◌, ◌∷◌, ◌≡◌}
+use proofs.Words.{Row, rows_before, rows_of, Rule, same, same_decides, same_row, same_row_decides}
+use proofs.Words.{same_sym, seen, slice_get, so_far, so_far_behind, Some, stated, subst, sym, true}
+use proofs.Words.{view_of, ℕ, [], ◌&&◌, ◌++◌, ◌+◌, ◌==◌, ◌||◌, ◌∙◌, ◌∷◌, ◌≡◌}
 use proofs.Accepting.{admits, heard_met, sync_met}
 use proofs.Bodies.{frames_more, stands_last, take_all}
 

@@ -1,9 +1,9 @@
 -- The numbers of steps: what opens a link or owes a frame is an entry of the audit.
 use Rattle.frame_laws.proofs
-use proofs.Words.{Accepted, arith, Bool, but, Entry, eqb-true, Event, entered, false, is_opened_by}
-use proofs.Words.{ltb-true, moment_in, []}
-use proofs.Words.{IsNumbered, IsStep, lie, List, Opening, OutFrame, owed, past, Refused, refl}
-use proofs.Words.{slice_get, Some, sym, true, Verdict, ℕ, ◌+◌, ◌<◌, ◌∷◌, ◌≡◌, ◌≤◌}
+use proofs.Words.{Accepted, arith, Bool, but, entered, Entry, eqb-true, Event, false, is_opened_by}
+use proofs.Words.{IsNumbered, IsStep, lie, List, ltb-true, moment_in, Opening, OutFrame, owed, past}
+use proofs.Words.{refl, Refused, slice_get, Some, sym, true, Verdict, ℕ, [], ◌+◌, ◌<◌, ◌∷◌, ◌≡◌}
+use proofs.Words.{◌≤◌}
 
 pub entered_more : (e : Entry) (es : List Entry) → entered es ≤ entered (e ∷ es)
 entered_more e es = grind arith

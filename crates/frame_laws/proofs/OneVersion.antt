@@ -1,15 +1,13 @@
 -- A link speaks one version whenever its side is whole.
 use Rattle.frame_laws.proofs
 use proofs.Numbers.{entered_more, opens_next}
-use proofs.Words.{Accepted, and_frame, ap, arith, Bool, but, ByDial, ByPeer, cond, ends, entered}
-use proofs.Words.{Entry, entry_link, eqb-true, Event, false, fresh, given, given_by, given_kept}
-use proofs.Words.{is_open, is_opened_by, is_whole, is_whole_in, IsPlayedIn, IsStep, lie}
-use proofs.Words.{link_version, List, Name, None, not, opened, Opened, opened_apart, Opening}
-use proofs.Words.{Option}
-use proofs.Words.{option_map_or, past, refl, Refused, Some, Speaks, subst, sym}
-use proofs.Words.{accepted, awaits, frame_checks, open_first}
-use proofs.Words.{taken, Taken, true, unborn, Verdict, whole_by, whole_kept, ℕ, [], ◌&&◌, ◌<◌}
-use proofs.Words.{◌==◌, ◌||◌, ◌∙◌, ◌∷◌, ◌≡◌}
+use proofs.Words.{Accepted, accepted, and_frame, ap, arith, awaits, Bool, but, ByDial, ByPeer, cond}
+use proofs.Words.{ends, entered, Entry, entry_link, eqb-true, Event, false, frame_checks, fresh}
+use proofs.Words.{given, given_by, given_kept, is_open, is_opened_by, is_whole, is_whole_in}
+use proofs.Words.{IsPlayedIn, IsStep, lie, link_version, List, Name, None, not, open_first, Opened}
+use proofs.Words.{opened, opened_apart, Opening, Option, option_map_or, past, refl, Refused, Some}
+use proofs.Words.{Speaks, subst, sym, Taken, taken, true, unborn, Verdict, whole_by, whole_kept, ℕ}
+use proofs.Words.{[], ◌&&◌, ◌<◌, ◌==◌, ◌||◌, ◌∙◌, ◌∷◌, ◌≡◌}
 use proofs.Spoken.{speaks_now}
 
 module _ (o : Opening) (l : ℕ) where

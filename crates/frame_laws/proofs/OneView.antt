@@ -1,28 +1,27 @@
 -- What one node hears of another is its own rows at one moment.
 use Rattle.frame_laws.proofs
 use proofs.Numbers.{moment_low}
-use proofs.Words.{ends_rows, entered, Speaks}
 use proofs.Words.{AllByRecursion, and_false, and_parts, ap, arith, bodies_of, Bool, cond, creation}
-use proofs.Words.{delivered, Falls, false, foreign_own, has_rows, HasGiven, heard, HeardIsSaid}
-use proofs.Words.{HearsMoment, Hello, History, is_from, is_local, is_open, is_peer, is_whole}
-use proofs.Words.{is_whole_in, IsGiven, IsHonest, IsPlayed, IsNode, IsProvedLink, length}
-use proofs.Words.{lie, List, listed, Means, moment, None, Opened, opened, Option}
+use proofs.Words.{delivered, ends_rows, entered, Falls, false, foreign_own, has_rows, HasGiven}
+use proofs.Words.{heard, HeardIsSaid, HearsMoment, Hello, History, is_from, is_local, is_open}
+use proofs.Words.{is_peer, is_whole, is_whole_in, IsGiven, IsHonest, IsNode, IsPlayed, IsProvedLink}
+use proofs.Words.{length, lie, List, listed, Means, moment, None, Opened, opened, Option}
 use proofs.Words.{option_map, option_map_or, out, OutFrame, Owing, own, PassesThrough, Pid, refl}
-use proofs.Words.{same, same_sym, SaysOne, slice_get, slice_get_within, Some, source_at, stated}
-use proofs.Words.{subst, suc, sym, take, take-append-le, taken, told, told_rows, true, view_of}
-use proofs.Words.{zero, ℕ, [], ◌&&◌, ◌++◌, ◌+◌, ◌<◌, ◌==◌, ◌∙◌, ◌∷◌, ◌≡◌, ◌≤◌}
+use proofs.Words.{same, same_sym, SaysOne, slice_get, slice_get_within, Some, source_at, Speaks}
+use proofs.Words.{stated, subst, suc, sym, take, take-append-le, taken, told, told_rows, true}
+use proofs.Words.{view_of, zero, ℕ, [], ◌&&◌, ◌++◌, ◌+◌, ◌<◌, ◌==◌, ◌∙◌, ◌∷◌, ◌≡◌, ◌≤◌}
 use proofs.Bodies.{honest_first, stands_first}
 use proofs.Accepting.{is_up_there, listed_is}
 use proofs.Hearing.{given_here, heard_said}
 use proofs.Moments.{legal_then}
 use proofs.Openings.{moment_then, same_creation, since_opening}
 use proofs.NotRefused.{one_from}
-use proofs.HonestNode.{IsBodyOf, frame_of, node_honest, take_bodies}
+use proofs.HonestNode.{frame_of, IsBodyOf, node_honest, take_bodies}
 use proofs.LinksTell.{all_tell}
 use proofs.Places.{holds_then}
-use proofs.SaidUp.{IsSaidUp, all_said_up}
+use proofs.SaidUp.{all_said_up, IsSaidUp}
 use proofs.Sources.{frame_at, is_entry, rises}
-use proofs.Spoken.{IsSaid, all_said}
+use proofs.Spoken.{all_said, IsSaid}
 use proofs.Through.{passes}
 use proofs.ToldPlaces.{told_fall}
 

@@ -2,14 +2,12 @@
 -- it is open the creation stays.
 use Rattle.frame_laws.proofs
 use proofs.Numbers.{entered_more, entered_next, opens_next, unborn_yet}
-use proofs.Words.{entered, IsNumbered, is_some}
-use proofs.Words.{Accepted, ap, arith, Bool, but, ByDial, ByPeer, cond, creation, ends, Entry}
-use proofs.Words.{eqb-true, Event, false, is_accepted, is_open, is_opened_by, is_restart}
-use proofs.Words.{IsPlayedIn}
-use proofs.Words.{leb-false, leb-true, lie, List, map, moment, nat_le, None, not, Opened}
-use proofs.Words.{opened, Opening, opening_of, Option, out_in, owing, past, refl, Refused, Reply}
-use proofs.Words.{Some, Start, start_of, suc, sym, true, unowed, Verdict, zero, ℕ, [], ◌&&◌, ◌++◌}
-use proofs.Words.{◌+◌, ◌<◌, ◌==◌, ◌||◌, ◌∙◌, ◌∷◌, ◌≡◌, ◌≤◌}
+use proofs.Words.{Accepted, ap, arith, Bool, but, ByDial, ByPeer, cond, creation, ends, entered}
+use proofs.Words.{Entry, eqb-true, Event, false, is_accepted, is_open, is_opened_by, is_restart}
+use proofs.Words.{is_some, IsNumbered, IsPlayedIn, leb-false, leb-true, lie, List, map, moment}
+use proofs.Words.{nat_le, None, not, Opened, opened, Opening, opening_of, Option, out_in, owing}
+use proofs.Words.{past, refl, Refused, Reply, Some, Start, start_of, suc, sym, true, unowed}
+use proofs.Words.{Verdict, zero, ℕ, [], ◌&&◌, ◌++◌, ◌+◌, ◌<◌, ◌==◌, ◌||◌, ◌∙◌, ◌∷◌, ◌≡◌, ◌≤◌}
 use proofs.Handing.{unborn_open}
 use proofs.Places.{earlier_moment, this_moment}
 

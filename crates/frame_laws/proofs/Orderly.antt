@@ -1,15 +1,11 @@
 -- What a node owes to a link is whole messages, one behind the other, each in its parts.
 use Rattle.frame_laws.proofs
-use proofs.Words.{AreInOrder, ap, arith, begun_by, bodies_of, Entry, false}
-use proofs.Words.{frames_said, History, IsNode}
-use proofs.Words.{List, map, Message}
-use proofs.Words.{narrow, None, Opening, option_to_list, out_in}
-use proofs.Words.{OutFrame, owed, Owing, owing, past, refl, said_frames}
-use proofs.Words.{Speaks, subst, sym}
-use proofs.Words.{ℕ, [], ◌++◌, ◌∙◌, ◌∷◌, ◌≡◌}
+use proofs.Words.{ap, AreInOrder, arith, begun_by, bodies_of, Entry, false, frames_said, History}
+use proofs.Words.{IsNode, List, map, Message, narrow, None, Opening, option_to_list, out_in}
+use proofs.Words.{OutFrame, owed, Owing, owing, past, refl, said_frames, Speaks, subst, sym, ℕ, []}
+use proofs.Words.{◌++◌, ◌∙◌, ◌∷◌, ◌≡◌}
 use proofs.Calm.{AreWhole, frames_apart, message_ends, message_says, said_apart, whole_both}
-use proofs.Handshakes.{begins_message}
-use proofs.Handshakes.{first_byte, IsClosed, no_message, of_hellos}
+use proofs.Handshakes.{begins_message, first_byte, IsClosed, no_message, of_hellos}
 use proofs.Pieces.{begun_apart, order_apart, pieces_in_order}
 use proofs.Spoken.{Holds, node_before, owed_hold, speaks_now}
 use proofs.Sayable.{asks_alike, asks_sayable, downs_alike, downs_sayable, IsSayable, said}

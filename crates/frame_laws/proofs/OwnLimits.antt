@@ -1,16 +1,15 @@
 -- Own rows and running scopes are within the limits of messages.
 use Rattle.frame_laws.proofs
 use proofs.Numbers.{entered_more, entered_next}
-use proofs.Words.{entered, IsNumbered, judgement}
-use proofs.Words.{Accepted, accepted, all_hold, AllByRecursion}
-use proofs.Words.{and_parts, arith, Bool, but, checks, cond, creation, Entry, eqb-false}
-use proofs.Words.{eqb-true, Event, events, false, foreign_own, History, is_among, is_local}
-use proofs.Words.{is_running, IsPlayedIn, IsListing, IsNode, IsNodeName, IsRow, IsText, IsWritten}
-use proofs.Words.{join_checks, joined, leb-true, lie, List, list_all, lives, local_rows}
-use proofs.Words.{local_rows_are, mentions, occurrences, Opening, own, past, Pid, refl, Refused}
-use proofs.Words.{Reply, Row, row, running_among, running_scopes, same, same_decides, same_pid}
-use proofs.Words.{same_pid_decides, same_row, same_row_decides, spawned, subst, sym, true, unbroken}
-use proofs.Words.{uncounted, Verdict, ℕ, [], ◌&&◌, ◌+◌, ◌<◌, ◌==◌, ◌^◌, ◌∙◌, ◌∷◌, ◌≡◌, ◌≤◌}
+use proofs.Words.{Accepted, accepted, all_hold, AllByRecursion, and_parts, arith, Bool, but, checks}
+use proofs.Words.{cond, creation, entered, Entry, eqb-false, eqb-true, Event, events, false}
+use proofs.Words.{foreign_own, History, is_among, is_local, is_running, IsListing, IsNode}
+use proofs.Words.{IsNodeName, IsNumbered, IsPlayedIn, IsRow, IsText, IsWritten, join_checks, joined}
+use proofs.Words.{judgement, leb-true, lie, List, list_all, lives, local_rows, local_rows_are}
+use proofs.Words.{mentions, occurrences, Opening, own, past, Pid, refl, Refused, Reply, Row, row}
+use proofs.Words.{running_among, running_scopes, same, same_decides, same_pid, same_pid_decides}
+use proofs.Words.{same_row, same_row_decides, spawned, subst, sym, true, unbroken, uncounted}
+use proofs.Words.{Verdict, ℕ, [], ◌&&◌, ◌+◌, ◌<◌, ◌==◌, ◌^◌, ◌∙◌, ◌∷◌, ◌≡◌, ◌≤◌}
 
 -- ---- lists
 

@@ -1,22 +1,15 @@
 -- The messages that a node may say are within the grammar, and their rows are its own.
 use Rattle.frame_laws.proofs
-use proofs.Words.{AllByRecursion, and_parts, ap, arith}
-use proofs.Words.{Bool, cond, count_in_group}
-use proofs.Words.{exact_pids, false, few, few_local, fewer_length, filter}
-use proofs.Words.{filter_all, foreign_own}
-use proofs.Words.{History, is_empty}
-use proofs.Words.{is_local, is_open, is_up, is_whole}
-use proofs.Words.{IsListing, IsNode, IsRow, IsRowListing, IsText}
-use proofs.Words.{leb-true, length, length-map, lie, limit, link_version, List, list_all, listing}
-use proofs.Words.{listing_counts, lives, local_rows, local_rows_are, map, max_rows, mentions}
-use proofs.Words.{Message, min}
-use proofs.Words.{nat_le, not, occurrences, occurs_stands, old_limit}
-use proofs.Words.{own, own_limit, Pid, pid_cmp}
-use proofs.Words.{pids_total, refl, Row, row, rows_in_group}
-use proofs.Words.{same, same_decides, same_pid, same_pid_decides}
-use proofs.Words.{same_row, same_row_decides, same_sym, subst, sym, told}
-use proofs.Words.{true, uncounted, ℕ, [], ◌&&◌, ◌+◌, ◌<◌}
-use proofs.Words.{◌==◌, ◌||◌, ◌∙◌, ◌∷◌, ◌≡◌, ◌≤◌}
+use proofs.Words.{AllByRecursion, and_parts, ap, arith, Bool, cond, count_in_group, exact_pids}
+use proofs.Words.{false, few, few_local, fewer_length, filter, filter_all, foreign_own, History}
+use proofs.Words.{is_empty, is_local, is_open, is_up, is_whole, IsListing, IsNode, IsRow}
+use proofs.Words.{IsRowListing, IsText, leb-true, length, length-map, lie, limit, link_version}
+use proofs.Words.{List, list_all, listing, listing_counts, lives, local_rows, local_rows_are, map}
+use proofs.Words.{max_rows, mentions, Message, min, nat_le, not, occurrences, occurs_stands}
+use proofs.Words.{old_limit, own, own_limit, Pid, pid_cmp, pids_total, refl, Row, row}
+use proofs.Words.{rows_in_group, same, same_decides, same_pid, same_pid_decides, same_row}
+use proofs.Words.{same_row_decides, same_sym, subst, sym, told, true, uncounted, ℕ, [], ◌&&◌, ◌+◌}
+use proofs.Words.{◌<◌, ◌==◌, ◌||◌, ◌∙◌, ◌∷◌, ◌≡◌, ◌≤◌}
 use proofs.OwnLimits.{all_counted, living_row, own_row, own_rows}
 use proofs.Sayable.{IsSayable, join_sayable, leave_sayable, sync_sayable}
 

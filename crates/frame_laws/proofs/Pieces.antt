@@ -1,12 +1,12 @@
 -- A message in the parts of its version, and what came where some of them did.
 use Rattle.frame_laws.proofs
-use proofs.Words.{AreInOrder, ap, append-nil, append_assoc, arith, Begun, begun_after, begun_by}
-use proofs.Words.{before_last, Bool, completed, completed_by, cond, drop, false}
-use proofs.Words.{is_some, length, lie, List, max_rows, Message, message_of, Message2, None}
-use proofs.Words.{option_to_list, Option, PartKind, parts, parts_complete, parts_from}
-use proofs.Words.{parts_in_order, refl, Row, rows_before, rows_so_far, rules, slice_get, Some}
-use proofs.Words.{subst, suc, sym, take, take-append-drop, true, whole, whole_completes, zero, ℕ}
-use proofs.Words.{[], ◌++◌, ◌+◌, ◌==◌, ◌∙◌, ◌∷◌, ◌≡◌}
+use proofs.Words.{ap, append-nil, append_assoc, AreInOrder, arith, before_last, Begun, begun_after}
+use proofs.Words.{begun_by, Bool, completed, completed_by, cond, drop, false, is_some, length, lie}
+use proofs.Words.{List, max_rows, Message, Message2, message_of, None, Option, option_to_list}
+use proofs.Words.{PartKind, parts, parts_complete, parts_from, parts_in_order, refl, Row}
+use proofs.Words.{rows_before, rows_so_far, rules, slice_get, Some, subst, suc, sym, take}
+use proofs.Words.{take-append-drop, true, whole, whole_completes, zero, ℕ, [], ◌++◌, ◌+◌, ◌==◌, ◌∙◌}
+use proofs.Words.{◌∷◌, ◌≡◌}
 
 -- ---- lists of parts
 

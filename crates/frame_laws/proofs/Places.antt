@@ -1,9 +1,10 @@
 -- Places in lists, and the frames that one entry owes.
 use Rattle.frame_laws.proofs
-use proofs.Words.{AllByRecursion, arith, Entry, frames_of, History, IsPlayedIn, length, List, map}
+use proofs.Words.{AllByRecursion, arith, entered, Entry, frames_of, History, IsPlayedIn, length}
+use proofs.Words.{List, map, moment, Opening, out_in, OutFrame, owed, owes, Owing, owing, past}
+use proofs.Words.{refl, slice_get, Some, subst, suc, sym, zero, ℕ, [], ◌++◌, ◌+◌, ◌<◌, ◌∙◌, ◌∷◌}
+use proofs.Words.{◌≡◌, ◌≤◌}
 use proofs.Numbers.{entered_more, entered_next, owed_number}
-use proofs.Words.{entered, moment, Opening, out_in, OutFrame, owed, owes, Owing, owing, past, refl}
-use proofs.Words.{slice_get, Some, subst, suc, sym, zero, ℕ, [], ◌++◌, ◌+◌, ◌<◌, ◌∙◌, ◌∷◌, ◌≡◌, ◌≤◌}
 
 module _ {A : Type 0} where
   -- a place in two lists is one in the first or in the second

@@ -1,20 +1,15 @@
 -- What is refused while a peer is heard, or a message is kept.
 use Rattle.frame_laws.proofs
-use proofs.Words.{Accepted, and_parts, ap, append-nil, arith, Begun}
-use proofs.Words.{begun, begun_after, begun_of, Bool, but, came, comes_next, completed}
-use proofs.Words.{cond, delivered, Entry, eqb-true, Event, false}
-use proofs.Words.{fresh, first_broken, heard}
-use proofs.Words.{HeardIsSaid, History, is_open, is_running, is_some, is_up}
-use proofs.Words.{is_whole, IsGiven, IsHonest, IsPlayedIn, IsStep, kept_after, known}
-use proofs.Words.{lie, link_version, List, Message, message_checks, message_of}
-use proofs.Words.{message_taken, Message2, None, not, Opening, Option}
-use proofs.Words.{option_and_then, option_map_or, option_to_list, PartKind, past, Pid, refl}
-use proofs.Words.{Refused}
-use proofs.Words.{Reply, Row, Rule, said_at, same, same_decides, seen_by}
-use proofs.Words.{slice_get, Some, stated, stopped_heard, subst, sym}
-use proofs.Words.{true, Verdict, ℕ, []}
-use proofs.Words.{is_about_rows, is_accepted, kind_byte}
-use proofs.Words.{◌&&◌, ◌++◌, ◌==◌, ◌||◌, ◌∙◌, ◌∷◌, ◌≡◌}
+use proofs.Words.{Accepted, and_parts, ap, append-nil, arith, Begun, begun, begun_after, begun_of}
+use proofs.Words.{Bool, but, came, comes_next, completed, cond, delivered, Entry, eqb-true, Event}
+use proofs.Words.{false, first_broken, fresh, heard, HeardIsSaid, History, is_about_rows}
+use proofs.Words.{is_accepted, is_open, is_running, is_some, is_up, is_whole, IsGiven, IsHonest}
+use proofs.Words.{IsPlayedIn, IsStep, kept_after, kind_byte, known, lie, link_version, List}
+use proofs.Words.{Message, Message2, message_checks, message_of, message_taken, None, not, Opening}
+use proofs.Words.{Option, option_and_then, option_map_or, option_to_list, PartKind, past, Pid, refl}
+use proofs.Words.{Refused, Reply, Row, Rule, said_at, same, same_decides, seen_by, slice_get, Some}
+use proofs.Words.{stated, stopped_heard, subst, sym, true, Verdict, ℕ, [], ◌&&◌, ◌++◌, ◌==◌, ◌||◌}
+use proofs.Words.{◌∙◌, ◌∷◌, ◌≡◌}
 use proofs.Accepting.{admits, heard_met, is_up_there}
 use proofs.Bodies.{begun_more, completes_there, is_known, known_heard}
 use proofs.KeptStands.{all_stand, begun_whole, is_sync, Stands, up_back}

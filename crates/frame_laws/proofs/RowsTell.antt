@@ -1,16 +1,16 @@
 -- What a Join, a Leave and an Exit say of a scope to a link.
 use Rattle.frame_laws.proofs
-use proofs.Words.{Accepted, accepted, all_hold, AllByRecursion, ap, append-nil}
-use proofs.Words.{append_assoc, apart, arith, Bool, but, cond, Entry, entry_exited, entry_joined}
-use proofs.Words.{entry_left, Event, false, filter, flat_map, frames_to, History, if_told}
-use proofs.Words.{is_about_rows, is_among, is_empty, is_running, is_whole, IsListing, IsNode}
-use proofs.Words.{IsStep, IsText, IsWritten, join_checks, leb-true, length, Less, lie, link_version}
-use proofs.Words.{List, list_all, lives, local_rows, local_rows_are, Message, message_of, nat_le}
-use proofs.Words.{not, occurrences, Opening, OutFrame, own, own_limit, PartKind, past, Pid, refl}
-use proofs.Words.{Reply, Rises, Row, row, rows_of, running_among, running_rises, running_scopes}
-use proofs.Words.{said_frames, same, same_decides, same_pid, same_pid_decides, same_row}
-use proofs.Words.{same_row_decides, same_sym, Some, subst, sym, text_cmp, told, told_runs, true}
-use proofs.Words.{unbroken, Verdict, ℕ, [], ◌++◌, ◌+◌, ◌-◌, ◌||◌, ◌∙◌, ◌∷◌, ◌≡◌, ◌≤◌}
+use proofs.Words.{Accepted, accepted, all_hold, AllByRecursion, ap, apart, append-nil, append_assoc}
+use proofs.Words.{arith, Bool, but, cond, Entry, entry_exited, entry_joined, entry_left, Event}
+use proofs.Words.{false, filter, flat_map, frames_to, History, if_told, is_about_rows, is_among}
+use proofs.Words.{is_empty, is_running, is_whole, IsListing, IsNode, IsStep, IsText, IsWritten}
+use proofs.Words.{join_checks, leb-true, length, Less, lie, link_version, List, list_all, lives}
+use proofs.Words.{local_rows, local_rows_are, Message, message_of, nat_le, not, occurrences}
+use proofs.Words.{Opening, OutFrame, own, own_limit, PartKind, past, Pid, refl, Reply, Rises, Row}
+use proofs.Words.{row, rows_of, running_among, running_rises, running_scopes, said_frames, same}
+use proofs.Words.{same_decides, same_pid, same_pid_decides, same_row, same_row_decides, same_sym}
+use proofs.Words.{Some, subst, sym, text_cmp, told, told_runs, true, unbroken, Verdict, ℕ, [], ◌++◌}
+use proofs.Words.{◌+◌, ◌-◌, ◌||◌, ◌∙◌, ◌∷◌, ◌≡◌, ◌≤◌}
 use proofs.Calm.{AllCalm, calm_closed, calm_message}
 use proofs.OwnLimits.{scope_text, scopes_text}
 use proofs.Telling.{EntryTells, IsTold, Silent, Spoke, Tells, told_join, told_leave}

@@ -1,14 +1,14 @@
 -- A message is owed to a link after it was proved, and no restart comes between.
 use Rattle.frame_laws.proofs
 use proofs.Numbers.{entered_more, entered_next}
-use proofs.Words.{entered, IsNumbered}
 use proofs.Words.{Accepted, ack_taken, ap, arith, AwaitAck, Awaited, AwaitMessage, AwaitReply}
-use proofs.Words.{awaits, Bool, but, Entry, eqb-true, Event, false, filter, flat_map, frame_owes}
-use proofs.Words.{History, if_told, is_accepted, is_restart, is_restarted_after, is_whole}
-use proofs.Words.{IsStep, IsPlayedIn, IsProvedLink, IsTrue, lie, List, list_all}
-use proofs.Words.{local_rows, ltb-true, Message, message_taken_on, not, Opening, OutFrame, owed}
-use proofs.Words.{past, refl, Refused, Reply, reply_taken, Row, running_scopes, same_pid, slice_get}
-use proofs.Words.{Some, suc, sym, true, Verdict, zero, ℕ, [], ◌&&◌, ◌+◌, ◌==◌, ◌∙◌, ◌∷◌, ◌≡◌, ◌≤◌}
+use proofs.Words.{awaits, Bool, but, entered, Entry, eqb-true, Event, false, filter, flat_map}
+use proofs.Words.{frame_owes, History, if_told, is_accepted, is_restart, is_restarted_after}
+use proofs.Words.{is_whole, IsNumbered, IsPlayedIn, IsProvedLink, IsStep, IsTrue, lie, List}
+use proofs.Words.{list_all, local_rows, ltb-true, Message, message_taken_on, not, Opening, OutFrame}
+use proofs.Words.{owed, past, refl, Refused, Reply, reply_taken, Row, running_scopes, same_pid}
+use proofs.Words.{slice_get, Some, suc, sym, true, Verdict, zero, ℕ, [], ◌&&◌, ◌+◌, ◌==◌, ◌∙◌, ◌∷◌}
+use proofs.Words.{◌≡◌, ◌≤◌}
 use proofs.Places.{AllOwed}
 
 -- ---- a link that is whole was proved

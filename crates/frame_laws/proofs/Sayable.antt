@@ -1,21 +1,13 @@
 -- What may be said on a link, and the frames of a message, which are read as its parts.
 use Rattle.frame_laws.proofs
-use proofs.Words.{AllByRecursion, All-from_recursion, ap, AreRows, AreWritten}
-use proofs.Words.{arith}
-use proofs.Words.{Bool, cond}
-use proofs.Words.{false, frames_said, HasParts}
-use proofs.Words.{is_some, IsMessage, IsMessage2}
-use proofs.Words.{IsRow, IsText, length, lie, limit, List, list_all, list_all-append, map, max_rows}
-use proofs.Words.{Message, Message2, message2-spelled, message2_bytes, message-spelled}
-use proofs.Words.{message_bytes, message_taken}
-use proofs.Words.{option_map, option_to_list, OutFrame}
-use proofs.Words.{PartKind, parts, parts_from}
-use proofs.Words.{parts_within, recursion_from_All, refl}
-use proofs.Words.{Row, rows_in}
-use proofs.Words.{said_frames, slice_get, Some}
-use proofs.Words.{suc, sym, take}
-use proofs.Words.{take-append-drop, true, whole, wide, zero, ℕ, [], ◌++◌}
-use proofs.Words.{◌<◌, ◌==◌, ◌^◌, ◌∙◌, ◌∷◌, ◌≡◌, ◌≤◌, and_parts, drop, before_last}
+use proofs.Words.{All-from_recursion, AllByRecursion, and_parts, ap, AreRows, AreWritten, arith}
+use proofs.Words.{before_last, Bool, cond, drop, false, frames_said, HasParts, is_some, IsMessage}
+use proofs.Words.{IsMessage2, IsRow, IsText, length, lie, limit, List, list_all, list_all-append}
+use proofs.Words.{map, max_rows, Message, message-spelled, Message2, message2-spelled}
+use proofs.Words.{message2_bytes, message_bytes, message_taken, option_map, option_to_list}
+use proofs.Words.{OutFrame, PartKind, parts, parts_from, parts_within, recursion_from_All, refl}
+use proofs.Words.{Row, rows_in, said_frames, slice_get, Some, suc, sym, take, take-append-drop}
+use proofs.Words.{true, whole, wide, zero, ℕ, [], ◌++◌, ◌<◌, ◌==◌, ◌^◌, ◌∙◌, ◌∷◌, ◌≡◌, ◌≤◌}
 use proofs.Handshakes.{taken_new, taken_old}
 use proofs.Pieces.{pieces, value_of}
 

@@ -1,34 +1,27 @@
 -- Each frame that is owed is one of the handshake, or a message within the grammar, in its parts.
 use Rattle.frame_laws.proofs
 use proofs.Numbers.{entered_more}
-use proofs.Words.{Accepted, accepted, all_hold, AllByRecursion, always, ap, arith}
-use proofs.Words.{Awaited, AwaitMessage, awaits, Bool, cond, creation, Entry}
-use proofs.Words.{eqb-true, Event, false}
-use proofs.Words.{first_broken, flat_map, frame_checks, frame_owes}
-use proofs.Words.{frame_taken, frames_to, heard, Hello, History, if_told, if_visible, is_empty}
-use proofs.Words.{is_local, is_of, is_open, is_running, is_some, is_up, is_visible, is_whole}
-use proofs.Words.{IsNode, IsText, IsWritten, join_checks, judgement}
-use proofs.Words.{leb-true, length, lie, link_version, List, list_all}
-use proofs.Words.{lives, local_rows, max_rows, Means}
-use proofs.Words.{Message, message_checks, message_owes, message_taken, Message2, narrow}
-use proofs.Words.{nat_le, None, not, open_first, Opening}
-use proofs.Words.{option_map_or, OutFrame, owed, own, own_limit, own_name_frame, past, Pid}
-use proofs.Words.{refl, refusal_owes, Refused, Row, Rule}
-use proofs.Words.{running_scopes, said_frames}
-use proofs.Words.{SaysOne, Some, Speaks, subst, sym, told}
-use proofs.Words.{true, unbroken, Verdict, whole_is_message, wide, ℕ, [], ◌&&◌, ◌+◌}
-use proofs.Words.{◌==◌, ◌||◌, ◌∙◌, ◌∷◌, ◌≡◌}
+use proofs.Words.{Accepted, accepted, all_hold, AllByRecursion, always, ap, arith, Awaited}
+use proofs.Words.{AwaitMessage, awaits, Bool, cond, creation, Entry, eqb-true, Event, false}
+use proofs.Words.{first_broken, flat_map, frame_checks, frame_owes, frame_taken, frames_to, heard}
+use proofs.Words.{Hello, History, if_told, if_visible, is_empty, is_local, is_of, is_open}
+use proofs.Words.{is_running, is_some, is_up, is_visible, is_whole, IsNode, IsText, IsWritten}
+use proofs.Words.{join_checks, judgement, leb-true, length, lie, link_version, List, list_all}
+use proofs.Words.{lives, local_rows, max_rows, Means, Message, Message2, message_checks}
+use proofs.Words.{message_owes, message_taken, narrow, nat_le, None, not, open_first, Opening}
+use proofs.Words.{option_map_or, OutFrame, owed, own, own_limit, own_name_frame, past, Pid, refl}
+use proofs.Words.{refusal_owes, Refused, Row, Rule, running_scopes, said_frames, SaysOne, Some}
+use proofs.Words.{Speaks, subst, sym, told, true, unbroken, Verdict, whole_is_message, wide, ℕ, []}
+use proofs.Words.{◌&&◌, ◌+◌, ◌==◌, ◌||◌, ◌∙◌, ◌∷◌, ◌≡◌}
 use proofs.OwnLimits.{scope_text, scopes_text}
-use proofs.Handshakes.{HoldsOfHellos, begins_message, first_byte, frame_all, of_hellos, no_message}
-use proofs.Handshakes.{IsClosed}
-use proofs.Handshakes.{all_closed}
-use proofs.Handshakes.{refusal_all}
+use proofs.Handshakes.{all_closed, begins_message, first_byte, frame_all, HoldsOfHellos, IsClosed}
+use proofs.Handshakes.{no_message, of_hellos, refusal_all}
 use proofs.Pieces.{pieces, value_of}
-use proofs.Places.{AllOwed, all_at}
+use proofs.Places.{all_at, AllOwed}
 use proofs.Sayable.{asks_alike, asks_sayable, downs_alike, downs_sayable, IsSayable, pieces_meet}
 use proofs.Sayable.{reads, reads_hold, rows_said}
-use proofs.OwnMessages.{join_rows, leave_rows, exit_rows, join_is, leave_is, exit_is, sync_is}
-use proofs.OwnMessages.{join_own, leave_own, exit_own, sync_own, told_whole}
+use proofs.OwnMessages.{exit_is, exit_own, exit_rows, join_is, join_own, join_rows, leave_is}
+use proofs.OwnMessages.{leave_own, leave_rows, sync_is, sync_own, told_whole}
 
 -- ---- what a frame says
 

@@ -1,10 +1,9 @@
 -- What an entry says of a scope to a link: one of three things.
 use Rattle.frame_laws.proofs
-use proofs.Words.{AreThere, arith, Bool, Entry, false, how_many_append, IsFew, length}
+use proofs.Words.{ap, AreThere, arith, Bool, Entry, false, how_many_append, IsFew, length}
 use proofs.Words.{length-append, limit, List, Message, message_of, Opening, Option, OutFrame, owed}
-use proofs.Words.{own, PartKind, past, Pid, Row, row, rows_of, said_frames, same_decides}
-use proofs.Words.{same_row, seen, Some, sym, told, true, ℕ, [], ◌++◌, ◌+◌, ◌-◌, ◌∙◌, ◌∷◌, ◌≡◌, ◌≤◌}
-use proofs.Words.{ap}
+use proofs.Words.{own, PartKind, past, Pid, Row, row, rows_of, said_frames, same_decides, same_row}
+use proofs.Words.{seen, Some, sym, told, true, ℕ, [], ◌++◌, ◌+◌, ◌-◌, ◌∙◌, ◌∷◌, ◌≡◌, ◌≤◌}
 use proofs.Calm.{AllCalm, HasNoRows}
 use proofs.Sayable.{IsSayable}
 

@@ -1,23 +1,21 @@
 -- Where each entry tells what it does, the frames pass through the sender's rows.
 use Rattle.frame_laws.proofs
 use proofs.Numbers.{owed_number}
-use proofs.Words.{and_parts, AreThere, ap, arith, begun_by, begun_of, bodies_of, Bool, completed_by}
-use proofs.Words.{frames_said, is_some, take-length}
-use proofs.Words.{Begun, ends_rows, Entry, false, has_rows, IsFew, IsNode, IsPlayedIn, IsStep}
-use proofs.Words.{length, lie, List, map, Message, message_of, message_taken, Message2, moment}
-use proofs.Words.{None}
-use proofs.Words.{Opening, Option, option_map_or, out_in, OutFrame, owed, owes, Owing, owing, own}
-use proofs.Words.{PartKind, parts_from, PassesThrough, past, Pid, refl, Row, rows_so_far}
-use proofs.Words.{said_frames, same, same_decides, seen, seen_by, slice_get, slice_get_within}
-use proofs.Words.{so_far_behind, Some, Speaks, subst, suc, sym, take, take-append-add}
-use proofs.Words.{take-append-le, told, true, view_of, zero, ℕ, [], ◌++◌, ◌+◌, ◌<◌, ◌∙◌, ◌∷◌}
-use proofs.Words.{◌≡◌}
-use proofs.Calm.{AllCalm, frames_apart, frames_seen, is_part, message_ends}
-use proofs.Calm.{message_seen, no_rows_at, rows_part, seen_apart, seen_frames}
+use proofs.Words.{and_parts, ap, AreThere, arith, Begun, begun_by, begun_of, bodies_of, Bool}
+use proofs.Words.{completed_by, ends_rows, Entry, false, frames_said, has_rows, is_some, IsFew}
+use proofs.Words.{IsNode, IsPlayedIn, IsStep, length, lie, List, map, Message, Message2, message_of}
+use proofs.Words.{message_taken, moment, None, Opening, Option, option_map_or, out_in, OutFrame}
+use proofs.Words.{owed, owes, Owing, owing, own, PartKind, parts_from, PassesThrough, past, Pid}
+use proofs.Words.{refl, Row, rows_so_far, said_frames, same, same_decides, seen, seen_by, slice_get}
+use proofs.Words.{slice_get_within, so_far_behind, Some, Speaks, subst, suc, sym, take}
+use proofs.Words.{take-append-add, take-append-le, take-length, told, true, view_of, zero, ℕ, []}
+use proofs.Words.{◌++◌, ◌+◌, ◌<◌, ◌∙◌, ◌∷◌, ◌≡◌}
+use proofs.Calm.{AllCalm, frames_apart, frames_seen, is_part, message_ends, message_seen}
+use proofs.Calm.{no_rows_at, rows_part, seen_apart, seen_frames}
 use proofs.Orderly.{out_orderly, said_more}
 use proofs.Pieces.{begun_apart, completed_apart, cuts, IsPiece, piece_at, pieces, pieces_are}
 use proofs.Pieces.{value_of}
-use proofs.Places.{Parted, InFirst, InSecond, part, owed_here, earlier_moment, this_moment}
+use proofs.Places.{earlier_moment, InFirst, InSecond, owed_here, part, Parted, this_moment}
 use proofs.Sources.{is_entry}
 use proofs.Spoken.{node_before}
 use proofs.Telling.{AllTell, Ended, EntryTells, fewer_of, IsTold, Silent, Spoke, WasSeen}

@@ -1,9 +1,9 @@
 -- The places of told rows fall, and each is the place of a frame that came.
 use Rattle.frame_laws.proofs
-use proofs.Words.{Accepted, AllByRecursion, arith, Bool, came, cond, delivered, Entry, Event, Falls}
-use proofs.Words.{ap, is_whole, lie, Opening, option_map_or, said_at, says_rows, sym, ◌&&◌, ◌==◌}
-use proofs.Words.{false, heard, length, length-append, List, refl, Refused, tells_rows, told_rows}
-use proofs.Words.{true, Verdict, ℕ, [], ◌++◌, ◌+◌, ◌<◌, ◌∷◌, ◌≡◌, ◌≤◌}
+use proofs.Words.{Accepted, AllByRecursion, ap, arith, Bool, came, cond, delivered, Entry, Event}
+use proofs.Words.{Falls, false, heard, is_whole, length, length-append, lie, List, Opening}
+use proofs.Words.{option_map_or, refl, Refused, said_at, says_rows, sym, tells_rows, told_rows}
+use proofs.Words.{true, Verdict, ℕ, [], ◌&&◌, ◌++◌, ◌+◌, ◌<◌, ◌==◌, ◌∷◌, ◌≡◌, ◌≤◌}
 
 lower : (n m : ℕ) → n ≤ m → (xs : List ℕ) → AllByRecursion (λ x. x < n) xs
     → AllByRecursion (λ x. x < m) xs

@@ -1,27 +1,27 @@
 -- The words that the proofs of this crate speak in: those of std, of the crates below and of its
 -- own specs, passed on from one place.
+use Rattle.frame_laws.specs
 pub use Rattle.std.proofs.Common.{ap, arith, inl, inr, refl, subst, sym, ◌∙◌}
 pub use Rattle.std.proofs.lemmas.Bool.{and_parts, eq-eqb, eqb-false, eqb-true, le-leb, leb-false}
 pub use Rattle.std.proofs.lemmas.Bool.{leb-true, lt-ltb, ltb-true, not-false}
-pub use Rattle.std.proofs.lemmas.List.{append-nil, append_assoc, length-append, length-drop}
+pub use Rattle.std.proofs.lemmas.List.{append-nil, append_assoc, drop-append-le, length-append}
+pub use Rattle.std.proofs.lemmas.List.{length-drop, length-map, map-append, take-append-drop}
+pub use Rattle.std.proofs.lemmas.List.{take-append-le, take-map, take_all as take_past}
 pub use Rattle.std.proofs.lemmas.Grind.{flat_map-append}
-pub use Rattle.std.proofs.lemmas.List.{length-map, map-append, take-append-drop, take-append-le}
 pub use Rattle.std.proofs.Math.Seq.{drop-append-add, take-append-add, take-length}
-pub use Rattle.std.proofs.lemmas.List.{drop-append-le, take-map, take_all as take_past}
 pub use Rattle.std.specs.List.{AllByRecursion, filter, flat_map, list_all}
 pub use Rattle.std.specs.Option.{option_and_then, option_map, option_map_or, option_to_list}
 pub use Rattle.std.specs.Option.{unwrap_or}
 pub use Rattle.std.specs.Prelude.{Bool, cond, drop, false, get_or, is_some, IsTrue, length, List}
-pub use Rattle.std.specs.Prelude.{nat_lt}
-pub use Rattle.std.specs.Prelude.{map, min, nat_le, None, not, Option, slice_get, Some, suc, take}
-pub use Rattle.std.specs.Prelude.{true, zero, ℕ, [], ◌&&◌, ◌++◌, ◌+◌, ◌-◌, ◌<◌, ◌==◌, ◌^◌, ◌||◌}
-pub use Rattle.std.specs.Prelude.{◌∷◌, ◌≡◌, ◌≤◌}
+pub use Rattle.std.specs.Prelude.{map, min, nat_le, nat_lt, None, not, Option, slice_get, Some, suc}
+pub use Rattle.std.specs.Prelude.{take, true, zero, ℕ, [], ◌&&◌, ◌++◌, ◌+◌, ◌-◌, ◌<◌, ◌==◌, ◌^◌}
+pub use Rattle.std.specs.Prelude.{◌||◌, ◌∷◌, ◌≡◌, ◌≤◌}
 pub use Rattle.std.specs.declared.cmp.Ordering.TheVariants.{Less}
 pub use Rattle.std.proofs.lemmas.List.Elements.{All-from_recursion, filter-append}
 pub use Rattle.std.proofs.lemmas.List.Elements.{recursion_from_All}
 pub use Rattle.std.proofs.lemmas.Option.{slice_get_within}
 pub use Rattle.dist_types.specs.Difference.{is_empty}
-pub use Rattle.dist_types.specs.Listing.{max_rows, is_among, IsListing, IsRowListing, listing}
+pub use Rattle.dist_types.specs.Listing.{is_among, IsListing, IsRowListing, listing, max_rows}
 pub use Rattle.dist_types.specs.Listing.{mentions, occurrences, Rises, same, same_pid, same_row}
 pub use Rattle.dist_types.specs.Listing.{stands_in}
 pub use Rattle.dist_types.specs.Order.{pid_cmp, text_cmp}
@@ -39,9 +39,8 @@ pub use Rattle.link_frames.specs.declared.part.PartKind.{PartKind}
 pub use Rattle.link_frames.specs.Parts.{AreInOrder, AreWritten, before_last, Begun, begun_after}
 pub use Rattle.link_frames.specs.Parts.{begun_by, comes_next, completed, completed_by, follows}
 pub use Rattle.link_frames.specs.Parts.{HasParts, is_next, IsMessage2, KeepsOrNot, kind_byte}
-pub use Rattle.link_frames.specs.Parts.{SpellsMessage2}
 pub use Rattle.link_frames.specs.Parts.{message2_bytes, message_of, parts, parts_from, rows_before}
-pub use Rattle.link_frames.specs.Parts.{rows_so_far, whole}
+pub use Rattle.link_frames.specs.Parts.{rows_so_far, SpellsMessage2, whole}
 pub use Rattle.link_frames.specs.PartReading.{message2 as read_message2}
 pub use Rattle.link_frames.proofs.PartLemmas.{message2-spelled, SpellsMessage2-read}
 pub use Rattle.link_frames.proofs.PartLaws.{parts_complete, parts_within, whole_completes}
@@ -56,14 +55,13 @@ pub use Rattle.policy_audit.specs.declared.rule.Rule.{Rule}
 pub use Rattle.policy_audit.specs.declared.entry.Verdict.{Verdict}
 pub use Rattle.policy_audit.specs.declared.entry.Verdict.TheVariants.{Accepted, Refused}
 pub use Rattle.policy_audit.specs.declared.entry.Entry.{Entry}
-pub use Rattle.policy_audit.specs.History.{creation, events, first_of, History, is_accepted}
-pub use Rattle.policy_audit.specs.History.{entered, is_entered, is_restart, just, past}
+pub use Rattle.policy_audit.specs.History.{creation, entered, events, first_of, History}
+pub use Rattle.policy_audit.specs.History.{is_accepted, is_entered, is_restart, just, past}
 pub use Rattle.policy_audit.specs.Own.{is_local, is_running, joined, lives, own, running_scopes}
 pub use Rattle.policy_audit.specs.Own.{spawned}
-pub use Rattle.policy_audit.specs.Sides.{given}
 pub use Rattle.policy_audit.specs.Sides.{and_frame, AwaitAck, AwaitAnswer, AwaitChallenge, Awaited}
 pub use Rattle.policy_audit.specs.Sides.{AwaitMessage, AwaitName, AwaitReply, awaits, AwaitStatus}
-pub use Rattle.policy_audit.specs.Sides.{ByDial, ByPeer, challenge_in, given_in, is_last}
+pub use Rattle.policy_audit.specs.Sides.{ByDial, ByPeer, challenge_in, given, given_in, is_last}
 pub use Rattle.policy_audit.specs.Sides.{is_name_up, is_peer, is_visible, is_whole, is_whole_in}
 pub use Rattle.policy_audit.specs.Sides.{Opened, opened, peer_in, peer_of, present_link, Start}
 pub use Rattle.policy_audit.specs.Sides.{start_of, Taken, taken}
@@ -71,20 +69,20 @@ pub use Rattle.policy_audit.specs.Links.{ends, is_dialling, is_open, is_opened_b
 pub use Rattle.link_frames.specs.Reading.{message as read_message}
 pub use Rattle.policy_audit.specs.Hearing.{begun, frame_taken, heard, hears, kept_after}
 pub use Rattle.policy_audit.specs.Hearing.{link_version, message_taken, rows_kept, rows_of, Said}
-pub use Rattle.policy_audit.specs.Hearing.{said_at, stated}
-pub use Rattle.policy_audit.specs.Hearing.{stated_in, Talk, talk, talk_of, tells, told}
+pub use Rattle.policy_audit.specs.Hearing.{said_at, stated, stated_in, Talk, talk, talk_of, tells}
+pub use Rattle.policy_audit.specs.Hearing.{told}
 pub use Rattle.policy_audit.specs.Contents.{groups, groups_named, local_rows, members, pids_named}
 pub use Rattle.policy_audit.specs.Contents.{row}
 pub use Rattle.policy_audit.specs.Checks.{always, checks, first_broken, frame_checks, join_checks}
-pub use Rattle.policy_audit.specs.Checks.{message_checks, own_limit, peer_limit, peer_rows}
-pub use Rattle.policy_audit.specs.Checks.{part_checks, so_far}
+pub use Rattle.policy_audit.specs.Checks.{message_checks, own_limit, part_checks, peer_limit}
+pub use Rattle.policy_audit.specs.Checks.{peer_rows, so_far}
 pub use Rattle.policy_audit.specs.Owed.{digest_for, discovers, drops, frame_owes, frames_to}
-pub use Rattle.policy_audit.specs.Owed.{if_told, said_frames}
-pub use Rattle.policy_audit.specs.Owed.{if_visible, message_owes, narrow, owed, own_challenge}
-pub use Rattle.policy_audit.specs.Owed.{own_challenge_frame, own_name_frame, refusal_owes}
-pub use Rattle.policy_audit.specs.Owed.{status_frame, true_to, waiting, waiting_in, welcome, wide}
-pub use Rattle.policy_audit.specs.Policy.{is_full, IsNumbered, IsPlayed, IsPlayedIn, IsStep}
-pub use Rattle.policy_audit.specs.Policy.{judged, judgement, next_number, verdict}
+pub use Rattle.policy_audit.specs.Owed.{if_told, if_visible, message_owes, narrow, owed}
+pub use Rattle.policy_audit.specs.Owed.{own_challenge, own_challenge_frame, own_name_frame}
+pub use Rattle.policy_audit.specs.Owed.{refusal_owes, said_frames, status_frame, true_to, waiting}
+pub use Rattle.policy_audit.specs.Owed.{waiting_in, welcome, wide}
+pub use Rattle.policy_audit.specs.Policy.{is_full, IsNumbered, IsPlayed, IsPlayedIn, IsStep, judged}
+pub use Rattle.policy_audit.specs.Policy.{judgement, next_number, verdict}
 pub use Rattle.policy_audit.proofs.Accepted.{accepted, all_hold, lie, open_first, unbroken}
 pub use Rattle.policy_audit.proofs.Walked.{but, Far, far, frame_fits, fresh, open_opened}
 pub use Rattle.policy_audit.proofs.Walked.{opens_number, unborn}
@@ -94,15 +92,15 @@ pub use Rattle.handshake_frames.proofs.ReadingLemmas.{challenge_frame-spelled, n
 pub use Rattle.handshake_frames.proofs.ReadingLemmas.{SpellsChallenge-read, version_read}
 pub use Rattle.handshake_frames.specs.Frame.{Challenge, Name}
 pub use Rattle.handshake_frames.specs.Reading.{challenge_frame, name_frame, reply_frame, status_of}
-pub use Rattle.handshake_frames.specs.Spelling.{ack_bytes, challenge_bytes, name_bytes, reply_bytes}
-pub use Rattle.handshake_frames.specs.Spelling.{IsVersion, version_bytes}
+pub use Rattle.handshake_frames.specs.Spelling.{ack_bytes, challenge_bytes, IsVersion, name_bytes}
+pub use Rattle.handshake_frames.specs.Spelling.{reply_bytes, version_bytes}
 pub use Rattle.handshake_frames.specs.declared.frame.AckFrame.{AckFrame}
 pub use Rattle.handshake_frames.specs.declared.frame.ReplyFrame.{ReplyFrame}
 pub use Rattle.handshake_frames.specs.declared.frame.StatusWord.{StatusWord}
 pub use Rattle.link_frames.proofs.ReadingLemmas.{message-spelled, SpellsMessage-read}
 pub use Rattle.policy_audit.proofs.Effects.{entry_exited, entry_joined, entry_left, entry_link}
 pub use Rattle.policy_audit.proofs.FewRows.{few}
-pub use Rattle.policy_audit.proofs.Words.{list_all-append}
+pub use Rattle.policy_audit.proofs.Words.{codes, list_all-append, play}
 pub use Rattle.policy_audit.proofs.OldTold.{few_local, old_limit}
 pub use Rattle.policy_audit.proofs.Begun.{kept_peers, none_begun}
 pub use Rattle.policy_audit.proofs.Finished.{given_by, given_kept, is_message, whole_awaits}
@@ -125,24 +123,20 @@ pub use Rattle.policy_audit.proofs.RowsAfter.{uncounted}
 pub use Rattle.policy_audit.proofs.ScopesNow.{running_among, running_rises}
 pub use Rattle.policy_audit.proofs.Untouched.{entry_leaves}
 pub use Rattle.policy_audit.proofs.UpLinks.{agrees, and_false, done_now, none_taken}
-pub use Rattle.policy_audit.proofs.Words.{codes, play}
 pub use Rattle.policy_audit.specs.Listed.{is_from, listed}
-pub use Rattle.frame_laws.specs.Sent.{bodies_of, came, delivered, frames_of, handed, out, out_in}
-pub use Rattle.frame_laws.specs.Sent.{owes, Owing, owing, sent, source_at}
-pub use Rattle.frame_laws.specs.Moments.{is_restarted_after, IsProvedLink, moment, moment_in}
-pub use Rattle.frame_laws.specs.Moments.{proved_at}
-pub use Rattle.frame_laws.specs.Says.{Hello, is_of, Means, rows_in, SaysOne, scope_in}
-pub use Rattle.frame_laws.specs.BegunAt.{IsBegun}
-pub use Rattle.frame_laws.specs.Spoken.{begun_of, frames_said, limit, messages_said, Speaks}
-pub use Rattle.frame_laws.specs.Written.{IsNode, IsWritten}
-pub use Rattle.frame_laws.specs.ToldRows.{ends_rows, Falls, has_rows, says_rows, tells_rows}
-pub use Rattle.frame_laws.specs.ToldRows.{told_rows}
-pub use Rattle.frame_laws.specs.Views.{AreThere, IsFew, PassesThrough, seen, seen_by, so_far_behind}
-pub use Rattle.frame_laws.specs.Views.{view_of}
-pub use Rattle.frame_laws.specs.Hellos.{hello_in, opening_of, own_hello}
-pub use Rattle.frame_laws.specs.Given.{IsAskedOnce, IsNamedFirst}
-pub use Rattle.frame_laws.specs.HeardMoment.{HearsMoment}
-pub use Rattle.frame_laws.specs.Honest.{HasGiven, HeardIsSaid, IsGiven, IsHonest}
-pub use Rattle.frame_laws.specs.Known.{known, message_at}
-pub use Rattle.frame_laws.specs.MaySay.{AreFrom, AreStated, HasRoom, MaySay, MaySaySoFar}
+pub use specs.Sent.{bodies_of, came, delivered, frames_of, handed, out, out_in, owes, Owing, owing}
+pub use specs.Sent.{sent, source_at}
+pub use specs.Moments.{is_restarted_after, IsProvedLink, moment, moment_in, proved_at}
+pub use specs.Says.{Hello, is_of, Means, rows_in, SaysOne, scope_in}
+pub use specs.BegunAt.{IsBegun}
+pub use specs.Spoken.{begun_of, frames_said, limit, messages_said, Speaks}
+pub use specs.Written.{IsNode, IsWritten}
+pub use specs.ToldRows.{ends_rows, Falls, has_rows, says_rows, tells_rows, told_rows}
+pub use specs.Views.{AreThere, IsFew, PassesThrough, seen, seen_by, so_far_behind, view_of}
+pub use specs.Hellos.{hello_in, opening_of, own_hello}
+pub use specs.Given.{IsAskedOnce, IsNamedFirst}
+pub use specs.HeardMoment.{HearsMoment}
+pub use specs.Honest.{HasGiven, HeardIsSaid, IsGiven, IsHonest}
+pub use specs.Known.{known, message_at}
+pub use specs.MaySay.{AreFrom, AreStated, HasRoom, MaySay, MaySaySoFar}
 pub use Rattle.policy_audit.specs.Parted.{scope_of}

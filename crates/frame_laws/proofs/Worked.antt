@@ -5,9 +5,9 @@ use proofs.Words.{a_up, bodies_of, ByPeer, calls, codes, delivered, done, Event,
 use proofs.Words.{known, length, Line, List, map, moment, node, None, opening_of, Option, out, own}
 use proofs.Words.{Pid, pid, play, proved_at, refl, Reply, sent, Some, take, told, told_rows, true}
 use proofs.Words.{view_of, ℕ, [], ◌++◌, ◌∷◌, ◌≡◌}
-use Rattle.policy_audit.proofs.Words.{digits, block_words, compress, digest_bytes, hash_after, md5}
-use Rattle.policy_audit.proofs.Words.{rounds, ack_frame, challenge_frame, name_frame, reply_frame}
-use Rattle.policy_audit.proofs.Words.{status_of, read_message, read_message2}
+use Rattle.policy_audit.proofs.Words.{ack_frame, block_words, challenge_frame, compress}
+use Rattle.policy_audit.proofs.Words.{digest_bytes, digits, hash_after, md5, name_frame}
+use Rattle.policy_audit.proofs.Words.{read_message, read_message2, reply_frame, rounds, status_of}
 use Rattle.policy_audit.proofs.Lines.{sent as came}
 
 -- the own process

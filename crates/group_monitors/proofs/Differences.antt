@@ -1,17 +1,15 @@
 -- What the changes of entries tell of a group is the difference of its listings, and what the
 -- contents of a scope count.
-use Rattle.group_monitors.proofs.Words.{◌≡◌, ◌∙◌, sym, ap, refl, ℕ, ◌+◌, ◌-◌, ◌≤◌, inl, inr}
-use Rattle.group_monitors.proofs.Words.{Bool, true, false, cond, ◌++◌, List, [], ◌∷◌, Option, Some}
-use Rattle.group_monitors.proofs.Words.{length, arith, reverse, drop, append-nil, flat_map}
-use Rattle.group_monitors.proofs.Words.{option_and_then, nat_tests, flat_map-append, reverse-append}
-use Rattle.group_monitors.proofs.Words.{length-reverse, drop-append_seam, Pid, GroupChange}
-use Rattle.group_monitors.proofs.Words.{mentions, times_left, times_joined, IsDifference, Update}
-use Rattle.group_monitors.proofs.Words.{Entry, Opening, History, listed, later_than}
-use Rattle.group_monitors.proofs.Words.{group_updates, is_watched, updates_of, history, IsLegalIn}
-use Rattle.group_monitors.proofs.Words.{Monitor, target, updates_behind, counted, Watches}
-use Rattle.group_monitors.proofs.Words.{◌<◌, map, true≢false, total, is_among, IsPidListing}
-use Rattle.group_monitors.proofs.Words.{IsGroupListing, texts_total, same_decides, one_of_many}
-use Rattle.group_monitors.proofs.Words.{members, groups, contents, times_in, same}
+use Rattle.group_monitors.proofs
+use proofs.Words.{ap, append-nil, arith, Bool, cond, contents, counted, drop, drop-append_seam}
+use proofs.Words.{Entry, false, flat_map, flat_map-append, group_updates, GroupChange, groups}
+use proofs.Words.{History, history, inl, inr, is_among, is_watched, IsDifference, IsGroupListing}
+use proofs.Words.{IsLegalIn, IsPidListing, later_than, length, length-reverse, List, listed, map}
+use proofs.Words.{members, mentions, Monitor, nat_tests, one_of_many, Opening, Option}
+use proofs.Words.{option_and_then, Pid, refl, reverse, reverse-append, same, same_decides, Some}
+use proofs.Words.{sym, target, texts_total, times_in, times_joined, times_left, total, true}
+use proofs.Words.{true≢false, Update, updates_behind, updates_of, Watches, ℕ, [], ◌++◌, ◌+◌, ◌-◌}
+use proofs.Words.{◌<◌, ◌∙◌, ◌∷◌, ◌≡◌, ◌≤◌}
 use Rattle.std.proofs.lemmas.Map.Lookups.{exact_bytes}
 use Rattle.dist_types.specs.Order.{text_cmp}
 

@@ -1,15 +1,13 @@
 -- The entries behind the last fetch are those that the policy looks back over.
-use Rattle.std.proofs.Common.{zero, suc, subst, slice_get}
-use Rattle.group_monitors.proofs.Words.{◌≡◌, ◌∙◌, sym, ap, refl, ℕ, ◌+◌, ◌-◌, ◌<◌, ◌≤◌, false, ◌++◌}
-use Rattle.group_monitors.proofs.Words.{List, [], ◌∷◌, Some, length, arith, IsTrue, reverse, drop}
-use Rattle.group_monitors.proofs.Words.{length-append, append-nil, inl, inr, AllByRecursion}
-use Rattle.group_monitors.proofs.Words.{flat_map, option_map_or, cases_lt, nat_tests}
-use Rattle.group_monitors.proofs.Words.{flat_map-append, drop-append-le, drop_all, reverse-append}
-use Rattle.group_monitors.proofs.Words.{length-reverse, get_or_append_left, get_or-append_seam}
-use Rattle.group_monitors.proofs.Words.{slice_get_within, slice_get-get_or, all_append, Entry}
-use Rattle.group_monitors.proofs.Words.{History, entry_at, later_than, Target, updates_of, is_fetch}
-use Rattle.group_monitors.proofs.Words.{updates_since, updates, monitor, Monitor, target}
-use Rattle.group_monitors.proofs.Words.{updates_behind, IsLastFetch}
+use Rattle.group_monitors.proofs
+use Rattle.std.proofs.Common.{slice_get, subst, suc, zero}
+use proofs.Words.{all_append, AllByRecursion, ap, append-nil, arith, cases_lt, drop, drop-append-le}
+use proofs.Words.{drop_all, Entry, entry_at, false, flat_map, flat_map-append, get_or-append_seam}
+use proofs.Words.{get_or_append_left, History, inl, inr, is_fetch, IsLastFetch, IsTrue, later_than}
+use proofs.Words.{length, length-append, length-reverse, List, Monitor, monitor, nat_tests}
+use proofs.Words.{option_map_or, refl, reverse, reverse-append, slice_get-get_or, slice_get_within}
+use proofs.Words.{Some, sym, Target, target, updates, updates_behind, updates_of, updates_since, ℕ}
+use proofs.Words.{[], ◌++◌, ◌+◌, ◌-◌, ◌<◌, ◌∙◌, ◌∷◌, ◌≡◌, ◌≤◌}
 
 -- one more entry is the last one behind a place within the others
 one_later : (place : ℕ) (e : Entry) (es : List Entry) → place ≤ length es

@@ -1,19 +1,15 @@
 -- What a seat has fetched of its monitor, with what it is still to fetch, is what all entries
 -- behind the monitor's own tell.
-use Rattle.group_monitors.proofs.Words.{◌≡◌, ◌∙◌, sym, subst, ap, refl, ℕ, ◌+◌, true, false, cond}
-use Rattle.group_monitors.proofs.Words.{◌==◌}
-use Rattle.group_monitors.proofs.Words.{◌++◌, List, [], ◌∷◌, Some, None, length, arith, IsTrue}
-use Rattle.group_monitors.proofs.Words.{reverse, append-nil, append_assoc, inl, inr, ◌⊎◌}
-use Rattle.group_monitors.proofs.Words.{length-append, flat_map, option_map, option_map_or}
-use Rattle.group_monitors.proofs.Words.{none-some, Pid, GroupChange, mentions, is_empty}
-use Rattle.group_monitors.proofs.Words.{IsDifference, same_decides, same_pid_decides, Opening}
-use Rattle.group_monitors.proofs.Words.{Event, Entry, History, past, present, is_accepted, listed}
-use Rattle.group_monitors.proofs.Words.{entry_at, later_than, Target, watched, monitor_in, monitor}
-use Rattle.group_monitors.proofs.Words.{updates_of, updates_since, updates, is_watched}
-use Rattle.group_monitors.proofs.Words.{group_updates, with_entry, answer, IsNext, IsLegal, IsStep}
-use Rattle.group_monitors.proofs.Words.{just, history, audit_of, entered, may_tell, next_number}
-use Rattle.group_monitors.proofs.Words.{IsLegalIn, updates_in, fetched_by, fetched, counted}
-use Rattle.policy_audit.specs.declared.event.Event.TheVariants as event
+use Rattle.group_monitors.proofs
+use proofs.Words.{answer, ap, append-nil, append_assoc, arith, audit_of, cond, counted, entered}
+use proofs.Words.{Entry, entry_at, Event, false, fetched, fetched_by, flat_map, group_updates}
+use proofs.Words.{GroupChange, History, history, inl, inr, is_accepted, is_empty, is_watched}
+use proofs.Words.{IsDifference, IsLegal, IsLegalIn, IsNext, IsStep, IsTrue, just, later_than}
+use proofs.Words.{length, length-append, List, listed, may_tell, mentions, monitor, monitor_in}
+use proofs.Words.{next_number, None, none-some, Opening, option_map, option_map_or, past, Pid}
+use proofs.Words.{present, refl, reverse, same_decides, same_pid_decides, Some, subst, sym, Target}
+use proofs.Words.{true, updates, updates_in, updates_of, updates_since, watched, with_entry, ℕ, []}
+use proofs.Words.{◌++◌, ◌+◌, ◌==◌, ◌∙◌, ◌∷◌, ◌≡◌, ◌⊎◌}
 use Rattle.policy_audit.specs.declared.reply.Reply.{Reply}
 use Rattle.policy_audit.specs.declared.entry.Verdict.{Verdict}
 use Rattle.policy_audit.specs.declared.entry.Verdict.TheVariants.{Accepted, Refused}
@@ -22,8 +18,9 @@ use Rattle.policy_audit.specs.Effects.{is_quiet, leaves_rows}
 use Rattle.policy_audit.specs.History.{lose}
 use Rattle.policy_audit.specs.Owed.{slow_links}
 use Rattle.std.specs.Prelude.{not, ◌||◌}
-use Rattle.group_monitors.proofs.Differences.{told, told_last, further}
-use Rattle.group_monitors.proofs.Fetched.{entry_stays, entry_new}
+use proofs.Differences.{further, told, told_last}
+use proofs.Fetched.{entry_new, entry_stays}
+use Rattle.policy_audit.specs.declared.event.Event.TheVariants as event
 
 -- a refused entry has no losses
 refused_alone : (h : History) (e : Entry) (r : Rule) → e.verdict ≡ Refused r

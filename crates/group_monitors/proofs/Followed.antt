@@ -1,21 +1,18 @@
 -- Each entry leaves the monitors as the policy says.
-use Rattle.group_monitors.proofs.Words.{◌≡◌, ◌∙◌, sym, ap, refl, ℕ, suc, ◌+◌, ◌≤◌, Bool, true}
-use Rattle.group_monitors.proofs.Words.{false, cond, nat_eq, ◌&&◌, ◌==◌, ◌++◌, List, [], ◌∷◌}
-use Rattle.group_monitors.proofs.Words.{Option, Some, None, length, arith, IsTrue, ◌⊎◌, inl, inr}
-use Rattle.group_monitors.proofs.Words.{option_map, Decides-eqb, nat_tests, none-some, all_append}
-use Rattle.group_monitors.proofs.Words.{Opening, Event, Entry, History, Moment, past, is_accepted}
-use Rattle.group_monitors.proofs.Words.{is_restart, Target, monitor_after, monitor, is_fetch}
-use Rattle.group_monitors.proofs.Words.{just, Monitor, target, monitor_of}
-use Rattle.group_monitors.proofs.Words.{IsFree, IsNumbered, without, without_scope, with_place}
-use Rattle.group_monitors.proofs.Words.{IsLastFetch, FollowsPolicy, concerns_monitors}
+use Rattle.group_monitors.proofs
+use proofs.Words.{all_append, ap, arith, Bool, concerns_monitors, cond, Decides-eqb, Entry, Event}
+use proofs.Words.{false, FollowsPolicy, History, inl, inr, is_accepted, is_fetch, is_restart}
+use proofs.Words.{IsFree, IsLastFetch, IsNumbered, IsTrue, just, length, List, Moment, Monitor}
+use proofs.Words.{monitor, monitor_after, monitor_of, nat_eq, nat_tests, None, none-some, Opening}
+use proofs.Words.{Option, option_map, past, refl, Some, suc, sym, Target, target, true, with_place}
+use proofs.Words.{without, without_scope, ℕ, [], ◌&&◌, ◌++◌, ◌+◌, ◌==◌, ◌∙◌, ◌∷◌, ◌≡◌, ◌≤◌, ◌⊎◌}
 use Rattle.std.proofs.lemmas.Map.Made.{IsDistinct-keys_filter}
-use Rattle.policy_audit.specs.declared.event.Event.TheVariants as event
 use Rattle.policy_audit.proofs.Lists.{filter_all}
-use Rattle.group_monitors.proofs.Found.{none_found, free_not_found, found_added, found_removed}
-use Rattle.group_monitors.proofs.Found.{found_moved, found_dropped, AtMost, none_numbered, one_more}
-use Rattle.group_monitors.proofs.Found.{at_most, greater_free, numbered_last, numbers_stay}
-use Rattle.group_monitors.proofs.Found.{moved_at_most}
-use Rattle.group_monitors.proofs.Fetched.{stays_last, becomes_last}
+use proofs.Found.{at_most, AtMost, found_added, found_dropped, found_moved, found_removed}
+use proofs.Found.{free_not_found, greater_free, moved_at_most, none_found, none_numbered}
+use proofs.Found.{numbered_last, numbers_stay, one_more}
+use proofs.Fetched.{becomes_last, stays_last}
+use Rattle.policy_audit.specs.declared.event.Event.TheVariants as event
 
 -- an Updates of the seat's monitor k
 abbrev is_update : ℕ → ℕ → ℕ → Event → Bool

@@ -1,14 +1,13 @@
 -- Which monitor a seat has under a number, by a look-up and once monitors are added, taken away and
 -- moved; and the numbers themselves.
-use Rattle.group_monitors.proofs.Words.{◌≡◌, ◌≢◌, refl, ℕ, cond, nat_eq, ◌&&◌, ◌==◌, ◌++◌, List, []}
-use Rattle.group_monitors.proofs.Words.{◌∷◌, Some, None, arith, keys_of, lookup, set_value}
-use Rattle.group_monitors.proofs.Words.{remove_entry, IsDistinct, option_map, option_and_then}
-use Rattle.group_monitors.proofs.Words.{IsDistinct-tail, nat_tests, same, Monitor, monitor_of}
-use Rattle.group_monitors.proofs.Words.{IsFree, IsNumbered, without, without_scope, with_place}
-use Rattle.group_monitors.proofs.Words.{at_place, suc, ◌<◌, ◌≤◌, false, AllByRecursion}
-use Rattle.group_monitors.proofs.Words.{IsDistinct-head, IsDistinct-cons, past}
+use Rattle.group_monitors.proofs
+use proofs.Words.{AllByRecursion, arith, at_place, cond, false, IsDistinct, IsDistinct-cons}
+use proofs.Words.{IsDistinct-head, IsDistinct-tail, IsFree, IsNumbered, keys_of, List, lookup}
+use proofs.Words.{Monitor, monitor_of, nat_eq, nat_tests, None, option_and_then, option_map, past}
+use proofs.Words.{refl, remove_entry, same, set_value, Some, suc, with_place, without}
+use proofs.Words.{without_scope, ℕ, [], ◌&&◌, ◌++◌, ◌<◌, ◌==◌, ◌∷◌, ◌≡◌, ◌≢◌, ◌≤◌}
 use Rattle.std.specs.Cmp.{nat_eq_equiv}
-use Rattle.std.proofs.lemmas.Map.{NonePasses, none_passes_from_lookup}
+use Rattle.std.proofs.lemmas.Map.{none_passes_from_lookup, NonePasses}
 use Rattle.std.proofs.lemmas.Map.Entries.{none_past_head}
 
 -- no seat has a number that no monitor has

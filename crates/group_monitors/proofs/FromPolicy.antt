@@ -1,12 +1,12 @@
 -- What monitors that follow the policy say of its answers.
-use Rattle.group_monitors.proofs.Words.{◌≡◌, ◌∙◌, sym, ap, refl, ℕ, List, Some, None, length, ◌≤◌}
-use Rattle.group_monitors.proofs.Words.{arith, IsSome, option_map, Entry, Update, History, monitor}
-use Rattle.group_monitors.proofs.Words.{updates, Monitor, target, monitor_of, HasSeen}
-use Rattle.group_monitors.proofs.Words.{updates_behind, FollowsPolicy, audit_of, audited}
+use Rattle.group_monitors.proofs
+use proofs.Words.{ap, arith, audit_of, audited, Entry, FollowsPolicy, HasSeen, History, IsSome}
+use proofs.Words.{length, List, Monitor, monitor, monitor_of, None, option_map, refl, Some, sym}
+use proofs.Words.{target, Update, updates, updates_behind, ℕ, ◌∙◌, ◌≡◌, ◌≤◌}
+use Rattle.policy_audit.specs.Checks.{checks, first_broken}
+use proofs.Fetched.{answered, seen_all}
 use Rattle.policy_audit.specs.declared.event.Event.TheVariants as event
 use Rattle.policy_audit.specs.declared.rule.Rule.TheVariants as rule
-use Rattle.policy_audit.specs.Checks.{first_broken, checks}
-use Rattle.group_monitors.proofs.Fetched.{answered, seen_all}
 
 module _ (h : History) (ms : List (ℕ × Monitor)) (f : FollowsPolicy (audit_of h) ms)
     (seat k : ℕ) where

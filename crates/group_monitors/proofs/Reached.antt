@@ -1,17 +1,16 @@
 -- What monitors have still to be told stays kept.
-use Rattle.group_monitors.proofs.Words.{◌≡◌, ◌∙◌, sym, ap, ℕ, ◌≤◌, List, ◌∷◌, [], Some, true}
-use Rattle.group_monitors.proofs.Words.{length, arith}
-use Rattle.group_monitors.proofs.Words.{inl, inr, ◌⊎◌, cases_lt, nat_tests, option_map, Entry, History}
-use Rattle.group_monitors.proofs.Words.{Monitor, target, monitor_of, FollowsPolicy, Target}
-use Rattle.group_monitors.proofs.Words.{Option, None, refl}
-use Rattle.group_monitors.proofs.Words.{IsDistinct-tail, IsNumbered, keys_of, nat_eq}
-use Rattle.group_monitors.proofs.Found.{later_found}
+use Rattle.group_monitors.proofs
+use proofs.Words.{ap, arith, cases_lt, Entry, FollowsPolicy, History, inl, inr, IsDistinct-tail}
+use proofs.Words.{IsNumbered, keys_of, length, List, Monitor, monitor_of, nat_eq, nat_tests, None}
+use proofs.Words.{Option, option_map, refl, Some, sym, Target, target, true, ℕ, [], ◌∙◌, ◌∷◌, ◌≡◌}
+use proofs.Words.{◌≤◌, ◌⊎◌}
+use proofs.Found.{later_found}
 use Rattle.std.specs.Bool.{nat_le}
 use Rattle.std.specs.List.{list_all}
-use Rattle.policy_audit.specs.History.{present, is_accepted}
-use Rattle.policy_audit.specs.Monitors.{watched, monitor_in}
+use Rattle.policy_audit.specs.History.{is_accepted, present}
+use Rattle.policy_audit.specs.Monitors.{monitor_in, watched}
 use Rattle.group_monitors.specs.Follows.{Reaches}
-use Rattle.group_monitors.proofs.Fetched.{last_before, last_once}
+use proofs.Fetched.{last_before, last_once}
 
 -- the monitor was there before the entry, or is made by it
 came : (seat k : ℕ) (t : Target) (e : Entry) (es : List Entry)

@@ -1,6 +1,7 @@
 -- Entries that changed no rows tell nothing.
-use Rattle.group_monitors.proofs.Words.{◌≡◌, List, [], ◌∷◌, refl, arith, flat_map, filter, Entry}
-use Rattle.group_monitors.proofs.Words.{Target, updates_of, changes_rows}
+use Rattle.group_monitors.proofs
+use proofs.Words.{arith, changes_rows, Entry, filter, flat_map, List, refl, Target, updates_of, []}
+use proofs.Words.{◌∷◌, ◌≡◌}
 
 pub changing_tell : (t : Target) (es : List Entry)
     → flat_map (λ e. updates_of t e.change) (filter changes_rows es) ≡ flat_map

@@ -1,6 +1,6 @@
 -- What a reader found stands behind `Ok`.
-use Rattle.std.proofs.Common.{◌≡◌, Option, Some, None, refl, sym}
-use Rattle.std.specs.Option.{IsSomeAnd, IfSome, ok_or}
+use Rattle.std.proofs.Common.{None, Option, refl, Some, sym, ◌≡◌}
+use Rattle.std.specs.Option.{IfSome, IsSomeAnd, ok_or}
 use Rattle.std.specs.Result.{IsOkAnd, MatchResult}
 
 -- what a value has, it has behind `Ok`

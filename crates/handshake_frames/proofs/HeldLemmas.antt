@@ -1,13 +1,14 @@
 -- What a call makes of what a reader holds.
-use Rattle.std.proofs.Common.{◌≡◌, ℕ, ◌+◌, ◌-◌, ◌≤◌, ◌<◌, ◌^◌, List, [], ◌++◌, length, take, Option}
-use Rattle.std.proofs.Common.{Some, None, sym, ap, ◌∙◌, arith, length-append}
-use Rattle.std.specs.Int.{w16, to_be_bytes}
+use Rattle.handshake_frames.specs
+use Rattle.std.proofs.Common.{ap, arith, length, length-append, List, None, Option, Some, sym, take}
+use Rattle.std.proofs.Common.{ℕ, [], ◌++◌, ◌+◌, ◌-◌, ◌<◌, ◌^◌, ◌∙◌, ◌≡◌, ◌≤◌}
+use Rattle.std.specs.Int.{to_be_bytes, w16}
 use Rattle.std.specs.Option.{option_to_list}
 use Rattle.std.proofs.Math.Seq.{take-append-add}
 use Rattle.std.proofs.lemmas.List.{length-take}
-use Rattle.handshake_frames.specs.BodySoFar.{BodySoFar, whole_len, Adds}
-use Rattle.handshake_frames.specs.Held.{Takes}
-use Rattle.handshake_frames.specs.declared.held.Held.TheVariants.{Length, Body}
+use specs.BodySoFar.{Adds, BodySoFar, whole_len}
+use specs.Held.{Takes}
+use specs.declared.held.Held.TheVariants.{Body, Length}
 
 -- a body stays as long as its length says
 pub same_len : (old new : BodySoFar) (piece : List ℕ) (used : ℕ) → Adds old piece used new

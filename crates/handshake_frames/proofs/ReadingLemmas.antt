@@ -1,29 +1,26 @@
 -- A reader gives a frame exactly where the body spells it.
-use Rattle.std.proofs.Common.{◌≡◌, ℕ, ◌<◌, ◌^◌, ◌&&◌, Bool, true, false, cond, eqb, List, [], ◌∷◌}
-use Rattle.std.proofs.Common.{◌++◌, length, take, drop, Some, None, sym, ap, subst, refl, ◌∙◌}
-use Rattle.std.proofs.Common.{arith}
-use Rattle.std.specs.Int.{w16, from_be_bytes}
-use Rattle.std.specs.List.{starts_with, find}
+use Rattle.handshake_frames.specs
+use Rattle.std.proofs.Common.{ap, arith, Bool, cond, drop, eqb, false, length, List, None, refl}
+use Rattle.std.proofs.Common.{Some, subst, sym, take, true, ℕ, [], ◌&&◌, ◌++◌, ◌<◌, ◌^◌, ◌∙◌, ◌∷◌}
+use Rattle.std.proofs.Common.{◌≡◌}
+use Rattle.std.specs.Int.{from_be_bytes, w16}
+use Rattle.std.specs.List.{find, starts_with}
 use Rattle.std.specs.Str.{bytes_eq}
-use Rattle.std.proofs.lemmas.Bool.{and_parts, and_from}
+use Rattle.std.proofs.lemmas.Bool.{and_from, and_parts}
 use Rattle.std.proofs.lemmas.Bool.Decides.{Decides-eqb}
-use Rattle.std.proofs.lemmas.Slice.Eq.{starts_is, bytes_eq-Decides}
+use Rattle.std.proofs.lemmas.Slice.Eq.{bytes_eq-Decides, starts_is}
 use Rattle.std.proofs.lemmas.Nat.{from_be_bytes-to_be_bytes_2, from_be_bytes-to_be_bytes_4}
 use Rattle.std.proofs.lemmas.Nat.{from_be_bytes-to_be_bytes_8}
-use Rattle.std.proofs.lemmas.List.{take_at, drop_at, length-take}
-use Rattle.handshake_frames.specs.declared.frame.StatusWord.{StatusWord}
-use Rattle.handshake_frames.specs.declared.frame.ReplyFrame.{ReplyFrame}
-use Rattle.handshake_frames.specs.declared.frame.AckFrame.{AckFrame}
-use Rattle.handshake_frames.specs.Frame.{Name, Challenge}
-use Rattle.handshake_frames.specs.Spelling.{counted, IsVersion, version_bytes, version_of}
-use Rattle.handshake_frames.specs.Spelling.{status_bytes, name_head, NameFits, SpellsName}
-use Rattle.handshake_frames.specs.Spelling.{SpellsStatus, challenge_head, ChallengeFits}
-use Rattle.handshake_frames.specs.Spelling.{SpellsChallenge, reply_bytes, SpellsReply, ack_bytes}
-use Rattle.handshake_frames.specs.Spelling.{SpellsAck}
-use Rattle.handshake_frames.specs.Reading.{counted_in, behind_counted, name_in, name_frame}
-use Rattle.handshake_frames.specs.Reading.{words, status_of}
-use Rattle.handshake_frames.specs.Reading.{challenge_in, challenge_frame, reply_in, reply_frame}
-use Rattle.handshake_frames.specs.Reading.{ack_in, ack_frame}
+use Rattle.std.proofs.lemmas.List.{drop_at, length-take, take_at}
+use specs.declared.frame.StatusWord.{StatusWord}
+use specs.declared.frame.ReplyFrame.{ReplyFrame}
+use specs.declared.frame.AckFrame.{AckFrame}
+use specs.Frame.{Challenge, Name}
+use specs.Spelling.{ack_bytes, challenge_head, ChallengeFits, counted, IsVersion, name_head}
+use specs.Spelling.{NameFits, reply_bytes, SpellsAck, SpellsChallenge, SpellsName, SpellsReply}
+use specs.Spelling.{SpellsStatus, status_bytes, version_bytes, version_of}
+use specs.Reading.{ack_frame, ack_in, behind_counted, challenge_frame, challenge_in, counted_in}
+use specs.Reading.{name_frame, name_in, reply_frame, reply_in, status_of, words}
 
 -- ---- tests
 

@@ -1,9 +1,9 @@
 -- The worked bodies of the frames are read as what they say.
-use Rattle.std.proofs.Common.{◌≡◌, List, ℕ, [], ◌∷◌, ◌++◌, Some, refl, codes}
-use Rattle.handshake_frames.specs.declared.frame.StatusWord.TheVariants as word
-use Rattle.handshake_frames.specs.Frame.{Name}
-use Rattle.handshake_frames.specs.Reading.{name_frame, status_of, challenge_frame, reply_frame}
-use Rattle.handshake_frames.specs.Reading.{ack_frame}
+use Rattle.handshake_frames.specs
+use Rattle.std.proofs.Common.{codes, List, refl, Some, ℕ, [], ◌++◌, ◌∷◌, ◌≡◌}
+use specs.Frame.{Name}
+use specs.Reading.{ack_frame, challenge_frame, name_frame, reply_frame, status_of}
+use specs.declared.frame.StatusWord.TheVariants as word
 
 -- the flags of bits 0 and 24, the creation 5, and `a@h`
 head : List ℕ

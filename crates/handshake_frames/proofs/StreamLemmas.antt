@@ -1,18 +1,18 @@
 -- The bodies of a stream and its rest, for a length of any width that is read as it was written.
-use Rattle.std.proofs.Common.{◌≡◌, ℕ, zero, suc, ◌+◌, ◌<◌, ◌^◌, List, [], ◌∷◌, ◌++◌, length, take}
-use Rattle.std.proofs.Common.{Option, Some, None, refl, sym, ap, ◌∙◌, arith, append_assoc}
-use Rattle.std.proofs.Common.{append-nil, length-append}
-use Rattle.std.specs.Int.{Width, w16, byte_len, to_be_bytes, from_be_bytes, bytes_high_first}
+use Rattle.handshake_frames.specs
+use Rattle.std.proofs.Common.{ap, append-nil, append_assoc, arith, length, length-append, List}
+use Rattle.std.proofs.Common.{None, Option, refl, Some, suc, sym, take, zero, ℕ, [], ◌++◌, ◌+◌, ◌<◌}
+use Rattle.std.proofs.Common.{◌^◌, ◌∙◌, ◌∷◌, ◌≡◌}
+use Rattle.std.specs.Int.{byte_len, bytes_high_first, from_be_bytes, to_be_bytes, w16, Width}
 use Rattle.std.specs.List.{flat_map}
 use Rattle.std.specs.Option.{option_to_list}
 use Rattle.std.proofs.Math.Seq.{take-length}
 use Rattle.std.proofs.lemmas.Grind.{flat_map-append}
 use Rattle.std.proofs.lemmas.Nat.{from_be_bytes-to_be_bytes_2}
-use Rattle.std.proofs.lemmas.List.{take_at, append_cancel_left}
-use Rattle.std.proofs.lemmas.List.Elements.{All-nil, All-cons, All-tail, All-append}
-use Rattle.handshake_frames.specs.Spelling.{counted}
-use Rattle.handshake_frames.specs.Stream.{FitsLength, IsPartial, Splits, IsFed, Call, AreFed}
-use Rattle.handshake_frames.specs.Stream.{stream_of, bodies_of}
+use Rattle.std.proofs.lemmas.List.{append_cancel_left, take_at}
+use Rattle.std.proofs.lemmas.List.Elements.{All-append, All-cons, All-nil, All-tail}
+use specs.Spelling.{counted}
+use specs.Stream.{AreFed, bodies_of, Call, FitsLength, IsFed, IsPartial, Splits, stream_of}
 
 length-bytes_high_first : (k n : ℕ) → length (bytes_high_first k n) ≡ k
 length-bytes_high_first zero n = refl

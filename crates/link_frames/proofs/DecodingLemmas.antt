@@ -1,16 +1,16 @@
 -- What a decoder may answer, by what the body spells and what readers of fields found.
-use Rattle.link_frames.proofs.Words.{◌≡◌, Option, Some, None, Ok, Err, IfSome, IsSomeAnd, ok_or, ℕ}
-use Rattle.link_frames.proofs.Words.{◌<◌, List, [], ◌∷◌, ◌++◌, length, get_or, drop, Result, refl}
-use Rattle.link_frames.proofs.Words.{sym, ap, ◌∙◌, append-nil, arith, Row, Message, text_bytes}
-use Rattle.link_frames.proofs.Words.{rows_bytes, message_bytes, AreRows, SpellsMessage, behind_text}
-use Rattle.link_frames.proofs.Words.{message}
+use Rattle.link_frames.proofs
+use Rattle.link_frames.specs
+use proofs.Words.{ap, append-nil, AreRows, arith, behind_text, drop, Err, get_or, IfSome, IsSomeAnd}
+use proofs.Words.{length, List, Message, message, message_bytes, None, Ok, ok_or, Option, refl}
+use proofs.Words.{Result, Row, rows_bytes, Some, SpellsMessage, sym, text_bytes, ℕ, [], ◌++◌, ◌<◌}
+use proofs.Words.{◌∙◌, ◌∷◌, ◌≡◌}
 use Rattle.std.specs.Result.{IfOk, MatchResult}
 use Rattle.dist_types.specs.Text.{IsText}
-use Rattle.link_frames.specs.declared.fault.MessageFault.{MessageFault}
-use Rattle.link_frames.specs.declared.fault.MessageFault.TheVariants as faults
-use Rattle.link_frames.specs.declared.message.Message.TheVariants as messages
-use Rattle.link_frames.proofs.ReadingLemmas.{behind_text-text_bytes, message-spelled}
-use Rattle.link_frames.proofs.ReadingLemmas.{SpellsMessage-read}
+use specs.declared.fault.MessageFault.{MessageFault}
+use proofs.ReadingLemmas.{behind_text-text_bytes, message-spelled, SpellsMessage-read}
+use specs.declared.fault.MessageFault.TheVariants as faults
+use specs.declared.message.Message.TheVariants as messages
 
 -- a field that is found is not refused
 pub found_not_refused : {T E : Type 0} (o : Option T) (P : T → Type 0) (e f : E) → IsSomeAnd o P

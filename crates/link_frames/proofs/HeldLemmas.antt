@@ -1,14 +1,15 @@
 -- What a call makes of what a reader holds.
-use Rattle.link_frames.proofs.Words.{◌≡◌, ◌<◌, ◌≤◌, ◌+◌, ◌-◌, ◌++◌, ℕ, List, [], length, take, ap}
-use Rattle.link_frames.proofs.Words.{sym, refl, ◌∙◌, arith, append_assoc, w32, to_be_bytes}
-use Rattle.link_frames.proofs.Words.{max_body, ticks, ComesTooLong}
-use Rattle.link_frames.proofs.LinkLemmas.{length_not_too_long}
+use Rattle.link_frames.proofs
+use Rattle.link_frames.specs
+use proofs.Words.{ap, append_assoc, arith, ComesTooLong, length, List, max_body, refl, sym, take}
+use proofs.Words.{ticks, to_be_bytes, w32, ℕ, [], ◌++◌, ◌+◌, ◌-◌, ◌<◌, ◌∙◌, ◌≡◌, ◌≤◌}
+use proofs.LinkLemmas.{length_not_too_long}
 use Rattle.std.proofs.Math.Seq.{take-length}
 use Rattle.handshake_frames.proofs.HeldLemmas.{same_len, used_behind}
-use Rattle.handshake_frames.specs.BodySoFar.{BodySoFar, whole_len, bytes_so_far, Adds}
-use Rattle.link_frames.specs.Held.{held_bytes, IsHeld, Takes}
-use Rattle.link_frames.specs.declared.held.Held.{Held}
-use Rattle.link_frames.specs.declared.held.Held.TheVariants.{Length, Body}
+use Rattle.handshake_frames.specs.BodySoFar.{Adds, BodySoFar, bytes_so_far, whole_len}
+use specs.Held.{held_bytes, IsHeld, Takes}
+use specs.declared.held.Held.{Held}
+use specs.declared.held.Held.TheVariants.{Body, Length}
 
 -- a body goes on
 pub body_goes_on : (old new : BodySoFar) (piece : List ℕ) (used : ℕ) → IsHeld (Body old)

@@ -1,17 +1,16 @@
 -- Ticks and bodies of a stream, and its rest, however it is cut.
-use Rattle.link_frames.proofs.Words.{◌≡◌, ◌≢◌, ℕ, zero, suc, ◌+◌, ◌<◌, ◌≤◌, ◌^◌, List, [], ◌∷◌}
-use Rattle.link_frames.proofs.Words.{◌++◌, length, take, drop, filter, replicate, All, Option, Some}
-use Rattle.link_frames.proofs.Words.{None, refl, sym, ap, ◌∙◌, subst, arith, append_assoc}
-use Rattle.link_frames.proofs.Words.{append-nil, w32, to_be_bytes, from_be_bytes, flat_map}
-use Rattle.link_frames.proofs.Words.{option_to_list, flat_map-append, from_be_bytes-to_be_bytes_4}
-use Rattle.link_frames.proofs.Words.{drop_at, take-append-drop, filter-append, All-append, All-nil}
-use Rattle.link_frames.proofs.Words.{All-cons, All-replicate, All-head, All-tail, counted}
-use Rattle.link_frames.proofs.Words.{FitsLength, IsPartial, Splits, Call, stream_of, bodies_of}
-use Rattle.link_frames.proofs.Words.{max_body, ticks, BeginsTooLong, IsRest, IsFed, ComesTooLong}
-use Rattle.link_frames.proofs.Words.{is_body, SplitsLink, AreFed}
+use Rattle.link_frames.proofs
+use proofs.Words.{All, All-append, All-cons, All-head, All-nil, All-replicate, All-tail, ap}
+use proofs.Words.{append-nil, append_assoc, AreFed, arith, BeginsTooLong, bodies_of, Call}
+use proofs.Words.{ComesTooLong, counted, drop, drop_at, filter, filter-append, FitsLength, flat_map}
+use proofs.Words.{flat_map-append, from_be_bytes, from_be_bytes-to_be_bytes_4, is_body, IsFed}
+use proofs.Words.{IsPartial, IsRest, length, List, max_body, None, Option, option_to_list, refl}
+use proofs.Words.{replicate, Some, Splits, SplitsLink, stream_of, subst, suc, sym, take}
+use proofs.Words.{take-append-drop, ticks, to_be_bytes, w32, zero, ℕ, [], ◌++◌, ◌+◌, ◌<◌, ◌^◌, ◌∙◌}
+use proofs.Words.{◌∷◌, ◌≡◌, ◌≢◌, ◌≤◌}
 use Rattle.std.proofs.Math.Seq.{take-length}
-use Rattle.handshake_frames.proofs.StreamLemmas.{Reads, length-counted, IsPartial-empty}
-use Rattle.handshake_frames.proofs.StreamLemmas.{one_reading}
+use Rattle.handshake_frames.proofs.StreamLemmas.{IsPartial-empty, length-counted, one_reading}
+use Rattle.handshake_frames.proofs.StreamLemmas.{Reads}
 
 reads_32 : Reads w32
 reads_32 = record { wide = omega arith; back = from_be_bytes-to_be_bytes_4 }

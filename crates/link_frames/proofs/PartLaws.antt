@@ -1,25 +1,24 @@
 -- What the parts of a message make of it where they come in their order.
-use Rattle.dist_types.specs.Listing.{max_rows}
-use Rattle.link_frames.proofs.Words.{◌≡◌, ℕ, zero, suc, ◌+◌, ◌-◌, ◌*◌, ◌<◌, ◌≤◌, ◌^◌, ◌&&◌, ◌==◌}
-use Rattle.link_frames.proofs.Words.{Bool, true, false, cond, List, [], ◌∷◌, ◌++◌, length, take}
-use Rattle.link_frames.proofs.Words.{drop, Option, Some, None, All, All-cons, All-nil, refl, sym}
-use Rattle.link_frames.proofs.Words.{subst, ap, ◌∙◌, rules, arith, append_assoc, take-append-drop}
-use Rattle.link_frames.proofs.Words.{text_bytes, Row, IsRow, AreRows, Message}
-use Rattle.std.specs.Prelude.{⊤, ◌/◌, ◌%◌, map}
-use Rattle.std.proofs.lemmas.List.{length-take-le, length-drop}
-use Rattle.std.proofs.lemmas.List.Elements.{All-take, All-drop}
+use Rattle.link_frames.proofs
+use Rattle.link_frames.specs
+use Rattle.dist_types.specs.Listing.{max_rows, same}
+use proofs.Words.{All, All-cons, All-nil, ap, append_assoc, AreRows, arith, Bool, cond, drop, false}
+use proofs.Words.{IsRow, length, List, Message, None, Option, refl, Row, rules, Some, subst, suc}
+use proofs.Words.{sym, take, take-append-drop, text_bytes, true, zero, ℕ, [], ◌&&◌, ◌*◌, ◌++◌, ◌+◌}
+use proofs.Words.{◌-◌, ◌<◌, ◌==◌, ◌^◌, ◌∙◌, ◌∷◌, ◌≡◌, ◌≤◌}
+use Rattle.std.specs.Prelude.{map, ⊤, ◌%◌, ◌/◌}
+use Rattle.std.proofs.lemmas.List.{length-drop, length-take-le}
+use Rattle.std.proofs.lemmas.List.Elements.{All-drop, All-take}
 use Rattle.dist_types.specs.Text.{IsText}
-use Rattle.dist_types.specs.Listing.{same}
-use Rattle.link_frames.specs.declared.message.Message.TheVariants as messages
-use Rattle.link_frames.specs.declared.part.PartKind.{PartKind}
-use Rattle.link_frames.specs.declared.part.PartKind.TheVariants as kinds
-use Rattle.link_frames.specs.declared.part.Message2.{Message2}
-use Rattle.link_frames.specs.declared.part.Message2.TheVariants as frames
-use Rattle.link_frames.specs.Parts.{kind_byte, part_bytes, message2_bytes, HasSome, HasParts}
-use Rattle.link_frames.specs.Parts.{AreWritten, IsPart, IsMessage2, message_of, whole, before_last}
-use Rattle.link_frames.specs.Parts.{parts_from, parts, Begun, follows, is_next, rows_before}
-use Rattle.link_frames.specs.Parts.{rows_so_far, completed, begun_after, completed_by, begun_by}
-use Rattle.link_frames.specs.Parts.{may_come, MayCome}
+use specs.declared.part.PartKind.{PartKind}
+use specs.declared.part.Message2.{Message2}
+use specs.Parts.{AreWritten, before_last, Begun, begun_after, begun_by, completed, completed_by}
+use specs.Parts.{follows, HasParts, HasSome, is_next, IsMessage2, IsPart, kind_byte, may_come}
+use specs.Parts.{MayCome, message2_bytes, message_of, part_bytes, parts, parts_from, rows_before}
+use specs.Parts.{rows_so_far, whole}
+use specs.declared.message.Message.TheVariants as messages
+use specs.declared.part.PartKind.TheVariants as kinds
+use specs.declared.part.Message2.TheVariants as frames
 
 -- what is kept of a message behind its part of that number
 abbrev pub kept : PartKind → List ℕ → ℕ → List Row → Option Begun

@@ -1,14 +1,14 @@
 -- The reader of version 2 gives a message exactly where the body spells it, and what parts make of
 -- a message.
-use Rattle.link_frames.proofs.Words.{◌≡◌, ◌↔◌, ℕ, zero, suc, ◌+◌, ◌-◌, ◌<◌, ◌≤◌, ◌^◌, ◌&&◌, ◌==◌}
-use Rattle.link_frames.proofs.Words.{Bool, true, false, cond, subst, nat_lt, nat_le, IsTrue, List}
-use Rattle.link_frames.proofs.Words.{[], ◌∷◌, ◌++◌, length, take, drop, get_or, Option, Some, None}
-use Rattle.link_frames.proofs.Words.{All, refl, sym, ap, ◌∙◌, rules, arith, append_assoc}
-use Rattle.link_frames.proofs.Words.{append-nil, w32, to_be_bytes, from_be_bytes, and_parts}
-use Rattle.link_frames.proofs.Words.{and_from, Decides-and, from_be_bytes-to_be_bytes_4, take_at}
-use Rattle.link_frames.proofs.Words.{take_all, drop_at, Row, text_bytes, rows_bytes, AreRows}
-use Rattle.link_frames.proofs.Words.{text_in, behind_text, counted_rows_in, are_rows, length-append}
-use Rattle.link_frames.proofs.Words.{max_body, Message, Ok, Err, Result, take-append-drop}
+use Rattle.link_frames.proofs
+use Rattle.link_frames.specs
+use proofs.Words.{All, and_from, and_parts, ap, append-nil, append_assoc, are_rows, AreRows, arith}
+use proofs.Words.{behind_text, Bool, cond, counted_rows_in, Decides-and, drop, drop_at, Err, false}
+use proofs.Words.{from_be_bytes, from_be_bytes-to_be_bytes_4, get_or, IsTrue, length, length-append}
+use proofs.Words.{List, max_body, Message, nat_le, nat_lt, None, Ok, Option, refl, Result, Row}
+use proofs.Words.{rows_bytes, rules, Some, subst, suc, sym, take, take-append-drop, take_all}
+use proofs.Words.{take_at, text_bytes, text_in, to_be_bytes, true, w32, zero, ℕ, [], ◌&&◌, ◌++◌}
+use proofs.Words.{◌+◌, ◌-◌, ◌<◌, ◌==◌, ◌^◌, ◌↔◌, ◌∙◌, ◌∷◌, ◌≡◌, ◌≤◌}
 use Rattle.std.specs.Prelude.{⊤, ◌/◌}
 use Rattle.std.specs.Str.{bytes_eq}
 use Rattle.std.specs.Result.{IfOk, MatchResult}
@@ -16,20 +16,19 @@ use Rattle.std.proofs.lemmas.Slice.Eq.{bytes_eq-Decides}
 use Rattle.dist_types.specs.Text.{IsText}
 use Rattle.dist_types.proofs.LimitLemmas.{texts_compute}
 use Rattle.handshake_frames.proofs.ReadingLemmas.{found_passes}
-use Rattle.link_frames.specs.declared.fault.MessageFault.{MessageFault}
-use Rattle.link_frames.specs.declared.fault.MessageFault.TheVariants as faults
-use Rattle.link_frames.specs.declared.message.Message.TheVariants as messages
-use Rattle.link_frames.specs.declared.part.PartKind.{PartKind}
-use Rattle.link_frames.specs.declared.part.PartKind.TheVariants as kinds
-use Rattle.link_frames.specs.declared.part.Message2.{Message2}
-use Rattle.link_frames.specs.declared.part.Message2.TheVariants as frames
-use Rattle.link_frames.specs.Parts.{kind_byte, last_byte, part_bytes, message2_bytes, HasSome}
-use Rattle.link_frames.specs.Parts.{IsPart, IsMessage2, SpellsMessage2}
-use Rattle.link_frames.specs.PartReading.{has_some, is_message2, part_in, messages2_in}
-unfoldable use Rattle.link_frames.specs.PartReading.{message2}
-use Rattle.link_frames.proofs.ReadingLemmas.{below, at_most, rows_compute, text_in-text_bytes}
-use Rattle.link_frames.proofs.ReadingLemmas.{behind_text-text_bytes, text_alone}
-use Rattle.link_frames.proofs.ReadingLemmas.{counted_rows_in-rows_bytes, rows_within}
+use specs.declared.fault.MessageFault.{MessageFault}
+use specs.declared.part.PartKind.{PartKind}
+use specs.declared.part.Message2.{Message2}
+use specs.Parts.{HasSome, IsMessage2, IsPart, kind_byte, last_byte, message2_bytes, part_bytes}
+use specs.Parts.{SpellsMessage2}
+use specs.PartReading.{has_some, is_message2, messages2_in, part_in}
+unfoldable use specs.PartReading.{message2}
+use proofs.ReadingLemmas.{at_most, behind_text-text_bytes, below, counted_rows_in-rows_bytes}
+use proofs.ReadingLemmas.{rows_compute, rows_within, text_alone, text_in-text_bytes}
+use specs.declared.fault.MessageFault.TheVariants as faults
+use specs.declared.message.Message.TheVariants as messages
+use specs.declared.part.PartKind.TheVariants as kinds
+use specs.declared.part.Message2.TheVariants as frames
 
 -- ---- the limits as tests
 

@@ -1,22 +1,21 @@
 -- Parts that stand right behind one another, and an end that accepts some of them.
-use Rattle.dist_types.specs.Listing.{max_rows}
-use Rattle.link_frames.proofs.Words.{◌≡◌, ℕ, zero, suc, ◌==◌, Bool, true, false, cond, List, []}
-use Rattle.link_frames.proofs.Words.{◌∷◌, ◌++◌, Option, Some, None, refl, sym, subst, ap, ◌∙◌}
-use Rattle.link_frames.proofs.Words.{rules, arith, append-nil, append_assoc, Row, Message, inl, inr}
-use Rattle.link_frames.proofs.Words.{take, drop}
-use Rattle.std.specs.Prelude.{◌⊎◌, ⊤}
+use Rattle.link_frames.proofs
+use Rattle.link_frames.specs
+use Rattle.dist_types.specs.Listing.{max_rows, same}
+use proofs.Words.{ap, append-nil, append_assoc, arith, Bool, cond, drop, false, inl, inr, List}
+use proofs.Words.{Message, None, Option, refl, Row, rules, Some, subst, suc, sym, take, true, zero}
+use proofs.Words.{ℕ, [], ◌++◌, ◌==◌, ◌∙◌, ◌∷◌, ◌≡◌}
+use Rattle.std.specs.Prelude.{⊤, ◌⊎◌}
 use Rattle.std.specs.Option.{option_map_or, option_to_list}
-use Rattle.dist_types.specs.Listing.{same}
-use Rattle.link_frames.specs.declared.message.Message.TheVariants as messages
-use Rattle.link_frames.specs.declared.part.PartKind.{PartKind}
-use Rattle.link_frames.specs.declared.part.PartKind.TheVariants as kinds
-use Rattle.link_frames.specs.declared.part.Message2.{Message2}
-use Rattle.link_frames.specs.declared.part.Message2.TheVariants as frames
-use Rattle.link_frames.specs.Parts.{kind_byte, message_of, before_last, parts_from, parts, Begun}
-use Rattle.link_frames.specs.Parts.{follows, is_next, rows_before, rows_so_far, completed}
-use Rattle.link_frames.specs.Parts.{completed_by, begun_by, begun_after, may_come, comes_next}
-use Rattle.link_frames.specs.Parts.{AreInOrder, KeepsOrNot}
-use Rattle.link_frames.proofs.PartLaws.{kept, so_far_later, parts_complete}
+use specs.declared.part.PartKind.{PartKind}
+use specs.declared.part.Message2.{Message2}
+use specs.Parts.{AreInOrder, before_last, Begun, begun_after, begun_by, comes_next, completed}
+use specs.Parts.{completed_by, follows, is_next, KeepsOrNot, kind_byte, may_come, message_of, parts}
+use specs.Parts.{parts_from, rows_before, rows_so_far}
+use proofs.PartLaws.{kept, parts_complete, so_far_later}
+use specs.declared.message.Message.TheVariants as messages
+use specs.declared.part.PartKind.TheVariants as kinds
+use specs.declared.part.Message2.TheVariants as frames
 
 follows_it : (kind : PartKind) (scope : List ℕ) (number : ℕ) (rows : List Row)
     → comes_next (kept kind scope (suc number) rows)

@@ -1,22 +1,20 @@
 -- The reader gives a message exactly where the body spells it, and how long a spelling is.
-use Rattle.link_frames.proofs.Words.{◌≡◌, ◌↔◌, ℕ, zero, suc, ◌<◌, ◌≤◌, ◌^◌, ◌&&◌, Bool, true, cond}
-use Rattle.link_frames.proofs.Words.{nat_lt, nat_le, IsTrue, List, [], ◌∷◌, ◌++◌, length, take}
-use Rattle.link_frames.proofs.Words.{drop, Some, All, refl, sym, ap, ◌∙◌, rules, arith}
-use Rattle.link_frames.proofs.Words.{append_assoc, w16, w32, w64, to_be_bytes, from_be_bytes}
-use Rattle.link_frames.proofs.Words.{flat_map, list_all, and_parts, and_from, Decides-and}
-use Rattle.link_frames.proofs.Words.{Decides-by_and, from_be_bytes-to_be_bytes_2}
-use Rattle.link_frames.proofs.Words.{from_be_bytes-to_be_bytes_4, from_be_bytes-to_be_bytes_8}
-use Rattle.link_frames.proofs.Words.{take_at, take_all, drop_at, append_cancel_left, All-head}
-use Rattle.link_frames.proofs.Words.{All-tail, Row, counted, Message, text_bytes, row_bytes}
-use Rattle.link_frames.proofs.Words.{rows_bytes, message_bytes, IsRow, AreRows, IsMessage}
-use Rattle.link_frames.proofs.Words.{SpellsMessage, text_in, behind_text, behind_name, row_in}
-use Rattle.link_frames.proofs.Words.{rows_in, counted_rows_in, is_row, are_rows, max_rows}
-use Rattle.link_frames.proofs.Words.{is_message, messages_in, message, ◌*◌, length-append, max_body}
+use Rattle.link_frames.proofs
+use proofs.Words.{All, All-head, All-tail, and_from, and_parts, ap, append_assoc}
+use proofs.Words.{append_cancel_left, are_rows, AreRows, arith, behind_name, behind_text, Bool}
+use proofs.Words.{cond, counted, counted_rows_in, Decides-and, Decides-by_and, drop, drop_at}
+use proofs.Words.{flat_map, from_be_bytes, from_be_bytes-to_be_bytes_2, from_be_bytes-to_be_bytes_4}
+use proofs.Words.{from_be_bytes-to_be_bytes_8, is_message, is_row, IsMessage, IsRow, IsTrue, length}
+use proofs.Words.{length-append, List, list_all, max_body, max_rows, Message, message}
+use proofs.Words.{message_bytes, messages_in, nat_le, nat_lt, refl, Row, row_bytes, row_in}
+use proofs.Words.{rows_bytes, rows_in, rules, Some, SpellsMessage, suc, sym, take, take_all}
+use proofs.Words.{take_at, text_bytes, text_in, to_be_bytes, true, w16, w32, w64, zero, ℕ, [], ◌&&◌}
+use proofs.Words.{◌*◌, ◌++◌, ◌<◌, ◌^◌, ◌↔◌, ◌∙◌, ◌∷◌, ◌≡◌, ◌≤◌}
 use Rattle.std.specs.Str.{bytes_eq}
 use Rattle.std.proofs.lemmas.Slice.Eq.{bytes_eq-Decides}
-use Rattle.dist_types.proofs.LimitLemmas.{texts_compute, names_compute}
+use Rattle.dist_types.proofs.LimitLemmas.{names_compute, texts_compute}
 use Rattle.handshake_frames.specs.Reading.{counted_in}
-use Rattle.handshake_frames.proofs.ReadingLemmas.{found_passes, counted_in-counted}
+use Rattle.handshake_frames.proofs.ReadingLemmas.{counted_in-counted, found_passes}
 use Rattle.link_frames.specs.declared.message.Message.TheVariants as messages
 
 -- ---- the limits as tests

@@ -1,5 +1,5 @@
 -- Worked bodies are read as what they say, and bodies that spell no message as none.
-use Rattle.link_frames.proofs.Words.{◌≡◌, List, ℕ, [], ◌∷◌, ◌++◌, Some, None, refl, codes, message}
+use Rattle.link_frames.proofs.Words.{codes, List, message, None, refl, Some, ℕ, [], ◌++◌, ◌∷◌, ◌≡◌}
 use Rattle.link_frames.specs.declared.message.Message.TheVariants as messages
 
 -- the scope `pg`, behind its length

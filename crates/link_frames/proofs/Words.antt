@@ -1,8 +1,9 @@
 -- The words that the proofs of this crate cite, passed on from one place.
-pub use Rattle.std.specs.Prelude.{All, List, [], length, ◌*◌, ◌∷◌, ◌≤◌}
-pub use Rattle.std.proofs.Common.{Bool, Err, IsTrue, None, Ok, Option, Result, Some, ap, append-nil}
-pub use Rattle.std.proofs.Common.{append_assoc, arith, codes, cond, drop, false, filter, get_or}
-pub use Rattle.std.proofs.Common.{inl, inr, length-append, nat_le, nat_lt, refl, replicate, rules}
+use Rattle.link_frames.specs
+pub use Rattle.std.specs.Prelude.{All, length, List, [], ◌*◌, ◌∷◌, ◌≤◌}
+pub use Rattle.std.proofs.Common.{ap, append-nil, append_assoc, arith, Bool, codes, cond, drop, Err}
+pub use Rattle.std.proofs.Common.{false, filter, get_or, inl, inr, IsTrue, length-append, nat_le}
+pub use Rattle.std.proofs.Common.{nat_lt, None, Ok, Option, refl, replicate, Result, rules, Some}
 pub use Rattle.std.proofs.Common.{subst, suc, sym, take, true, zero, ℕ, ◌&&◌, ◌++◌, ◌+◌, ◌-◌, ◌<◌}
 pub use Rattle.std.proofs.Common.{◌==◌, ◌^◌, ◌↔◌, ◌∙◌, ◌≡◌, ◌≢◌}
 pub use Rattle.std.proofs.lemmas.Bool.{and_from, and_parts}
@@ -21,13 +22,13 @@ pub use Rattle.std.specs.Option.{IfSome, IsSomeAnd, ok_or, option_to_list}
 pub use Rattle.dist_types.specs.Listing.{max_rows}
 pub use Rattle.dist_types.specs.declared.row.Row.{Row}
 pub use Rattle.handshake_frames.specs.Spelling.{counted}
-pub use Rattle.handshake_frames.specs.Stream.{Call, FitsLength, IsPartial, Splits, bodies_of}
+pub use Rattle.handshake_frames.specs.Stream.{bodies_of, Call, FitsLength, IsPartial, Splits}
 pub use Rattle.handshake_frames.specs.Stream.{stream_of}
-pub use Rattle.link_frames.specs.Reading.{are_rows, behind_name, behind_text, counted_rows_in}
-pub use Rattle.link_frames.specs.Reading.{is_message, is_row, messages_in, row_in, rows_in, text_in}
-unfoldable pub use Rattle.link_frames.specs.Reading.{message}
-pub use Rattle.link_frames.specs.Spelling.{AreRows, IsMessage, IsRow, SpellsMessage, message_bytes}
-pub use Rattle.link_frames.specs.Spelling.{row_bytes, rows_bytes, text_bytes}
-pub use Rattle.link_frames.specs.Stream.{AreFed, BeginsTooLong, ComesTooLong, IsFed, IsRest}
-pub use Rattle.link_frames.specs.Stream.{SplitsLink, is_body, max_body, ticks}
-pub use Rattle.link_frames.specs.declared.message.Message.{Message}
+pub use specs.Reading.{are_rows, behind_name, behind_text, counted_rows_in, is_message, is_row}
+pub use specs.Reading.{messages_in, row_in, rows_in, text_in}
+unfoldable pub use specs.Reading.{message}
+pub use specs.Spelling.{AreRows, IsMessage, IsRow, message_bytes, row_bytes, rows_bytes}
+pub use specs.Spelling.{SpellsMessage, text_bytes}
+pub use specs.Stream.{AreFed, BeginsTooLong, ComesTooLong, is_body, IsFed, IsRest, max_body}
+pub use specs.Stream.{SplitsLink, ticks}
+pub use specs.declared.message.Message.{Message}

@@ -1,13 +1,14 @@
 -- The test for an allowed name decides that the rules allow it.
-use Rattle.std.proofs.Common.{◌≡◌, ◌↔◌, IsTrue, ℕ, Bool, true, List, [], ◌∷◌, length, refl, ap}
-use Rattle.std.proofs.Common.{rules, arith}
+use Rattle.link_states.specs
+use Rattle.std.proofs.Common.{ap, arith, Bool, IsTrue, length, List, refl, rules, true, ℕ, [], ◌↔◌}
+use Rattle.std.proofs.Common.{◌∷◌, ◌≡◌}
 use Rattle.std.specs.Prelude.{◌==◌}
 use Rattle.std.specs.Bool.{Decides}
-use Rattle.std.proofs.lemmas.Bool.Decides.{same_from_decides, Decides-or}
+use Rattle.std.proofs.lemmas.Bool.Decides.{Decides-or, same_from_decides}
 use Rattle.admission_rules.specs.Admission.{AdmissionRules, IsAllowed}
-use Rattle.admission_rules.proofs.NameLists.{has_flipped, has_decides}
-use Rattle.link_states.specs.Pending.{has_name}
-use Rattle.link_states.specs.Checks.{allows}
+use Rattle.admission_rules.proofs.NameLists.{has_decides, has_flipped}
+use specs.Pending.{has_name}
+use specs.Checks.{allows}
 
 empty_decides : (names : List (List ℕ)) → Decides (length names == 0) (names ≡ [])
 empty_decides [] = (λ _. refl, λ _. refl)

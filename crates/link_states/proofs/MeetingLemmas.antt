@@ -1,6 +1,7 @@
 -- Each frame of one end breaks no rule at the other.
-use Rattle.std.proofs.Common.{◌≡◌, ◌≢◌, ℕ, ◌<◌, ◌≤◌, ◌^◌, Bool, true, false, List, [], ◌∷◌, length}
-use Rattle.std.proofs.Common.{Option, Some, refl, sym, ap, arith}
+use Rattle.link_states.specs
+use Rattle.std.proofs.Common.{ap, arith, Bool, false, length, List, Option, refl, Some, sym, true}
+use Rattle.std.proofs.Common.{ℕ, [], ◌<◌, ◌^◌, ◌∷◌, ◌≡◌, ◌≢◌, ◌≤◌}
 use Rattle.std.specs.Prelude.{bytes_eq}
 use Rattle.std.proofs.lemmas.Bool.{false_from_ne_true}
 use Rattle.std.proofs.lemmas.Slice.Eq.{bytes_eq-Decides}
@@ -8,23 +9,23 @@ use Rattle.md5.proofs.StandardFacts.{length-md5}
 use Rattle.dist_types.specs.Text.{is_node_name}
 use Rattle.dist_types.specs.Flags.{has_bit, own_flags}
 use Rattle.dist_types.proofs.LimitLemmas.{names_compute}
-use Rattle.handshake_frames.specs.Frame.{Name, Challenge}
+use Rattle.handshake_frames.specs.Frame.{Challenge, Name}
 use Rattle.handshake_frames.specs.declared.frame.ReplyFrame.{ReplyFrame}
 use Rattle.handshake_frames.specs.declared.frame.AckFrame.{AckFrame}
-use Rattle.handshake_frames.specs.Spelling.{name_bytes, challenge_bytes, reply_bytes, ack_bytes}
-use Rattle.handshake_frames.specs.Spelling.{ReplyFits, AckFits}
-use Rattle.handshake_frames.specs.Spelling.{IsVersion, version_bytes, version_of}
-use Rattle.handshake_frames.specs.Reading.{name_frame, challenge_frame, reply_frame, ack_frame}
-use Rattle.handshake_frames.proofs.ReadingLemmas.{name_frame-spelled, challenge_frame-spelled}
-use Rattle.handshake_frames.proofs.ReadingLemmas.{reply_frame-spelled, ack_frame-spelled}
+use Rattle.handshake_frames.specs.Spelling.{ack_bytes, AckFits, challenge_bytes, IsVersion}
+use Rattle.handshake_frames.specs.Spelling.{name_bytes, reply_bytes, ReplyFits, version_bytes}
+use Rattle.handshake_frames.specs.Spelling.{version_of}
+use Rattle.handshake_frames.specs.Reading.{ack_frame, challenge_frame, name_frame, reply_frame}
+use Rattle.handshake_frames.proofs.ReadingLemmas.{ack_frame-spelled, challenge_frame-spelled}
+use Rattle.handshake_frames.proofs.ReadingLemmas.{name_frame-spelled, reply_frame-spelled}
 use Rattle.cookie_digest.specs.Digest.{digest_of}
 use Rattle.admission_rules.specs.Admission.{AdmissionRules, cookie_of}
-use Rattle.link_states.specs.declared.pending.Pending.{Pending}
-use Rattle.link_states.specs.Checks.{PassesAll, name_checks, challenge_checks, reply_checks}
-use Rattle.link_states.specs.Checks.{ack_checks, allows, outranks, is_answer}
-use Rattle.link_states.specs.Frames.{own_name, own_challenge, reply_owed, ack_owed}
-use Rattle.link_states.specs.Meeting.{MayDial}
-use Rattle.link_states.specs.Peer.{link_version}
+use specs.declared.pending.Pending.{Pending}
+use specs.Checks.{ack_checks, allows, challenge_checks, is_answer, name_checks, outranks, PassesAll}
+use specs.Checks.{reply_checks}
+use specs.Frames.{ack_owed, own_challenge, own_name, reply_owed}
+use specs.Meeting.{MayDial}
+use specs.Peer.{link_version}
 use Rattle.link_states.proofs.AllowedLemmas.{allows_allowed}
 
 own_flags_fit : (hidden : Bool) → own_flags hidden < 2 ^ 64

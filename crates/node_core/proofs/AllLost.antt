@@ -1,17 +1,18 @@
 -- Links that end because too many frames wait for them: one end more, and one scope more.
-use Rattle.node_core.proofs.Words.{Bool, List, ap, append-nil, arith, cond, false, filter, not}
-use Rattle.node_core.proofs.Words.{refl, subst, sym, true, ℕ, [], ◌++◌, ◌∙◌, ◌∷◌, ◌≡◌}
-use Rattle.node_core.proofs.Words.{AllByRecursion, AllZip, filter_append, flat_map, list_any}
-use Rattle.node_core.proofs.Words.{count_after_drop, count_of, is_empty, same, without_number}
-use Rattle.node_core.proofs.Words.{Change, GroupChange, IsCutOff, IsDifference, IsProper, KeptLink}
-use Rattle.node_core.proofs.Words.{Running, Table}
+use Rattle.node_core.proofs
+use Rattle.node_core.specs
+use proofs.Words.{AllByRecursion, AllZip, ap, append-nil, arith, Bool, Change, cond}
+use proofs.Words.{count_after_drop, count_of, false, filter, filter_append, flat_map, GroupChange}
+use proofs.Words.{is_empty, IsCutOff, IsDifference, IsProper, KeptLink, List, list_any, not, refl}
+use proofs.Words.{Running, same, subst, sym, Table, true, without_number, ℕ, [], ◌++◌, ◌∙◌, ◌∷◌}
+use proofs.Words.{◌≡◌}
 use Rattle.std.proofs.lemmas.List.Concat.{flat_map-append}
 use Rattle.dist_types.proofs.Listings.{all_append}
 use Rattle.indexmap.proofs.SetLemmas.{AllZip-push}
 use Rattle.policy_audit.specs.Changes.{groups_in}
-use Rattle.node_core.specs.declared.slow.End.{End}
-use Rattle.node_core.specs.Ending.{ends_of, is_overfull, without_ends, AreCutAll, AreLostGroups}
-use Rattle.node_core.specs.Ending.{AreWithLost, IsLossOf}
+use specs.declared.slow.End.{End}
+use specs.Ending.{AreCutAll, AreLostGroups, AreWithLost, ends_of, is_overfull, IsLossOf}
+use specs.Ending.{without_ends}
 
 -- where too many frames wait for no link, none ends
 pub none_ends : (links : List KeptLink) → list_any is_overfull links ≡ false → ends_of links ≡ []

@@ -1,19 +1,17 @@
 -- What a call is answered: from the next entry, and from what follows it.
+use Rattle.node_core.proofs
 use Rattle.std.specs.Prelude.{IsErrAnd}
 use Rattle.std.proofs.lemmas.Result.{err_from_is_err_and}
-use Rattle.node_core.proofs.Words.{Err, List, Ok, Result, Some, false, refl, subst, sym, true, []}
-use Rattle.node_core.proofs.Words.{◌∙◌, ◌≡◌}
-use Rattle.node_core.proofs.Words.{IsAlone, IsNext, IsChange, IsLegal, checks, first_broken, just}
-use Rattle.node_core.proofs.Words.{with_entry, may_tell, Change}
-use Rattle.node_core.proofs.Words.{Accepted, Refused, Entry, Event, Reply, Rule, CoreFault}
-use Rattle.node_core.proofs.Words.{IsCalmFault, refuses_calmly, Follows}
-use Rattle.node_core.proofs.Words.{Answered, Answers, Call, IsCalled, Keeps, Kept, Says, parts}
-use Rattle.node_core.proofs.Words.{History}
+use proofs.Words.{Accepted, Answered, Answers, Call, Change, checks, CoreFault, Entry, Err, Event}
+use proofs.Words.{false, first_broken, Follows, History, IsAlone, IsCalled, IsCalmFault, IsChange}
+use proofs.Words.{IsLegal, IsNext, just, Keeps, Kept, List, may_tell, Ok, parts, refl, Refused}
+use proofs.Words.{refuses_calmly, Reply, Result, Rule, Says, Some, subst, sym, true, with_entry, []}
+use proofs.Words.{◌∙◌, ◌≡◌}
 use Rattle.policy_audit.proofs.Losses.{legal_next, next_entered, same_opening}
 use Rattle.policy_audit.proofs.Silent.{tells_none}
 use Rattle.node_core.specs.Step.{Enters}
-use Rattle.node_core.proofs.Entered.{answered_by, made, next_now, refused_now}
-use Rattle.node_core.proofs.Calm.{calm_follows, refused_change}
+use proofs.Entered.{answered_by, made, next_now, refused_now}
+use proofs.Calm.{calm_follows, refused_change}
 
 module _ {h : History} (legal : IsLegal h) (x : Entry) {new : Kept}
     (named : new.opening ≡ h.opening) where
@@ -45,7 +43,8 @@ module _ {h : History} (legal : IsLegal h) (x : Entry) {new : Kept}
 
 -- a refusal that ends no link
 module _ {call : Call} {kept : Kept} (called : IsCalled call kept) (e : Event) where
-  pub refuses : (r : Rule) → first_broken (checks call.past call.seat e) ≡ Some r → refuses_calmly call.past e r ≡ true → Answers call e kept (Err (CoreFault.Refused r))
+  pub refuses : (r : Rule) → first_broken (checks call.past call.seat e) ≡ Some r
+      → refuses_calmly call.past e r ≡ true → Answers call e kept (Err (CoreFault.Refused r))
   unfolding Answers
   refuses r broken calm =
       let next = next_now call.past call.seat e called.space (Refused r) []
@@ -107,7 +106,8 @@ module _ {call : Call} {kept : Kept} (called : IsCalled call kept) (e : Event) w
       unfolding Answers
       wants = still
 
-      pub wanted : (result : Result Answered CoreFault) → IsErrAnd result (λ fault. fault ≡ CoreFault.OutOfMemory) → Answers call e new result
+      pub wanted : (result : Result Answered CoreFault)
+          → IsErrAnd result (λ fault. fault ≡ CoreFault.OutOfMemory) → Answers call e new result
       wanted result is = let failed = err_from_is_err_and result is in rw (failed.1, failed.2) wants
 
       -- that, or a refusal that ends no link
@@ -116,5 +116,8 @@ module _ {call : Call} {kept : Kept} (called : IsCalled call kept) (e : Event) w
           refuses (record { keeps = still; space = called.space }) e r calm.0 calm.1
       fails CoreFault.OutOfMemory calm = wants
 
-      pub failed : (f : CoreFault) → IsCalmFault call.past call.seat e f → (result : Result Answered CoreFault) → IsErrAnd result (λ fault. fault ≡ f) → Answers call e new result
-      failed f calm result is = let passed = err_from_is_err_and result is in rw (passed.1, passed.2) (fails f calm)
+      pub failed : (f : CoreFault) → IsCalmFault call.past call.seat e f
+          → (result : Result Answered CoreFault) → IsErrAnd result (λ fault. fault ≡ f)
+          → Answers call e new result
+      failed f calm result is = let passed = err_from_is_err_and result is in
+          rw (passed.1, passed.2) (fails f calm)

@@ -1,28 +1,28 @@
 -- The node after an accepted frame that isn't the last of a handshake.
-use Rattle.node_core.proofs.Words.{leb-true, arith, Bool, List, None, Option, Some, ap, cond, false, refl, subst, sym, true, ℕ, [], ◌∙◌, ◌≡◌}
-use Rattle.node_core.proofs.Words.{option_map, same_decides, Pid, challenge_frame, name_frame, status_of, AdmissionRules, found, is_dialled, Pending}
-use Rattle.node_core.proofs.Words.{lie, no_change, History, is_dialling, listed, running_scopes}
-use Rattle.node_core.proofs.Words.{IsStep, IsPlayed, IsAlone, is_full, just}
-use Rattle.node_core.proofs.Words.{awaits, is_last, is_name_up, Entry, Accepted, Rule, AdmissionFollows, admission_words, heard_named, rule_of}
-use Rattle.node_core.proofs.Words.{IsState, LinksFollow, facts, link_words, KeptLink, dial_beside, dialled_peer, narrow_frames, scope_words}
-use Rattle.node_core.proofs.Words.{status_owed, reply_owed, Heard, LinkState, state_checks}
-use Rattle.node_core.proofs.Words.{accepted_as, Event, Reply, length, ◌≤◌}
-use Rattle.node_core.proofs.Words.{Linked, is_whole, Refused, Follows, Parts, HaveEnded, Hears}
-use Rattle.node_core.proofs.Words.{is_handshake, StatelessLink}
-use Rattle.node_core.proofs.Words.{ScopesFollow, HaveGoneOn, beside, verdict}
+use Rattle.node_core.proofs
+use proofs.Words.{Accepted, accepted_as, admission_words, AdmissionFollows, AdmissionRules, ap}
+use proofs.Words.{arith, awaits, beside, Bool, challenge_frame, cond, dial_beside, dialled_peer}
+use proofs.Words.{Entry, Event, facts, false, Follows, found, HaveEnded, HaveGoneOn, Heard}
+use proofs.Words.{heard_named, Hears, History, is_dialled, is_dialling, is_full, is_handshake}
+use proofs.Words.{is_last, is_name_up, is_whole, IsAlone, IsPlayed, IsState, IsStep, just, KeptLink}
+use proofs.Words.{leb-true, length, lie, link_words, Linked, LinksFollow, LinkState, List, listed}
+use proofs.Words.{name_frame, narrow_frames, no_change, None, Option, option_map, Parts, Pending}
+use proofs.Words.{Pid, refl, Refused, Reply, reply_owed, Rule, rule_of, running_scopes}
+use proofs.Words.{same_decides, scope_words, ScopesFollow, Some, state_checks, StatelessLink}
+use proofs.Words.{status_of, status_owed, subst, sym, true, verdict, ℕ, [], ◌∙◌, ◌≡◌, ◌≤◌}
 use Rattle.link_states.specs.Named.{named_by}
 use Rattle.link_states.specs.Pending.{is_up}
 use Rattle.policy_audit.proofs.Finished.{is_message}
 use Rattle.policy_audit.proofs.HeardNow.{framed_heard}
 use Rattle.policy_audit.proofs.RowsAfter.{unfinished_rows}
-use Rattle.node_core.proofs.EarlyMoves.{answer_moves, status_moves, challenge_moves, Goes, name_goes}
-use Rattle.node_core.proofs.Entered.{made, accepted_now, answered_now, next_now, step_follows}
-use Rattle.node_core.proofs.Found.{some_is}
-use Rattle.node_core.proofs.MovedOn.{moved_follow, still_unbegun}
-use Rattle.node_core.proofs.HeardFrames.{is_early, early_state, is_there, heard_leads, by_all}
-use Rattle.node_core.proofs.HeldLink.{IsHeld, held_state, held_moved, beside_same, held_broke}
-use Rattle.node_core.proofs.HeldLink.{ups_beside, dials_beside}
-use Rattle.node_core.proofs.FrameRules.{early_rules}
+use proofs.EarlyMoves.{answer_moves, challenge_moves, Goes, name_goes, status_moves}
+use proofs.Entered.{accepted_now, answered_now, made, next_now, step_follows}
+use proofs.Found.{some_is}
+use proofs.MovedOn.{moved_follow, still_unbegun}
+use proofs.HeardFrames.{by_all, early_state, heard_leads, is_early, is_there}
+use proofs.HeldLink.{beside_same, dials_beside, held_broke, held_moved, held_state, IsHeld}
+use proofs.HeldLink.{ups_beside}
+use proofs.FrameRules.{early_rules}
 use Rattle.link_states.specs.Checks as state_checked
 
 module _ (h : History) (seat j : ℕ) (body : List ℕ) where
@@ -81,7 +81,8 @@ module _ (h : History) (seat j : ℕ) (body : List ℕ) where
           → (r : Heard) → accepted_as rules pending s body ≡ Some r → Goes h k j beside r
       early_goes (LinkState.Name c) dials early a holds same_dial r q = by_all (Goes h k j beside)
           (λ f. heard_named (named_by rules pending c f)) (name_frame body) q
-          (λ f said. subst (λ b. Goes h k j b (heard_named (named_by rules pending c f))) (λ i now. same_dial refl now i)
+          (λ f said. subst (λ b. Goes h k j b (heard_named (named_by rules pending c f)))
+          (λ i now. same_dial refl now i)
           (name_goes h legal rules t e answered refl j body refl c a f said
           (grind (arith, holds, said, t.own)) kept follow (is_up pending f.name)
           (is_dialled pending f.name) (sym (ups f.name)) (sym (dials refl f.name))))
@@ -92,13 +93,19 @@ module _ (h : History) (seat j : ℕ) (body : List ℕ) where
           (status_of body) q
           (λ w said. status_moves h rules t e answered refl j body refl dial w said a)
       early_goes (LinkState.Challenge dial) dials early a holds same_dial r q =
-          by_all (Goes h k j beside) (λ f. Heard.On (LinkState.Ack (found rules dial f)) (reply_owed rules dial.peer dial.challenge f.challenge) false) (challenge_frame body) q
-          (λ f asked. challenge_moves h rules t e answered refl j body refl dial f asked ((same_decides f.name dial.peer).0 (grind (arith, holds, asked))) a)
+          by_all (Goes h k j beside)
+          (λ f. Heard.On (LinkState.Ack (found rules dial f))
+          (reply_owed rules dial.peer dial.challenge f.challenge) false) (challenge_frame body)
+          q
+          (λ f asked. challenge_moves h rules t e answered refl j body refl dial f asked
+          ((same_decides f.name dial.peer).0 (grind (arith, holds, asked))) a)
       early_goes s dials early a holds same_dial r q = lie (sym early)
 
 -- ---- what an early frame of the handshake makes of a node: it goes on, or its link ends
 
-module _ {h : History} {parts : Parts} (t : Follows h parts) (seat : ℕ) (body : List ℕ) {j p : ℕ} {v w out : KeptLink} {s : LinkState} {link : StatelessLink} {left : List KeptLink} (held : IsHeld h parts.links j p v w out s link left)
+module _ {h : History} {parts : Parts} (t : Follows h parts) (seat : ℕ) (body : List ℕ) {j p : ℕ}
+    {v w out : KeptLink} {s : LinkState} {link : StatelessLink} {left : List KeptLink}
+    (held : IsHeld h parts.links j p v w out s link left)
     (unwhole : is_whole j h.entries ≡ false) (inner : is_last (awaits j h.entries) ≡ false) where
   early : is_early s ≡ true
   early = early_state (facts h j) s (held_state t held) held.opens unwhole inner
@@ -122,9 +129,14 @@ module _ {h : History} {parts : Parts} (t : Follows h parts) (seat : ℕ) (body 
     dials_so : dialled_peer s ≡ None → (n : List ℕ) → is_dialled pending n ≡ is_dialling n h.entries
     dials_so none n = ap (λ xs. is_dialled (beside xs) n) these ∙ dials_beside t held none n
 
-    module _ (now : LinkState) (frames : List (List ℕ)) (gives_up : Bool) (hears : Hears parts.admission pending s body (Heard.On now frames gives_up)) where
+    module _ (now : LinkState) (frames : List (List ℕ)) (gives_up : Bool)
+        (hears : Hears parts.admission pending s body (Heard.On now frames gives_up)) where
       pub early_few : length frames ≤ 2
-      early_few = grind (arith, leb-true (length frames) 2, heard_leads parts.admission pending body s (Heard.On now frames gives_up) hears.1)
+      early_few = grind (
+        arith,
+        leb-true (length frames) 2,
+        heard_leads parts.admission pending body s (Heard.On now frames gives_up) hears.1,
+      )
 
       pub early_went_on : (new : List KeptLink) → HaveGoneOn p link now frames gives_up left new
           → IsAlone h (made h seat (Event.Frame j body) (Accepted Reply.Done) [])
@@ -132,7 +144,8 @@ module _ {h : History} {parts : Parts} (t : Follows h parts) (seat : ℕ) (body 
           (record parts { links = new })
       early_went_on new on =
           let there = is_there h parts t j p held.at v in
-          let unlike : is_message (awaits j h.entries) ≡ false = grind (arith, early, held_state t held) in
+          let unlike : is_message (awaits j h.entries) ≡ false =
+          grind (arith, early, held_state t held) in
           let accepted = early_accepted h seat j body parts.admission t.admission pending ups_so
           held.space s dials_so early (held_state t held) hears.0 in
           let answered =
@@ -142,19 +155,23 @@ module _ {h : History} {parts : Parts} (t : Follows h parts) (seat : ℕ) (body 
           let moves = early_goes h seat j body parts.admission t.admission pending ups_so answered
           parts.links t.links t.sound.played (λ state. dial_beside state left) s dials_so early
           (held_state t held) hears.0
-          (λ none state. sym (beside_same t held none state)) (Heard.On now frames gives_up) hears.1 in (
+          (λ none state. sym (beside_same t held none state)) (Heard.On now frames gives_up)
+          hears.1 in (
             entered,
             step_follows t entered refl t.admission t.processes
                 (subst (λ w. ScopesFollow w parts.scopes)
                 (sym (early_scopes h seat j body answered t.sound.played inner unlike)) t.scopes)
-                (subst (LinksFollow _) (sym (held_moved t held now (narrow_frames frames) (cond gives_up (dial_beside now left) None) new on))
+                (subst (LinksFollow _)
+                (sym (held_moved t held now (narrow_frames frames)
+                (cond gives_up (dial_beside now left) None) new on))
                 (moved_follow h _ t.sound.played j now (narrow_frames frames)
                 (cond gives_up (dial_beside now left) None)
                 (still_unbegun h t.sound.played (e h seat j body) j body refl unwhole) moves
                 parts.links t.links p v there.0 there.1 on.room)),
           )
 
-    module _ (r : Rule) (frames : List (List ℕ)) (hears : Hears parts.admission pending s body (Heard.Ended r frames)) where
+    module _ (r : Rule) (frames : List (List ℕ))
+        (hears : Hears parts.admission pending s body (Heard.Ended r frames)) where
       pub early_broke : (new : List KeptLink) → HaveEnded p link frames left new
           → IsAlone h (made h seat (Event.Frame j body) (Refused r) [])
           × Follows (just h (made h seat (Event.Frame j body) (Refused r) []))

@@ -1,14 +1,14 @@
 -- An event that owes frames, by itself and with the links that end.
-use Rattle.node_core.proofs.Words.{List, Option, map, ℕ, ◌≡◌, Bool, History, Change, Accepted}
-use Rattle.node_core.proofs.Words.{Event, Reply}
-use Rattle.node_core.proofs.Words.{IsAlone, IsNext, IsChange, audit_of, just, with_entry, Follows}
-use Rattle.node_core.proofs.Words.{Parts}
-use Rattle.node_core.proofs.Words.{KeptLink, Running, committed}
+use Rattle.node_core.proofs
+use Rattle.node_core.specs
+use proofs.Words.{Accepted, audit_of, Bool, Change, committed, Event, Follows, History, IsAlone}
+use proofs.Words.{IsChange, IsNext, just, KeptLink, List, map, Option, Parts, Reply, Running}
+use proofs.Words.{with_entry, ℕ, ◌≡◌}
 use Rattle.group_monitors.specs.Follows.{FollowsPolicy}
-use Rattle.node_core.specs.declared.slow.Ending.{Ending}
-use Rattle.node_core.specs.Ending.{ends_of, AreEnded, IsEnding}
-use Rattle.node_core.proofs.Ending.{LeavesPeers, ends_with}
-use Rattle.node_core.proofs.Entered.{made}
+use specs.declared.slow.Ending.{Ending}
+use specs.Ending.{AreEnded, ends_of, IsEnding}
+use proofs.Ending.{ends_with, LeavesPeers}
+use proofs.Entered.{made}
 
 -- what the event changes by itself, of which this is known, and what is kept then
 pub record Turns (h : History) (seat : ℕ) (ev : Event) (own : List Change) (parts : Parts)

@@ -1,22 +1,21 @@
 -- Events with which links end: what they change, and what is kept once those links are gone.
-use Rattle.node_core.proofs.Words.{List, None, Option, Some, Bool, ap, map, subst, sym, ℕ, []}
-use Rattle.node_core.proofs.Words.{◌&&◌, ◌==◌, ◌∙◌, ◌≡◌, cond, reverse, History, Change, Entry}
-use Rattle.node_core.proofs.Words.{Accepted, Event, Reply, Pid, audit_of, creation, just, listed}
-use Rattle.node_core.proofs.Words.{lose, past, slow_links, with_entry}
-use Rattle.node_core.proofs.Words.{IsAlone, IsNext, IsChange, Follows}
-use Rattle.node_core.proofs.Words.{Parts, Climbs, KeptLink, Running, committed}
+use Rattle.node_core.proofs
+use Rattle.node_core.specs
+use proofs.Words.{Accepted, ap, audit_of, Bool, Change, Climbs, committed, cond, creation, Entry}
+use proofs.Words.{Event, Follows, History, IsAlone, IsChange, IsNext, just, KeptLink, List, listed}
+use proofs.Words.{lose, map, None, Option, Parts, past, Pid, Reply, reverse, Running, slow_links}
+use proofs.Words.{Some, subst, sym, with_entry, ℕ, [], ◌&&◌, ◌==◌, ◌∙◌, ◌≡◌}
 use Rattle.group_monitors.specs.Follows.{FollowsPolicy}
-use Rattle.node_core.specs.declared.slow.End.{End}
-use Rattle.node_core.specs.declared.slow.Ending.{Ending}
-use Rattle.node_core.specs.Ending.{ends_of, without_ends, AreCutAll}
-use Rattle.node_core.specs.Ending.{AreEnded, AreWithLost, IsEnding}
-use Rattle.node_core.proofs.Entered.{made}
-use Rattle.node_core.proofs.SlowLinks.{recast}
-use Rattle.node_core.proofs.Ends.{AreUp, committed_ends, ends_climb, ends_up, goes, goes_far}
-use Rattle.node_core.proofs.Ends.{goes_once, numbers, slow_ends}
-use Rattle.node_core.proofs.EndsLost.{ends_follow, lose_ends, lose_reverse}
-pub use Rattle.node_core.proofs.LostChanges.{LeavesPeers}
-use Rattle.node_core.proofs.LostChanges.{lost_change}
+use specs.declared.slow.End.{End}
+use specs.declared.slow.Ending.{Ending}
+use specs.Ending.{AreCutAll, AreEnded, AreWithLost, ends_of, IsEnding, without_ends}
+use proofs.Entered.{made}
+use proofs.SlowLinks.{recast}
+use proofs.Ends.{AreUp, committed_ends, ends_climb, ends_up, goes, goes_far, goes_once, numbers}
+use proofs.Ends.{slow_ends}
+use proofs.EndsLost.{ends_follow, lose_ends, lose_reverse}
+pub use proofs.LostChanges.{LeavesPeers}
+use proofs.LostChanges.{lost_change}
 
 module _ {h : History} {old : Parts} (was : Follows h old) (seat : ℕ) (ev : Event) where
   -- the entry of the event with these changes

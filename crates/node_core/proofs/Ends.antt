@@ -1,19 +1,20 @@
 -- The links that end because too many frames wait for them: which they are, and their peers.
-use Rattle.node_core.proofs.Words.{arith, ap, refl, subst, sym, true, false, cond, ltb-true, List}
-use Rattle.node_core.proofs.Words.{Option, Some, None, Bool, ℕ, [], ◌∷◌, ◌++◌, ◌∙◌, ◌≡◌, ◌&&◌}
-use Rattle.node_core.proofs.Words.{◌||◌, map, filter, reverse, is_some, option_to_list, nat_lt}
-use Rattle.node_core.proofs.Words.{length, AllByRecursion, list_all, list_any, flat_map, append-nil}
-use Rattle.node_core.proofs.Words.{lie, same, same_decides, History, Pid, is_slow, links}
-use Rattle.node_core.proofs.Words.{present_link, slow_links, max_waiting, IsPlayed, Climbs, agrees}
-use Rattle.node_core.proofs.Words.{KeptLink, up_peer, committed, IsLinkOf, LinksFollow, link_words}
+use Rattle.node_core.proofs
+use Rattle.node_core.specs
+use proofs.Words.{agrees, AllByRecursion, ap, append-nil, arith, Bool, Climbs, committed, cond}
+use proofs.Words.{false, filter, flat_map, History, is_slow, is_some, IsLinkOf, IsPlayed, KeptLink}
+use proofs.Words.{length, lie, link_words, links, LinksFollow, List, list_all, list_any, ltb-true}
+use proofs.Words.{map, max_waiting, nat_lt, None, Option, option_to_list, Pid, present_link, refl}
+use proofs.Words.{reverse, same, same_decides, slow_links, Some, subst, sym, true, up_peer, ℕ, []}
+use proofs.Words.{◌&&◌, ◌++◌, ◌||◌, ◌∙◌, ◌∷◌, ◌≡◌}
 use Rattle.std.proofs.lemmas.List.{reverse-reverse}
 use Rattle.policy_audit.proofs.KeptLinks.{links_fall}
 use Rattle.policy_audit.proofs.KeptNumbers.{falls_climbs, falls_left}
-use Rattle.node_core.specs.declared.slow.End.{End}
-use Rattle.node_core.specs.Ending.{ends_of, end_of, is_overfull}
-use Rattle.node_core.proofs.Found.{some_is}
-use Rattle.node_core.proofs.Losing.{IsUpWith, up_with}
-use Rattle.node_core.proofs.SlowLinks.{is_slow_link, slow_are}
+use specs.declared.slow.End.{End}
+use specs.Ending.{end_of, ends_of, is_overfull}
+use proofs.Found.{some_is}
+use proofs.Losing.{IsUpWith, up_with}
+use proofs.SlowLinks.{is_slow_link, slow_are}
 
 -- ---- which links end
 

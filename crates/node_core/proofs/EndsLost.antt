@@ -1,14 +1,15 @@
 -- What is kept once the links that end are lost, one after the other, the oldest first.
-use Rattle.node_core.proofs.Words.{arith, ap, refl, subst, sym, true, cond, eqb-true, ltb-true}
-use Rattle.node_core.proofs.Words.{List, ℕ, [], ◌∷◌, ◌++◌, ◌∙◌, ◌≡◌, list_all, nat_lt, reverse}
-use Rattle.node_core.proofs.Words.{History, Entry, Pid, past, listed, loss, lose, Climbs, Follows}
-use Rattle.node_core.proofs.Words.{Parts, Running, without_number}
+use Rattle.node_core.proofs
+use Rattle.node_core.specs
+use proofs.Words.{ap, arith, Climbs, cond, Entry, eqb-true, Follows, History, List, list_all}
+use proofs.Words.{listed, lose, loss, ltb-true, nat_lt, Parts, past, Pid, refl, reverse, Running}
+use proofs.Words.{subst, sym, true, without_number, ℕ, [], ◌++◌, ◌∙◌, ◌∷◌, ◌≡◌}
 use Rattle.policy_audit.proofs.KeptNumbers.{reverse_first}
 use Rattle.policy_audit.proofs.LostWords.{lost_same, lost_up}
-use Rattle.node_core.specs.declared.slow.End.{End}
-use Rattle.node_core.specs.Ending.{AreCutAll, without_ends}
-use Rattle.node_core.proofs.Ends.{AreUp, goes, numbers}
-use Rattle.node_core.proofs.SlowLinks.{lost, lost_follows, lost_lists}
+use specs.declared.slow.End.{End}
+use specs.Ending.{AreCutAll, without_ends}
+use proofs.Ends.{AreUp, goes, numbers}
+use proofs.SlowLinks.{lost, lost_follows, lost_lists}
 
 -- the entries with the losses of these links, the first of them lost first
 abbrev pub lose_ends : List End → List Entry → List Entry

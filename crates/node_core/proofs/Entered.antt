@@ -1,23 +1,30 @@
 -- A history with one entry more: what the policy says of it, and what is kept then.
-use Rattle.node_core.proofs.Words.{List, None, Option, Some, ap, arith, cond, false, length, refl, subst, suc, sym, ℕ, ◌<◌, ◌∙◌, ◌∷◌, ◌≡◌, ◌≤◌, ltb-true}
-use Rattle.node_core.proofs.Words.{IsChange, checks, first_broken, History, events, is_accepted}
-use Rattle.node_core.proofs.Words.{IsStep, IsAlone, answer, is_full, verdict, just}
-use Rattle.node_core.proofs.Words.{Change, Entry, Verdict, Accepted, Refused, Event, Reply, Rule, how_many, is_restart, is_spawn, judged, IsSound, Follows}
-use Rattle.node_core.proofs.Words.{Parts, ◌&&◌, AdmissionFollows, AdmissionRules, KeptLink, LinksFollow, ProcessesFollow, Running, ScopesFollow, Spawned}
-use Rattle.node_core.proofs.Words.{admission_words, follows_other, link_words, process_words, scope_words}
-use Rattle.node_core.proofs.Words.{entered, is_entered, judgement, next_number, not, lt-ltb}
-use Rattle.node_core.proofs.Words.{eqb-true, true, IsNumbered, audited, audit_of, [], ◌+◌}
-use Rattle.group_monitors.specs.Follows.{FollowsPolicy, concerns_monitors}
+use Rattle.node_core.proofs
+use proofs.Words.{Accepted, admission_words, AdmissionFollows, AdmissionRules, answer, ap, arith}
+use proofs.Words.{audit_of, audited, Change, checks, cond, entered, Entry, eqb-true, Event, events}
+use proofs.Words.{false, first_broken, Follows, follows_other, History, how_many, is_accepted}
+use proofs.Words.{is_entered, is_full, is_restart, is_spawn, IsAlone, IsChange, IsNumbered, IsSound}
+use proofs.Words.{IsStep, judged, judgement, just, KeptLink, length, link_words, LinksFollow, List}
+use proofs.Words.{lt-ltb, ltb-true, next_number, None, not, Option, Parts, process_words}
+use proofs.Words.{ProcessesFollow, refl, Refused, Reply, Rule, Running, scope_words, ScopesFollow}
+use proofs.Words.{Some, Spawned, subst, suc, sym, true, Verdict, verdict, ℕ, [], ◌&&◌, ◌+◌, ◌<◌}
+use proofs.Words.{◌∙◌, ◌∷◌, ◌≡◌, ◌≤◌}
+use Rattle.group_monitors.specs.Follows.{concerns_monitors, FollowsPolicy}
 pub use Rattle.node_core.specs.Step.{made}
 
 module _ (h : History) (seat : ℕ) (ev : Event) (space : is_full h ≡ false) where
-  judge : (o : Option Rule) → first_broken (checks h seat ev) ≡ o → verdict h seat ev ≡ judged h seat ev o
-  judge o found = ap (λ b. cond b (Refused Rule.EntriesFull) (judged h seat ev (first_broken (checks h seat ev)))) space ∙ ap (judged h seat ev) found
+  judge : (o : Option Rule) → first_broken (checks h seat ev) ≡ o
+      → verdict h seat ev ≡ judged h seat ev o
+  judge o found =
+      ap (λ b. cond b (Refused Rule.EntriesFull)
+      (judged h seat ev (first_broken (checks h seat ev)))) space ∙ ap (judged h seat ev) found
 
-  pub accepted_now : (r : Reply) → first_broken (checks h seat ev) ≡ None → answer h seat ev ≡ r → Accepted r ≡ verdict h seat ev
+  pub accepted_now : (r : Reply) → first_broken (checks h seat ev) ≡ None → answer h seat ev ≡ r
+      → Accepted r ≡ verdict h seat ev
   accepted_now r none is = ap Accepted (sym is) ∙ sym (judge None none)
 
-  pub refused_now : (r : Rule) → first_broken (checks h seat ev) ≡ Some r → Refused r ≡ verdict h seat ev
+  pub refused_now : (r : Rule) → first_broken (checks h seat ev) ≡ Some r
+      → Refused r ≡ verdict h seat ev
   refused_now r found = sym (judge (Some r) found)
 
   pub space_is : entered h.entries < h.opening.entries
@@ -36,10 +43,16 @@ module _ (h : History) (seat : ℕ) (ev : Event) (space : is_full h ≡ false) w
 
   pub next_now : (v : Verdict) (cs : List Change) → v ≡ verdict h seat ev
       → IsChange h (just h (made h seat ev v cs)) cs → IsAlone h (made h seat ev v cs)
-  next_now v cs is changes = record { room = space_is; number = refl; verdict = is; change = changes }
+  next_now v cs is changes = record {
+    room = space_is;
+    number = refl;
+    verdict = is;
+    change = changes;
+  }
 
   -- an accepted event is the next entry, where its changes follow from its being made
-  pub accepted_next : (r : Reply) (cs : List Change) → first_broken (checks h seat ev) ≡ None → answer h seat ev ≡ r
+  pub accepted_next : (r : Reply) (cs : List Change) → first_broken (checks h seat ev) ≡ None
+      → answer h seat ev ≡ r
       → (IsStep h (made h seat ev (Accepted r) cs)
       → IsChange h (just h (made h seat ev (Accepted r) cs)) cs)
       → IsAlone h (made h seat ev (Accepted r) cs)
@@ -60,7 +73,8 @@ answered_by {h} {e} next = record {
     by ev = next.number
 
 -- at most one more was spawned
-spawned_more : (e : Entry) (es : List Entry) → how_many is_spawn (events (e ∷ es)) ≤ suc (how_many is_spawn (events es))
+spawned_more : (e : Entry) (es : List Entry)
+    → how_many is_spawn (events (e ∷ es)) ≤ suc (how_many is_spawn (events es))
 spawned_more e es = grind (arith, is_restart e.event, is_spawn e.event)
 
 -- an entry with the next number is one of the audit

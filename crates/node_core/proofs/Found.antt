@@ -1,6 +1,8 @@
 -- Elements that pass a test, and their places.
-use Rattle.node_core.proofs.Words.{Bool, List, None, Some, ap, arith, cond, false, find, is_some, map, position, refl, subst, sym, true, [], ◌||◌, ◌∙◌, ◌∷◌}
-use Rattle.node_core.proofs.Words.{◌≡◌, AllByRecursion, list_any, lt-ltb, ltb-true, no_value, ltb-false}
+use Rattle.node_core.proofs
+use proofs.Words.{AllByRecursion, ap, arith, Bool, cond, false, find, is_some, List, list_any}
+use proofs.Words.{lt-ltb, ltb-false, ltb-true, map, no_value, None, position, refl, Some, subst}
+use proofs.Words.{sym, true, [], ◌||◌, ◌∙◌, ◌∷◌, ◌≡◌}
 
 -- the value in an option
 pub some_is : {A : Type 0} {x y : A} → Some x ≡ Some y → x ≡ y
@@ -11,16 +13,20 @@ not_so true f = absurd (f refl)
 not_so false f = refl
 
 module _ {A : Type 0} (test : A → Bool) where
-  first_is : (b : Bool) (y : A) (ys : List A) → test y ≡ b → find test (y ∷ ys) ≡ cond b (Some y) (find test ys)
+  first_is : (b : Bool) (y : A) (ys : List A) → test y ≡ b
+      → find test (y ∷ ys) ≡ cond b (Some y) (find test ys)
   first_is b y ys e = ap (λ b. cond b (Some y) (find test ys)) e
 
   -- what is found passes the test, and is as all are
-  pub found_in : (P : A → Type 0) (xs : List A) → AllByRecursion P xs → (x : A) → find test xs ≡ Some x → (test x ≡ true) × P x
+  pub found_in : (P : A → Type 0) (xs : List A) → AllByRecursion P xs → (x : A)
+      → find test xs ≡ Some x → (test x ≡ true) × P x
   found_in P [] all x q = no_value (sym q)
   found_in P (y ∷ ys) all x q = by (test y) refl (found_in P ys all.1 x)
     where
-      by : (b : Bool) → test y ≡ b → (find test ys ≡ Some x → (test x ≡ true) × P x) → (test x ≡ true) × P x
-      by true e later = let is = some_is (sym (first_is true y ys e) ∙ q) in (ap test (sym is) ∙ e, subst P is all.0)
+      by : (b : Bool) → test y ≡ b → (find test ys ≡ Some x → (test x ≡ true) × P x)
+          → (test x ≡ true) × P x
+      by true e later = let is = some_is (sym (first_is true y ys e) ∙ q) in
+          (ap test (sym is) ∙ e, subst P is all.0)
       by false e later = later (sym (first_is false y ys e) ∙ q)
 
   pub found_passes : (xs : List A) (x : A) → find test xs ≡ Some x → test x ≡ true
@@ -43,7 +49,8 @@ module _ {A : Type 0} (test : A → Bool) where
   any_found (y ∷ ys) = grind (arith, any_found ys)
 
 -- a test of a value of the elements
-pub any_map : {A B : Type 0} (test : B → Bool) (f : A → B) (xs : List A) → list_any test (map f xs) ≡ list_any (λ x. test (f x)) xs
+pub any_map : {A B : Type 0} (test : B → Bool) (f : A → B) (xs : List A)
+    → list_any test (map f xs) ≡ list_any (λ x. test (f x)) xs
 any_map test f [] = refl
 any_map test f (x ∷ xs) = ap (λ b. test (f x) || b) (any_map test f xs)
 

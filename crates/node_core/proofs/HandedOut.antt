@@ -1,14 +1,15 @@
 -- A node that hands out the oldest page of its audit.
-use Rattle.node_core.proofs.Words.{◌≡◌, ◌∙◌, ◌+◌, ◌<◌, ◌≤◌, sym, subst, arith, ℕ, List, Option}
-use Rattle.node_core.proofs.Words.{None, true, IfSome, IfNone, Some, length, Entry, Opening, Kept}
-use Rattle.node_core.proofs.Words.{nat_le, list_all, history, audit_of}
+use Rattle.node_core.proofs
+use Rattle.node_core.specs
+use proofs.Words.{arith, audit_of, Entry, history, IfNone, IfSome, Kept, length, List, list_all}
+use proofs.Words.{nat_le, None, Opening, Option, Some, subst, sym, true, ℕ, ◌+◌, ◌<◌, ◌∙◌, ◌≡◌, ◌≤◌}
 use Rattle.policy_audit.specs.Log.{Log}
 use Rattle.policy_audit.specs.Pages.{IsPageBehind, page_size}
 use Rattle.policy_audit.proofs.Losses.{made_audited, made_entered}
 use Rattle.group_monitors.specs.Follows.{Reaches}
 use Rattle.group_monitors.proofs.Reached.{reach_all, reach_only}
-use Rattle.node_core.specs.Core.{IsCore}
-use Rattle.node_core.specs.Recorded.{Recorded, IsSpare}
+use specs.Core.{IsCore}
+use specs.Recorded.{IsSpare, Recorded}
 
 module _ {o : Opening} {audit : Log} {kept : Kept} (core : IsCore o audit kept) where
   module _ {now : Recorded}

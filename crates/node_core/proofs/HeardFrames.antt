@@ -1,12 +1,12 @@
 -- A frame of the handshake, as the node hears it: the state of its link, and what is heard of it.
-use Rattle.node_core.proofs.Words.{frame_taken}
-use Rattle.node_core.proofs.Words.{nat_le, List, Some, false, get_or, refl, subst, sym, true, ℕ}
-use Rattle.node_core.proofs.Words.{◌&&◌, ◌≡◌, History, is_last}
-use Rattle.node_core.proofs.Words.{IsState, LinkFacts, facts, link_words, KeptLink, LinkState, Bool, None, Option, arith, length, ◌<◌, option_map}
-use Rattle.node_core.proofs.Words.{AdmissionRules, Pending, no_value, Follows, Parts, IsLinkOf, Heard, accepted_as}
-use Rattle.node_core.proofs.Words.{link_place, ap, asks, Event, is_whole, may_tell}
-use Rattle.node_core.proofs.KeptOn.{each_at, place_is}
-use Rattle.node_core.proofs.Found.{some_is}
+use Rattle.node_core.proofs
+use proofs.Words.{accepted_as, AdmissionRules, ap, arith, asks, Bool, Event, facts, false, Follows}
+use proofs.Words.{frame_taken, get_or, Heard, History, is_last, is_whole, IsLinkOf, IsState}
+use proofs.Words.{KeptLink, length, link_place, link_words, LinkFacts, LinkState, List, may_tell}
+use proofs.Words.{nat_le, no_value, None, Option, option_map, Parts, Pending, refl, Some, subst}
+use proofs.Words.{sym, true, ℕ, ◌&&◌, ◌<◌, ◌≡◌}
+use proofs.KeptOn.{each_at, place_is}
+use proofs.Found.{some_is}
 
 -- ---- the state of the link
 
@@ -26,13 +26,16 @@ is_last_state s = false
 
 -- what a state says of its link, and which state it is by what is said
 module _ (f : LinkFacts) (s : LinkState) (a : IsState f s) where
-  pub early_facts : is_early s ≡ true → (f.open_now ≡ true) × (f.whole ≡ false) × (is_last f.awaited ≡ false)
+  pub early_facts : is_early s ≡ true
+      → (f.open_now ≡ true) × (f.whole ≡ false) × (is_last f.awaited ≡ false)
   early_facts q = (grind (arith, a), grind (arith, a), grind (arith, a))
 
-  pub last_facts : is_last_state s ≡ true → (f.open_now ≡ true) × (f.whole ≡ false) × (is_last f.awaited ≡ true)
+  pub last_facts : is_last_state s ≡ true
+      → (f.open_now ≡ true) × (f.whole ≡ false) × (is_last f.awaited ≡ true)
   last_facts q = (grind (arith, a), grind (arith, a), grind (arith, a))
 
-  pub early_state : f.open_now ≡ true → f.whole ≡ false → is_last f.awaited ≡ false → is_early s ≡ true
+  pub early_state : f.open_now ≡ true → f.whole ≡ false → is_last f.awaited ≡ false
+      → is_early s ≡ true
   early_state opens unwhole inner = grind (arith, a)
 
   pub last_state : f.open_now ≡ true → is_last f.awaited ≡ true → is_last_state s ≡ true
@@ -54,7 +57,8 @@ module _ (h : History) (parts : Parts) (t : Follows h parts) (j p : ℕ)
   link_there = each_at (IsLinkOf (link_words h)) parts.links p d t.links.each is_there.0
 
   pub state_there : IsState (facts h j) (get_or parts.links p d).state
-  state_there = subst (λ (n : ℕ). IsState (facts h n) (get_or parts.links p d).state) is_there.1 link_there.state
+  state_there = subst (λ (n : ℕ). IsState (facts h n) (get_or parts.links p d).state) is_there.1
+      link_there.state
 
 -- ---- what a frame leads to
 
@@ -65,10 +69,12 @@ leads s (Heard.Up up frames) = is_last_state s && nat_le (length frames) 2
 leads s r = false
 
 module _ (rules : AdmissionRules) (pending : Pending) (body : List ℕ) where
-  pub heard_leads : (s : LinkState) (r : Heard) → accepted_as rules pending s body ≡ Some r → leads s r ≡ true
+  pub heard_leads : (s : LinkState) (r : Heard) → accepted_as rules pending s body ≡ Some r
+      → leads s r ≡ true
   heard_leads s r q = grind (arith, q)
 
 -- what holds of each value that a frame may be holds of what it leads to
-pub by_all : {A : Type 0} (P : Heard → Type 0) (f : A → Heard) (o : Option A) {r : Heard} → option_map f o ≡ Some r → ((x : A) → o ≡ Some x → P (f x)) → P r
+pub by_all : {A : Type 0} (P : Heard → Type 0) (f : A → Heard) (o : Option A) {r : Heard}
+    → option_map f o ≡ Some r → ((x : A) → o ≡ Some x → P (f x)) → P r
 by_all P f None q all = no_value (sym q)
 by_all P f (Some x) q all = subst P (some_is q) (all x refl)

@@ -1,31 +1,33 @@
 -- A link that is taken out of the kept ones, and apart from its state, while it hears a frame.
-use Rattle.node_core.proofs.Words.{unroomed, is_whole, AdmissionRules, Pending, first_broken, checks, Event, rule_of, state_checks, Rule, Hears}
-use Rattle.node_core.proofs.Words.{Heard, IsAlone, Refused, just, refusal_owes, is_full, is_open}
-use Rattle.node_core.proofs.Words.{true, false, Bool, List, None, Option, Some}
-use Rattle.node_core.proofs.Words.{ap, arith, cond, find, get_or, length, nat_eq, refl, set, subst}
-use Rattle.node_core.proofs.Words.{suc, sym, zero, ℕ, [], ◌∷◌, ◌<◌, ◌∙◌}
-use Rattle.node_core.proofs.Words.{◌≡◌, ◌≤◌, ◌++◌, get_or-set_same, option_map, option_map_or, kept_climbs, same, is_empty, History, Follows, Parts}
-use Rattle.node_core.proofs.Words.{IsState, facts, KeptLink, StatelessLink, in_state, with_room, LinkState, IsReady, HaveMoved, OutFrame, moved_on}
-use Rattle.node_core.proofs.Words.{without_link, waiting, Climbs, eq-eqb, eqb-true, filter, list_all, ltb-true, map, nat_lt, not, narrow_frames}
-use Rattle.node_core.proofs.Words.{HaveEnded, dial_beside, dialled_peer, up_peer, older_of}
-use Rattle.node_core.proofs.Words.{beside, is_dialled, is_dialling, is_name_up, is_some, list_any}
-use Rattle.node_core.proofs.Words.{link_place, without_number, begun, none_begun}
-use Rattle.node_core.proofs.Words.{Entry, awaits, is_last, lie, opened, taken}
+use Rattle.node_core.proofs
+use proofs.Words.{AdmissionRules, ap, arith, awaits, begun, beside, Bool, checks, Climbs, cond}
+use proofs.Words.{dial_beside, dialled_peer, Entry, eq-eqb, eqb-true, Event, facts, false, filter}
+use proofs.Words.{find, first_broken, Follows, get_or, get_or-set_same, HaveEnded, HaveMoved, Heard}
+use proofs.Words.{Hears, History, in_state, is_dialled, is_dialling, is_empty, is_full, is_last}
+use proofs.Words.{is_name_up, is_open, is_some, is_whole, IsAlone, IsReady, IsState, just}
+use proofs.Words.{kept_climbs, KeptLink, length, lie, link_place, LinkState, List, list_all}
+use proofs.Words.{list_any, ltb-true, map, moved_on, narrow_frames, nat_eq, nat_lt, None}
+use proofs.Words.{none_begun, not, older_of, opened, Option, option_map, option_map_or, OutFrame}
+use proofs.Words.{Parts, Pending, refl, refusal_owes, Refused, Rule, rule_of, same, set, Some}
+use proofs.Words.{state_checks, StatelessLink, subst, suc, sym, taken, true, unroomed, up_peer}
+use proofs.Words.{waiting, with_room, without_link, without_number, zero, ℕ, [], ◌++◌, ◌<◌, ◌∙◌}
+use proofs.Words.{◌∷◌, ◌≡◌, ◌≤◌}
 use Rattle.policy_audit.proofs.Finished.{whole_awaits}
 use Rattle.std.specs.List.{insert, remove}
 use Rattle.link_states.specs.Pending.{is_up}
-use Rattle.node_core.proofs.Found.{any_found}
-use Rattle.node_core.proofs.LinkTests.{ups_are, dials_are}
-use Rattle.node_core.proofs.HeardFrames.{is_there, link_there, state_there}
-use Rattle.node_core.proofs.KeptOn.{below, filter_set}
-use Rattle.node_core.proofs.FrameRules.{refused_next, refused_follows, owes_alike}
-use Rattle.node_core.proofs.Entered.{made}
-use Rattle.node_core.proofs.Told.{alike_again}
+use proofs.Found.{any_found}
+use proofs.LinkTests.{dials_are, ups_are}
+use proofs.HeardFrames.{is_there, link_there, state_there}
+use proofs.KeptOn.{below, filter_set}
+use proofs.FrameRules.{owes_alike, refused_follows, refused_next}
+use proofs.Entered.{made}
+use proofs.Told.{alike_again}
 use Rattle.link_states.specs.Checks as state
 
 -- ---- an element that is taken out
 
-put_back : {A : Type 0} (xs : List A) (p : ℕ) (y : A) → p < length xs → insert (remove xs p) p y ≡ set xs p y
+put_back : {A : Type 0} (xs : List A) (p : ℕ) (y : A) → p < length xs
+    → insert (remove xs p) p y ≡ set xs p y
 put_back [] p y less = absurd (omega (arith, less))
 put_back (x ∷ xs) zero y less = refl
 put_back (x ∷ xs) (suc p) y less = ap (λ ys. x ∷ ys) (put_back xs p y (omega (arith, less)))
@@ -35,10 +37,12 @@ changed_before [] p y = refl
 changed_before (x ∷ xs) zero y = refl
 changed_before (x ∷ xs) (suc p) y = ap (λ ys. x ∷ ys) (changed_before xs p y)
 
-found_beside : {A : Type 0} (test : A → Bool) (xs : List A) (p : ℕ) (d : A) → p < length xs → test (get_or xs p d) ≡ false → find test (remove xs p) ≡ find test xs
+found_beside : {A : Type 0} (test : A → Bool) (xs : List A) (p : ℕ) (d : A) → p < length xs
+    → test (get_or xs p d) ≡ false → find test (remove xs p) ≡ find test xs
 found_beside test [] p d less q = absurd (omega (arith, less))
 found_beside test (x ∷ xs) zero d less q = ap (λ b. cond b (Some x) (find test xs)) (sym q)
-found_beside test (x ∷ xs) (suc p) d less q = ap (cond (test x) (Some x)) (found_beside test xs p d (omega (arith, less)) q)
+found_beside test (x ∷ xs) (suc p) d less q =
+    ap (cond (test x) (Some x)) (found_beside test xs p d (omega (arith, less)) q)
 
 -- of links whose numbers climb, each but the one at a place has another number
 above_stay : (n : ℕ) (xs : List KeptLink) → list_all (λ m. nat_lt n m) (map (λ x. x.number) xs)
@@ -46,19 +50,24 @@ above_stay : (n : ℕ) (xs : List KeptLink) → list_all (λ m. nat_lt n m) (map
 above_stay n [] l = refl
 above_stay n (x ∷ xs) l = grind (arith, ltb-true n x.number, above_stay n xs)
 
-others_stay : (xs : List KeptLink) (p : ℕ) (d : KeptLink) → Climbs (map (λ x. x.number) xs) → p < length xs → filter (λ x. not (nat_eq x.number (get_or xs p d).number)) xs ≡ remove xs p
+others_stay : (xs : List KeptLink) (p : ℕ) (d : KeptLink) → Climbs (map (λ x. x.number) xs)
+    → p < length xs → filter (λ x. not (nat_eq x.number (get_or xs p d).number)) xs ≡ remove xs p
 others_stay [] p d c less = absurd (omega (arith, less))
 others_stay (x ∷ xs) zero d c less = grind (arith, above_stay x.number xs c.0)
 others_stay (x ∷ xs) (suc p) d c less =
     let above_it = below x.number xs p d c.0 (omega (arith, less)) in
-    let unlike : nat_eq x.number (get_or xs p d).number ≡ false = grind (arith, eqb-true x.number (get_or xs p d).number, above_it) in
-    ap (λ b. cond (not b) (x ∷ filter (λ y. not (nat_eq y.number (get_or xs p d).number)) xs) (filter (λ y. not (nat_eq y.number (get_or xs p d).number)) xs)) unlike
+    let unlike : nat_eq x.number (get_or xs p d).number ≡ false =
+    grind (arith, eqb-true x.number (get_or xs p d).number, above_it) in
+    ap (λ b. cond (not b) (x ∷ filter (λ y. not (nat_eq y.number (get_or xs p d).number)) xs)
+    (filter (λ y. not (nat_eq y.number (get_or xs p d).number)) xs)) unlike
     ∙ ap (λ ys. x ∷ ys) (others_stay xs p d c.1 (omega (arith, less)))
 
 -- ---- a link that is taken out
 
--- link j is open and stands at a place as v, w with more room; it is taken out, and apart from its state s; and an entry has room
-pub record IsHeld (h : History) (kept : List KeptLink) (j p : ℕ) (v w out : KeptLink) (s : LinkState) (link : StatelessLink) (left : List KeptLink) : Type 0 where
+-- link j is open and stands at a place as v, w with more room; it is taken out, and apart from its
+-- state s; and an entry has room
+pub record IsHeld (h : History) (kept : List KeptLink) (j p : ℕ) (v w out : KeptLink)
+    (s : LinkState) (link : StatelessLink) (left : List KeptLink) : Type 0 where
   pub space : is_full h ≡ false
   pub opens : is_open j h.entries ≡ true
   pub at : link_place j kept ≡ Some p
@@ -68,7 +77,8 @@ pub record IsHeld (h : History) (kept : List KeptLink) (j p : ℕ) (v w out : Ke
   pub apart : in_state s link ≡ out
   pub others : left ≡ remove (set kept p w) p
 
-alike_there : (xs : List KeptLink) (p : ℕ) (d w : KeptLink) → unroomed w ≡ unroomed (get_or xs p d) → map unroomed (set xs p w) ≡ map unroomed xs
+alike_there : (xs : List KeptLink) (p : ℕ) (d w : KeptLink) → unroomed w ≡ unroomed (get_or xs p d)
+    → map unroomed (set xs p w) ≡ map unroomed xs
 alike_there [] p d w q = refl
 alike_there (x ∷ xs) zero d w q = ap (λ y. y ∷ map unroomed xs) q
 alike_there (x ∷ xs) (suc p) d w q = ap (λ ys. unroomed x ∷ ys) (alike_there xs p d w q)
@@ -78,7 +88,10 @@ pub room_follows : {h : History} {parts : Parts} → Follows h parts
     → (j : ℕ) {p : ℕ} {v w : KeptLink} → link_place j parts.links ≡ Some p → v
     ≡ get_or parts.links p v → w ≡ with_room v w.room
     → Follows h (record parts { links = set parts.links p w })
-room_follows {h} {parts} t j {p} {v} {w} at is roomy = alike_again h parts t (set parts.links p w) (alike_there parts.links p v w (ap unroomed (roomy ∙ ap (λ (x : KeptLink). with_room x w.room) is)))
+room_follows {h} {parts} t j {p} {v} {w} at is roomy =
+    alike_again h parts t (set parts.links p w)
+    (alike_there parts.links p v w
+    (ap unroomed (roomy ∙ ap (λ (x : KeptLink). with_room x w.room) is)))
 
 -- a side that awaits its last frame isn't whole
 pub last_unwhole : (j : ℕ) (es : List Entry) → is_last (awaits j es) ≡ true → is_whole j es ≡ false
@@ -102,7 +115,9 @@ taken_unbegun {h} {parts} t j {p} {v} {w} {out} at unwhole is roomy seen =
     ∙ ap (λ n. begun h.opening n h.entries) there.1
     ∙ none_begun h.opening h.entries t.sound.played j unwhole
 
-module _ {h : History} {parts : Parts} (t : Follows h parts) {j p : ℕ} {v w out : KeptLink} {s : LinkState} {link : StatelessLink} {left : List KeptLink} (held : IsHeld h parts.links j p v w out s link left) where
+module _ {h : History} {parts : Parts} (t : Follows h parts) {j p : ℕ} {v w out : KeptLink}
+    {s : LinkState} {link : StatelessLink} {left : List KeptLink}
+    (held : IsHeld h parts.links j p v w out s link left) where
   here : p < length parts.links
   here = (is_there h parts t j p held.at v).0
 
@@ -121,7 +136,8 @@ module _ {h : History} {parts : Parts} (t : Follows h parts) {j p : ℕ} {v w ou
 
   -- the link at the place, seen again before it was taken out
   pub held_seen : {u : KeptLink} → u ≡ get_or (set parts.links p w) p u → u.state ≡ s
-  held_seen {u} is = ap (λ (x : KeptLink). x.state) (is ∙ get_or-set_same parts.links p w u here ∙ sym with_state)
+  held_seen {u} is =
+      ap (λ (x : KeptLink). x.state) (is ∙ get_or-set_same parts.links p w u here ∙ sym with_state)
 
   pub held_state : IsState (facts h j) s
   held_state = subst (IsState (facts h j)) (sym held_is) (state_there h parts t j p held.at v)
@@ -133,50 +149,81 @@ module _ {h : History} {parts : Parts} (t : Follows h parts) {j p : ℕ} {v w ou
   }
 
   back : (y : KeptLink) → insert left p y ≡ set parts.links p y
-  back y = ap (λ xs. insert xs p y) (held.others ∙ changed_before parts.links p w) ∙ put_back parts.links p y here
+  back y = ap (λ xs. insert xs p y) (held.others ∙ changed_before parts.links p w)
+      ∙ put_back parts.links p y here
 
   -- it moves on from where it was
-  pub held_moved : (state : LinkState) (frames : List OutFrame) (gone : Option ℕ) (new : List KeptLink) (m : HaveMoved p link state frames gone left new)
-      → new ≡ without_link gone (set parts.links p (moved_on state frames m.room (get_or parts.links p v)))
-  held_moved state frames gone new m = m.links ∙ ap (without_link gone) (back _ ∙ ap (λ x. set parts.links p (moved_on state frames m.room x)) as_kept)
+  pub held_moved : (state : LinkState) (frames : List OutFrame) (gone : Option ℕ)
+      (new : List KeptLink) (m : HaveMoved p link state frames gone left new)
+      → new ≡ without_link gone
+      (set parts.links p (moved_on state frames m.room (get_or parts.links p v)))
+  held_moved state frames gone new m =
+      m.links ∙ ap (without_link gone)
+      (back _ ∙ ap (λ x. set parts.links p (moved_on state frames m.room x)) as_kept)
 
   -- it ends, and stays where frames wait for it
-  pub held_ended : (frames : List (List ℕ)) {more : List OutFrame} → narrow_frames frames ≡ more → (new : List KeptLink) (m : HaveEnded p link frames left new)
-      → new ≡ without_link (cond (is_empty (waiting h j ++ more)) (Some j) None) (set parts.links p (moved_on LinkState.Ended more m.room (get_or parts.links p v)))
+  pub held_ended : (frames : List (List ℕ)) {more : List OutFrame} → narrow_frames frames ≡ more
+      → (new : List KeptLink) (m : HaveEnded p link frames left new)
+      → new ≡ without_link (cond (is_empty (waiting h j ++ more)) (Some j) None)
+      (set parts.links p (moved_on LinkState.Ended more m.room (get_or parts.links p v)))
   held_ended frames {more} these new m = m.links
-      ∙ (λ i. cond (is_empty (waits i ++ these i)) (held.others i) ((back _ ∙ ap (λ x. set parts.links p (moved_on LinkState.Ended (narrow_frames frames) m.room x)) as_kept) i))
+      ∙ (λ i. cond (is_empty (waits i ++ these i)) (held.others i)
+      ((back _ ∙ ap
+      (λ x. set parts.links p (moved_on LinkState.Ended (narrow_frames frames) m.room x))
+      as_kept) i))
       ∙ by (is_empty (waiting h j ++ more)) these
     where
       there : (get_or parts.links p v).number ≡ j
       there = (is_there h parts t j p held.at v).1
 
       waits : link.frames ≡ waiting h j
-      waits = ap (λ (x : KeptLink). x.frames) as_kept ∙ (link_there h parts t j p held.at v).frames ∙ ap (waiting h) there
+      waits = ap (λ (x : KeptLink). x.frames) as_kept ∙ (link_there h parts t j p held.at v).frames
+          ∙ ap (waiting h) there
 
-      by : (b : Bool) {fs gs : List OutFrame} → fs ≡ gs → cond b (remove (set parts.links p w) p) (set parts.links p (moved_on LinkState.Ended fs m.room (get_or parts.links p v)))
-          ≡ without_link (cond b (Some j) None) (set parts.links p (moved_on LinkState.Ended gs m.room (get_or parts.links p v)))
-      by false q = ap (λ fs. set parts.links p (moved_on LinkState.Ended fs m.room (get_or parts.links p v))) q
+      by : (b : Bool) {fs gs : List OutFrame} → fs ≡ gs
+          → cond b (remove (set parts.links p w) p)
+          (set parts.links p (moved_on LinkState.Ended fs m.room (get_or parts.links p v)))
+          ≡ without_link (cond b (Some j) None)
+          (set parts.links p (moved_on LinkState.Ended gs m.room (get_or parts.links p v)))
+      by false q =
+          ap (λ fs. set parts.links p (moved_on LinkState.Ended fs m.room (get_or parts.links p v)))
+          q
       by true {gs = gs} q = changed_before parts.links p w
           ∙ sym (others_stay parts.links p v
           (subst Climbs (sym t.links.numbers) (kept_climbs h t.sound.played)) here)
           ∙ ap (λ (n : ℕ). filter (λ (x : KeptLink). not (nat_eq x.number n)) parts.links) there
-          ∙ sym (filter_set (λ x. not (nat_eq x.number j)) parts.links p v (moved_on LinkState.Ended gs m.room (get_or parts.links p v)) here (grind (arith, eq-eqb, there)) (grind (arith, eq-eqb, there)))
+          ∙ sym (filter_set (λ x. not (nat_eq x.number j)) parts.links p v
+          (moved_on LinkState.Ended gs m.room (get_or parts.links p v)) here
+          (grind (arith, eq-eqb, there)) (grind (arith, eq-eqb, there)))
 
   -- where the frame breaks a rule, it ends
-  pub held_broke : (seat : ℕ) (body : List ℕ) → is_whole j h.entries ≡ false → (rules : AdmissionRules) (pending : Pending) → first_broken (checks h seat (Event.Frame j body)) ≡ option_map rule_of (state.first_broken (state_checks rules pending s body))
-      → (r : Rule) (frames : List (List ℕ)) → Hears rules pending s body (Heard.Ended r frames) → (new : List KeptLink) → HaveEnded p link frames left new
+  pub held_broke : (seat : ℕ) (body : List ℕ) → is_whole j h.entries ≡ false
+      → (rules : AdmissionRules) (pending : Pending)
+      → first_broken (checks h seat (Event.Frame j body))
+      ≡ option_map rule_of (state.first_broken (state_checks rules pending s body))
+      → (r : Rule) (frames : List (List ℕ)) → Hears rules pending s body (Heard.Ended r frames)
+      → (new : List KeptLink) → HaveEnded p link frames left new
       → IsAlone h (made h seat (Event.Frame j body) (Refused r) [])
       × Follows (just h (made h seat (Event.Frame j body) (Refused r) []))
       (record parts { links = new })
   held_broke seat body unwhole rules pending same_rules r frames hears new ends =
       let there = is_there h parts t j p held.at v in
-      let entered = refused_next h seat j body r held.space (same_rules ∙ ap (option_map rule_of) hears.2 ∙ ap Some (sym hears.1)) in
-      let owed = ap refusal_owes hears.1 ∙ owes_alike hears.0 ∙ ap narrow_frames (sym hears.3) in
-      (entered, refused_follows h seat j body r held.opens unwhole (narrow_frames frames) owed parts t p v there.0 there.1 entered ends.room new (held_ended frames refl new ends))
+      let entered =
+      refused_next h seat j body r held.space (same_rules ∙ ap (option_map rule_of) hears.2
+      ∙ ap Some (sym hears.1)) in
+      let owed = ap refusal_owes hears.1 ∙ owes_alike hears.0 ∙ ap narrow_frames (sym hears.3) in (
+        entered,
+        refused_follows h seat j body r held.opens unwhole (narrow_frames frames) owed parts
+            t p v there.0 there.1 entered ends.room new (held_ended frames refl new ends),
+      )
 
   -- it goes back as it was
-  pub held_restored : {back_state : LinkState} → back_state ≡ s → {new : List KeptLink} → new ≡ insert left p (in_state back_state link) → Follows h (record parts { links = new })
-  held_restored {back_state} same_state {new} is = subst (λ xs. Follows h (record parts { links = xs })) (sym (is ∙ back _ ∙ ap (set parts.links p) (ap (λ x. in_state x link) same_state ∙ with_state)))
+  pub held_restored : {back_state : LinkState} → back_state ≡ s → {new : List KeptLink}
+      → new ≡ insert left p (in_state back_state link) → Follows h (record parts { links = new })
+  held_restored {back_state} same_state {new} is =
+      subst (λ xs. Follows h (record parts { links = xs }))
+      (sym (is ∙ back _ ∙ ap (set parts.links p)
+      (ap (λ x. in_state x link) same_state ∙ with_state)))
       (room_follows t j held.at held.first held.roomy)
 
   -- other links are found as before
@@ -185,7 +232,8 @@ module _ {h : History} {parts : Parts} (t : Follows h parts) {j p : ℕ} {v w ou
   others_found test not_it = ap (find test) (held.others ∙ changed_before parts.links p w)
       ∙ found_beside test parts.links p v here not_it
 
-  pub beside_same : dialled_peer s ≡ None → (state : LinkState) → dial_beside state left ≡ dial_beside state parts.links
+  pub beside_same : dialled_peer s ≡ None → (state : LinkState)
+      → dial_beside state left ≡ dial_beside state parts.links
   beside_same none (LinkState.Reply r) = ap (option_map (λ (x : KeptLink). x.number))
       (others_found (λ x. option_map_or (λ n. same n r.peer) (dialled_peer x.state) false)
       (ap (λ o. option_map_or (λ n. same n r.peer) o false)

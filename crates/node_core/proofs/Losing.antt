@@ -1,25 +1,25 @@
 -- Links that are lost or given up.
-use Rattle.node_core.proofs.Words.{List, None, Option, Some, ap, cond, false, get_or, length, nat_eq, not, position, refl, subst, sym, true, ℕ, ◌&&◌, ◌<◌, ◌∙◌}
-use Rattle.node_core.proofs.Words.{◌≡◌, filter, option_map_or, position-Some, same, no_value}
-use Rattle.node_core.proofs.Words.{and_both, History, is_open, is_up, IsStep, IsAlone, is_full}
-use Rattle.node_core.proofs.Words.{just, is_whole, peer_of, present_link, Change, Entry, Accepted}
-use Rattle.node_core.proofs.Words.{Follows, Parts, AreCut, AreLost, IsLinkOf, IsState}
-use Rattle.node_core.proofs.Words.{LinksFollow, facts, link_words, KeptLink, up_peer, agrees, LinkState, Running, Event, Reply, Bool, [], ◌==◌, and-true}
-use Rattle.node_core.proofs.Words.{eqb-true, Pid, count_after_drop, no_change, stopped_lists, flip, IsChange, heard, told, listed, waiting, running_scopes}
-use Rattle.node_core.proofs.Words.{ScopesFollow, scope_words, IsSameLink, IsHeardNow, arith}
-use Rattle.node_core.proofs.Words.{next_number}
-use Rattle.node_core.proofs.Words.{link_place, without_number}
-use Rattle.policy_audit.proofs.LinkFrames.{lost_links, disconnected_links}
-use Rattle.policy_audit.proofs.LinksLeft.{facts_left, lost_numbers, disconnected_numbers}
-use Rattle.policy_audit.proofs.HeardNow.{lost_heard, disconnected_heard}
-use Rattle.policy_audit.proofs.RowsAfter.{lost_rows, lost_other, disconnected_rows}
-use Rattle.node_core.proofs.Entered.{step_follows, made, accepted_next, answered_by}
-use Rattle.node_core.proofs.Found.{some_is}
-use Rattle.node_core.proofs.KeptOn.{each_at, facts_same, same_link, is_kept_at, link_at, stay_follow}
-use Rattle.node_core.proofs.LinkTests.{peer_by_test}
+use Rattle.node_core.proofs
+use proofs.Words.{Accepted, agrees, and-true, and_both, ap, AreCut, AreLost, arith, Bool, Change}
+use proofs.Words.{cond, count_after_drop, Entry, eqb-true, Event, facts, false, filter, flip}
+use proofs.Words.{Follows, get_or, heard, History, is_full, is_open, is_up, is_whole, IsAlone}
+use proofs.Words.{IsChange, IsHeardNow, IsLinkOf, IsSameLink, IsState, IsStep, just, KeptLink}
+use proofs.Words.{length, link_place, link_words, LinksFollow, LinkState, List, listed, nat_eq}
+use proofs.Words.{next_number, no_change, no_value, None, not, Option, option_map_or, Parts}
+use proofs.Words.{peer_of, Pid, position, position-Some, present_link, refl, Reply, Running}
+use proofs.Words.{running_scopes, same, scope_words, ScopesFollow, Some, stopped_lists, subst, sym}
+use proofs.Words.{told, true, up_peer, waiting, without_number, ℕ, [], ◌&&◌, ◌<◌, ◌==◌, ◌∙◌, ◌≡◌}
+use Rattle.policy_audit.proofs.LinkFrames.{disconnected_links, lost_links}
+use Rattle.policy_audit.proofs.LinksLeft.{disconnected_numbers, facts_left, lost_numbers}
+use Rattle.policy_audit.proofs.HeardNow.{disconnected_heard, lost_heard}
+use Rattle.policy_audit.proofs.RowsAfter.{disconnected_rows, lost_other, lost_rows}
+use proofs.Entered.{accepted_next, answered_by, made, step_follows}
+use proofs.Found.{some_is}
+use proofs.KeptOn.{each_at, facts_same, is_kept_at, link_at, same_link, stay_follow}
+use proofs.LinkTests.{peer_by_test}
 use Rattle.policy_audit.proofs.KeptNumbers.{kept_numbers}
-use Rattle.node_core.proofs.Partings.{partings_change}
-use Rattle.node_core.proofs.ScopesCutOff.{AreCutOff, cut_off_follow}
+use proofs.Partings.{partings_change}
+use proofs.ScopesCutOff.{AreCutOff, cut_off_follow}
 
 -- ---- a link that is gone
 
@@ -41,8 +41,10 @@ module _ (h k : History) (j : ℕ) (gone : IsGone h k j) where
       facts_same h k gone.name l (gone.same l other)
       (gone.opens l ∙ ap (λ b. is_open l h.entries && not b) other ∙ and-true (is_open l h.entries))
 
-  other_link : (x : KeptLink) → (j == x.number) ≡ false → IsLinkOf (link_words h) x → IsLinkOf (link_words k) x
-  other_link x other it = same_link x (other_facts x.number other) (gone.waits x.number ∙ grind (arith, other)) it
+  other_link : (x : KeptLink) → (j == x.number) ≡ false → IsLinkOf (link_words h) x
+      → IsLinkOf (link_words k) x
+  other_link x other it =
+      same_link x (other_facts x.number other) (gone.waits x.number ∙ grind (arith, other)) it
 
   pub gone_links : (kept : List KeptLink) → LinksFollow (link_words h) kept
       → LinksFollow (link_words k) (without_number j kept)
@@ -52,8 +54,10 @@ module _ (h k : History) (j : ℕ) (gone : IsGone h k j) where
 
   -- ---- a link that isn't up
 
-  module _ (down : is_up j h.entries ≡ false) (rows : (s g : List ℕ) (p : Pid) → listed k s g p ≡ listed h s g p) where
-    unless_gone : (l : ℕ) (x : Bool) → (is_up l h.entries ≡ false → x ≡ false) → (x && not (j == l)) ≡ x
+  module _ (down : is_up j h.entries ≡ false)
+      (rows : (s g : List ℕ) (p : Pid) → listed k s g p ≡ listed h s g p) where
+    unless_gone : (l : ℕ) (x : Bool) → (is_up l h.entries ≡ false → x ≡ false)
+        → (x && not (j == l)) ≡ x
     unless_gone l x quiet = grind (arith, eqb-true j l)
 
     still_scopes : scope_words k ≡ scope_words h
@@ -71,7 +75,8 @@ module _ (h k : History) (j : ℕ) (gone : IsGone h k j) where
 
   -- ---- a link that was up with n
 
-  module _ (n : List ℕ) (rows : (s g : List ℕ) (p : Pid) → listed k s g p ≡ cond (same p.node n) 0 (listed h s g p)) where
+  module _ (n : List ℕ) (rows : (s g : List ℕ) (p : Pid)
+      → listed k s g p ≡ cond (same p.node n) 0 (listed h s g p)) where
     cut_words : AreCutOff j n (scope_words h) (scope_words k)
     cut_words = record {
       own = ap (λ o. o.name) gone.name;
@@ -85,24 +90,35 @@ module _ (h k : History) (j : ℕ) (gone : IsGone h k j) where
 
   -- ---- both
 
-  -- how often a process is listed now that the link is gone, which was up with this peer if it was up
+  -- how often a process is listed now that the link is gone, which was up with this peer if it was
+  -- up
   abbrev pub RowsGone : Option (List ℕ) → Type 0
   RowsGone None = (s g : List ℕ) (p : Pid) → listed k s g p ≡ listed h s g p
-  RowsGone (Some n) = (s g : List ℕ) (p : Pid) → listed k s g p ≡ cond (same p.node n) 0 (listed h s g p)
+  RowsGone (Some n) = (s g : List ℕ) (p : Pid)
+      → listed k s g p ≡ cond (same p.node n) 0 (listed h s g p)
 
-  pub gone_change : (o : Option (List ℕ)) → RowsGone o → (rs : List Running) (cs : List Change) → AreLost o rs cs → ScopesFollow (scope_words h) rs → IsChange h k cs
-  gone_change None rows rs cs none t = subst (IsChange h k) (sym none) (no_change h k (λ s g p. sym (rows s g p)))
+  pub gone_change : (o : Option (List ℕ)) → RowsGone o → (rs : List Running) (cs : List Change)
+      → AreLost o rs cs → ScopesFollow (scope_words h) rs → IsChange h k cs
+  gone_change None rows rs cs none t =
+      subst (IsChange h k) (sym none) (no_change h k (λ s g p. sym (rows s g p)))
   gone_change (Some n) rows rs cs lost t = partings_change h k (λ x. count_after_drop x n)
       (λ r u g p. ap (cond (same p.node n) 0) (u.rows g p) ∙ sym (rows r.scope g p))
-      rs t (λ s stopped g p. rows s g p ∙ ap (cond (same p.node n) 0) (stopped_lists h s g p stopped) ∙ (grind arith)) cs lost
+      rs t (λ s stopped g p. rows s g p ∙ ap (cond (same p.node n) 0)
+      (stopped_lists h s g p stopped) ∙ (grind arith)) cs lost
 
-  pub gone_scopes : (o : Option (List ℕ)) → (o ≡ None → is_up j h.entries ≡ false) → RowsGone o → (old new : List Running) → AreCut j o old new → ScopesFollow (scope_words h) old → ScopesFollow (scope_words k) new
-  gone_scopes None down rows old new same_scopes t = subst (λ w. ScopesFollow w new) (sym (still_scopes (down refl) rows)) (subst (ScopesFollow (scope_words h)) (sym same_scopes) t)
-  gone_scopes (Some n) down rows old new cuts t = cut_off_follow j n (scope_words h) (scope_words k) (cut_words n rows) old new t cuts
+  pub gone_scopes : (o : Option (List ℕ)) → (o ≡ None → is_up j h.entries ≡ false) → RowsGone o
+      → (old new : List Running) → AreCut j o old new → ScopesFollow (scope_words h) old
+      → ScopesFollow (scope_words k) new
+  gone_scopes None down rows old new same_scopes t =
+      subst (λ w. ScopesFollow w new) (sym (still_scopes (down refl) rows))
+      (subst (ScopesFollow (scope_words h)) (sym same_scopes) t)
+  gone_scopes (Some n) down rows old new cuts t =
+      cut_off_follow j n (scope_words h) (scope_words k) (cut_words n rows) old new t cuts
 
 -- ---- whether a link is up, by its state
 
-pub down_by : (h : History) (l : ℕ) (s : LinkState) → IsState (facts h l) s → up_peer s ≡ None → is_up l h.entries ≡ false
+pub down_by : (h : History) (l : ℕ) (s : LinkState) → IsState (facts h l) s → up_peer s ≡ None
+    → is_up l h.entries ≡ false
 down_by h l (LinkState.Up s) t q = no_value q
 down_by h l LinkState.Ended t q = grind (arith, t)
 down_by h l s t q = grind (arith, t.0.whole)
@@ -113,8 +129,15 @@ pub record IsUpWith (h : History) (l : ℕ) (n : List ℕ) : Type 0 where
   pub peer : peer_of l h.entries ≡ Some n
   pub other : same n h.opening.name ≡ false
 
-pub up_with : (h : History) (l : ℕ) (s : LinkState) (n : List ℕ) → IsState (facts h l) s → up_peer s ≡ Some n → IsUpWith h l n
-up_with h l (LinkState.Up s) n t q = subst (IsUpWith h l) (some_is q) (record { up = and_both (is_open l h.entries) (is_whole l h.entries) t.0.open_now t.0.whole; peer = t.1.peer.peer; other = t.1.peer.other })
+pub up_with : (h : History) (l : ℕ) (s : LinkState) (n : List ℕ) → IsState (facts h l) s
+    → up_peer s ≡ Some n → IsUpWith h l n
+up_with h l (LinkState.Up s) n t q =
+    subst (IsUpWith h l) (some_is q)
+    (record {
+      up = and_both (is_open l h.entries) (is_whole l h.entries) t.0.open_now t.0.whole;
+      peer = t.1.peer.peer;
+      other = t.1.peer.other;
+    })
 up_with h l s n t q = no_value (sym q)
 
 -- ---- a link that is lost
@@ -173,7 +196,8 @@ module _ (h : History) (seat j : ℕ) (cs : List Change) (parts : Parts) (t : Fo
       (let up = up_with h j link.state n its_state q in
       lost_rows h t.sound.played loss answered refl j n refl up.up up.peer up.other)
 
-  pub lost : is_full h ≡ false → AreLost (up_peer link.state) parts.scopes cs → (scopes : List Running) → AreCut link.number (up_peer link.state) parts.scopes scopes
+  pub lost : is_full h ≡ false → AreLost (up_peer link.state) parts.scopes cs
+      → (scopes : List Running) → AreCut link.number (up_peer link.state) parts.scopes scopes
       → IsAlone h loss
       × Follows (just h loss)
       (record parts { scopes = scopes; links = filter (λ x. not (nat_eq x.number j)) parts.links })
@@ -187,22 +211,29 @@ module _ (h : History) (seat j : ℕ) (cs : List Change) (parts : Parts) (t : Fo
             (gone_scopes h (just h loss) j lost_gone (up_peer link.state)
             (down_by h j link.state its_state)
             (lost_listed (answered_by next) (up_peer link.state) refl)
-            parts.scopes scopes (subst (λ l. AreCut l (up_peer link.state) parts.scopes scopes) it.1 cuts) t.scopes)
+            parts.scopes scopes (subst (λ l. AreCut l (up_peer link.state) parts.scopes scopes) it.1
+            cuts) t.scopes)
             (gone_links h (just h loss) j lost_gone parts.links t.links),
       )
 
 -- ---- a link that is given up
 
-module _ (h : History) (seat : ℕ) (n : List ℕ) (cs : List Change) (parts : Parts) (t : Follows h parts) where
-  module _ (p : ℕ) (d : KeptLink) (found : position (λ x. option_map_or (λ m. same m n) (up_peer x.state) false) parts.links ≡ Some p) where
+module _ (h : History) (seat : ℕ) (n : List ℕ) (cs : List Change) (parts : Parts)
+    (t : Follows h parts) where
+  module _ (p : ℕ) (d : KeptLink)
+      (found : position (λ x. option_map_or (λ m. same m n) (up_peer x.state) false) parts.links
+      ≡ Some p) where
     abbrev parting : Entry
     parting = made h seat (Event.Disconnect n) (Accepted Reply.Done) cs
 
     abbrev last : KeptLink
     last = get_or parts.links p d
 
-    place : (p < length parts.links) × (option_map_or (λ m. same m n) (up_peer last.state) false ≡ true)
-    place = let is = position-Some (λ x. option_map_or (λ m. same m n) (up_peer x.state) false) parts.links p d found in (is.0, is.1)
+    place : (p < length parts.links)
+        × (option_map_or (λ m. same m n) (up_peer last.state) false ≡ true)
+    place = let is =
+        position-Some (λ x. option_map_or (λ m. same m n) (up_peer x.state) false) parts.links p d
+        found in (is.0, is.1)
 
     here : IsLinkOf (link_words h) last
     here = each_at (IsLinkOf (link_words h)) parts.links p d t.links.each place.0
@@ -237,7 +268,9 @@ module _ (h : History) (seat : ℕ) (n : List ℕ) (cs : List Change) (parts : P
         subst (RowsGone h (just h parting) last.number parting_gone) (sym peer_is)
         (disconnected_rows h t.sound.played parting answered refl n refl its_up.other)
 
-    pub parted : is_full h ≡ false → AreLost (up_peer last.state) parts.scopes cs → (scopes : List Running) (number : ℕ) → number ≡ last.number → AreCut last.number (up_peer last.state) parts.scopes scopes
+    pub parted : is_full h ≡ false → AreLost (up_peer last.state) parts.scopes cs
+        → (scopes : List Running) (number : ℕ) → number ≡ last.number
+        → AreCut last.number (up_peer last.state) parts.scopes scopes
         → IsAlone h parting
         × Follows (just h parting)
         (record parts {

@@ -1,19 +1,19 @@
 -- What changes with an event with which links end: own rows, and those of the peers of these links.
-use Rattle.node_core.proofs.Words.{arith, ap, refl, subst, sym, true, false, cond, not, List}
-use Rattle.node_core.proofs.Words.{Bool, ℕ, [], ◌∷◌, ◌++◌, ◌∙◌, ◌≡◌, ◌||◌, ◌+◌, ◌-◌, AllZip}
-use Rattle.node_core.proofs.Words.{flat_map, filter, map, total, mentions, same, is_among, text_cmp}
-use Rattle.node_core.proofs.Words.{Rises, Pid, GroupChange, Change, IsDifference, times_left, Table}
-use Rattle.node_core.proofs.Words.{count_of, count_after_drop, History, IsChange, Running}
-use Rattle.node_core.proofs.Words.{IsRunningOf, ScopesFollow, scope_words}
-use Rattle.node_core.proofs.Words.{listed, is_local, is_running, running_scopes, running_among}
-use Rattle.node_core.proofs.Words.{running_rises, stopped_lists, changes_are}
+use Rattle.node_core.proofs
+use Rattle.node_core.specs
+use proofs.Words.{AllZip, ap, arith, Bool, Change, changes_are, cond, count_after_drop, count_of}
+use proofs.Words.{false, filter, flat_map, GroupChange, History, is_among, is_local, is_running}
+use proofs.Words.{IsChange, IsDifference, IsRunningOf, List, listed, map, mentions, not, Pid, refl}
+use proofs.Words.{Rises, Running, running_among, running_rises, running_scopes, same, scope_words}
+use proofs.Words.{ScopesFollow, stopped_lists, subst, sym, Table, text_cmp, times_left, total, true}
+use proofs.Words.{ℕ, [], ◌++◌, ◌+◌, ◌-◌, ◌||◌, ◌∙◌, ◌∷◌, ◌≡◌}
 use Rattle.dist_types.specs.Difference.{times_joined}
 use Rattle.policy_audit.specs.Changes.{groups_in}
-use Rattle.node_core.specs.declared.slow.End.{End}
-use Rattle.node_core.specs.Ending.{AreWithLost, IsLossOf}
-use Rattle.node_core.proofs.Ends.{GoesOnce, goes}
-use Rattle.node_core.proofs.Scopes.{counts_listed}
-use Rattle.node_core.proofs.Zipped.{zipped_map, zipped_each}
+use specs.declared.slow.End.{End}
+use specs.Ending.{AreWithLost, IsLossOf}
+use proofs.Ends.{goes, GoesOnce}
+use proofs.Scopes.{counts_listed}
+use proofs.Zipped.{zipped_each, zipped_map}
 
 total_both : {A : Type 0} (f : A → ℕ) (xs ys : List A)
     → total f (xs ++ ys) ≡ total f xs + total f ys

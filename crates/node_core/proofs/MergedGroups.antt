@@ -1,10 +1,11 @@
 -- Changes of groups that are merged one after the other.
-use Rattle.node_core.proofs.Words.{List, Bool, Less, Ordering, ap, append-nil, arith, cond, false}
-use Rattle.node_core.proofs.Words.{is_gt, length, map, refl, subst, sym, total, true, ℕ, [], ◌&&◌}
-use Rattle.node_core.proofs.Words.{◌++◌, ◌+◌, ◌∙◌, ◌∷◌, ◌≡◌, AllByRecursion, AllZip, Ascends}
-use Rattle.node_core.proofs.Words.{IsListing, IsPidListing, IsProper, Rises, is_empty, mentions}
-use Rattle.node_core.proofs.Words.{same, same_decides, same_pid, same_pid_decides, text_cmp}
-use Rattle.node_core.proofs.Words.{texts_total, GroupChange, Pid}
+use Rattle.node_core.proofs
+use Rattle.node_core.specs
+use proofs.Words.{AllByRecursion, AllZip, ap, append-nil, arith, Ascends, Bool, cond, false}
+use proofs.Words.{GroupChange, is_empty, is_gt, IsListing, IsPidListing, IsProper, length, Less}
+use proofs.Words.{List, map, mentions, Ordering, Pid, refl, Rises, same, same_decides, same_pid}
+use proofs.Words.{same_pid_decides, subst, sym, text_cmp, texts_total, total, true, ℕ, [], ◌&&◌}
+use proofs.Words.{◌++◌, ◌+◌, ◌∙◌, ◌∷◌, ◌≡◌}
 use Rattle.std.specs.Cmp.{IsTotalOrder}
 use Rattle.std.specs.Fn.{Called}
 use Rattle.std.specs.List.Sorted.{IsPermutation, IsSortedByClosure}
@@ -16,12 +17,11 @@ use Rattle.std.proofs.lemmas.List.Sorted.{All-permutation, ranks_by, sum_by-IsPe
 use Rattle.std.proofs.lemmas.Map.Lookups.{exact_bytes}
 use Rattle.dist_types.proofs.Listings.{all_append}
 use Rattle.dist_types.proofs.Sorts.{sorted_listing}
-use Rattle.dist_types.proofs.Totals.{total_is, how_many_append}
+use Rattle.dist_types.proofs.Totals.{how_many_append, total_is}
 use Rattle.scope_core.proofs.Rising.{all_map}
-use Rattle.node_core.proofs.Zipped.{zipped_each, zipped_map}
-use Rattle.node_core.specs.Ending.{AreGathered}
-use Rattle.node_core.specs.Gathering.{together, AreMerged, AreMergedSoFar, AreUpTo, HasMerged}
-use Rattle.node_core.specs.Gathering.{IsSome}
+use proofs.Zipped.{zipped_each, zipped_map}
+use specs.Ending.{AreGathered}
+use specs.Gathering.{AreMerged, AreMergedSoFar, AreUpTo, HasMerged, IsSome, together}
 use denote.Param.Members.{Mut}
 use denote.Ref.{Bor}
 

@@ -1,23 +1,20 @@
 -- What a node keeps after a message, or a part of one, that is accepted.
-use Rattle.node_core.proofs.Words.{List, None, Some, ap, cond, false, nat_eq, position, refl}
-use Rattle.node_core.proofs.Words.{set, subst, sym, true, ℕ, [], ◌++◌, ◌==◌, ◌∙◌, ◌≡◌, ◌&&◌}
-use Rattle.node_core.proofs.Words.{option_map_or, eq-eqb, kept_climbs, flip}
-use Rattle.node_core.proofs.Words.{IsChange, always, checks, first_broken, frame_checks, History}
-use Rattle.node_core.proofs.Words.{message_checks, message_owes, Message2, frame_taken, begun}
-use Rattle.node_core.proofs.Words.{begun_after, kept_after}
-use Rattle.node_core.proofs.Words.{is_open, is_up, named_by, waiting, IsStep, IsPlayed}
-use Rattle.node_core.proofs.Words.{IsAlone, is_full, up_answer, verdict, just, AwaitMessage, awaits}
-use Rattle.node_core.proofs.Words.{challenge_in, is_last, is_whole, Change, Entry}
-use Rattle.node_core.proofs.Words.{Accepted, IsState, LinkFacts, LinksFollow, facts, link_words}
-use Rattle.node_core.proofs.Words.{KeptLink, entry_link, framed_numbers, Event, Reply, Rule}
-use Rattle.node_core.proofs.Words.{and_parts, arith, asks, may_tell}
+use Rattle.node_core.proofs
+use proofs.Words.{Accepted, always, and_parts, ap, arith, asks, AwaitMessage, awaits, begun}
+use proofs.Words.{begun_after, challenge_in, Change, checks, cond, Entry, entry_link, eq-eqb, Event}
+use proofs.Words.{facts, false, first_broken, flip, frame_checks, frame_taken, framed_numbers}
+use proofs.Words.{History, is_full, is_last, is_open, is_up, is_whole, IsAlone, IsChange, IsPlayed}
+use proofs.Words.{IsState, IsStep, just, kept_after, kept_climbs, KeptLink, link_words, LinkFacts}
+use proofs.Words.{LinksFollow, List, may_tell, Message2, message_checks, message_owes, named_by}
+use proofs.Words.{nat_eq, None, option_map_or, position, refl, Reply, Rule, set, Some, subst, sym}
+use proofs.Words.{true, up_answer, verdict, waiting, ℕ, [], ◌&&◌, ◌++◌, ◌==◌, ◌∙◌, ◌≡◌}
 use Rattle.policy_audit.proofs.Begun.{framed}
 use Rattle.policy_audit.proofs.Onward.{message_taken_on}
 use Rattle.policy_audit.proofs.LinkFrames.{message_links}
-use Rattle.node_core.proofs.Entered.{made, accepted_now, answered_now, next_now}
-use Rattle.node_core.proofs.KeptOn.{facts_same, one_follows, place_is, same_link, version_with}
-use Rattle.node_core.proofs.MessagePlaces.{IsUpHere}
-use Rattle.node_core.proofs.Told.{still_state}
+use proofs.Entered.{accepted_now, answered_now, made, next_now}
+use proofs.KeptOn.{facts_same, one_follows, place_is, same_link, version_with}
+use proofs.MessagePlaces.{IsUpHere}
+use proofs.Told.{still_state}
 
 -- the rules for a message on a link that awaits one
 pub message_rules : (h : History) (seat l : ℕ) (body : List ℕ)
@@ -62,7 +59,8 @@ module _ (h : History) (seat l : ℕ) (body : List ℕ) (m : Message2)
   its_answered = answered_now h seat (Event.Frame l body) space (Accepted Reply.Done) cs its_verdict
 
   pub its_next : IsChange h now cs → IsAlone h entry
-  its_next change = next_now h seat (Event.Frame l body) space (Accepted Reply.Done) cs its_verdict change
+  its_next change =
+      next_now h seat (Event.Frame l body) space (Accepted Reply.Done) cs its_verdict change
 
   -- ---- links
 

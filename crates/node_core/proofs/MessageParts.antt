@@ -1,13 +1,12 @@
 -- What a part makes of its link, which keeps it while its scope hears it.
-use Rattle.node_core.proofs.Words.{Bool, List, None, Some, ap, cond, false, get_or, subst, sym}
-use Rattle.node_core.proofs.Words.{true, ℕ, ◌∙◌, ◌≡◌, IsDifference, GroupChange, Row, count_of}
-use Rattle.node_core.proofs.Words.{first_broken, History, is_full, is_up, frame_taken, early_checks}
-use Rattle.node_core.proofs.Words.{Message2, PartKind, Option, Begun, KeptLink, Running, HasBecome}
-use Rattle.node_core.proofs.Words.{begun_after, begun_with, count_with, heard_with, IsRowFault}
-use Rattle.node_core.proofs.Words.{row_limit, rows_kept, table_refusal, up_peer}
-use Rattle.node_core.proofs.Words.{with_room, Follows, Parts, link_place, scope_place, Event}
-use Rattle.node_core.proofs.Words.{CoreFault, IsCalmFault}
-use Rattle.node_core.proofs.MessageScopes.{IsKept, refused_calm, went_on}
+use Rattle.node_core.proofs
+use proofs.Words.{ap, Begun, begun_after, begun_with, Bool, cond, CoreFault, count_of, count_with}
+use proofs.Words.{early_checks, Event, false, first_broken, Follows, frame_taken, get_or}
+use proofs.Words.{GroupChange, HasBecome, heard_with, History, is_full, is_up, IsCalmFault}
+use proofs.Words.{IsDifference, IsRowFault, KeptLink, link_place, List, Message2, None, Option}
+use proofs.Words.{PartKind, Parts, Row, row_limit, rows_kept, Running, scope_place, Some, subst}
+use proofs.Words.{sym, table_refusal, true, up_peer, with_room, ℕ, ◌∙◌, ◌≡◌}
+use proofs.MessageScopes.{IsKept, refused_calm, went_on}
 
 -- the link, whatever its room
 pub roomy : {z w : KeptLink} → z ≡ w → z ≡ with_room w z.room
@@ -18,7 +17,8 @@ pub taken_back : {x a z : KeptLink} {b u : Option Begun} → a ≡ begun_with x 
     → z ≡ begun_with a u → u ≡ x.begun → z ≡ x
 taken_back {x} {a} {z} {b} {u} is back was = back ∙ (λ i. begun_with (is i) (was i))
 
-module _ {h : History} {parts : Parts} (t : Follows h parts) (seat l : ℕ) (body : List ℕ) (space : is_full h ≡ false) (up : is_up l h.entries ≡ true)
+module _ {h : History} {parts : Parts} (t : Follows h parts) (seat l : ℕ) (body : List ℕ)
+    (space : is_full h ≡ false) (up : is_up l h.entries ≡ true)
     {pl : ℕ} {x : KeptLink} (placed : link_place l parts.links ≡ Some pl)
     (x_is : x ≡ get_or parts.links pl x)
     (s : List ℕ) {p : ℕ} {r : Running} (y : Running) (at : scope_place s parts.scopes ≡ Some p)

@@ -1,31 +1,32 @@
 -- The rules that a message breaks, by what a node keeps of its link and of its scope.
-use Rattle.node_core.proofs.Words.{All, Bool, List, None, Some, ap, arith, cond, false, length, nat_le, not, refl, subst, sym, true, ℕ, [], ◌&&◌, ◌+◌}
-use Rattle.node_core.proofs.Words.{◌==◌, ◌||◌, ◌∙◌, ◌≡◌, filter, flat_map, list_all, option_map_or, same_decides, same_sym, is_empty}
-use Rattle.node_core.proofs.Words.{IsPidListing, same, Pid, Row, all_hold, no_value, unbroken, flip, always, checks, first_broken}
-use Rattle.node_core.proofs.Words.{heard, History, is_open, Message2, PartKind, begun, frame_taken}
-use Rattle.node_core.proofs.Words.{message_checks, peer_limit, so_far, takes_parts}
-use Rattle.node_core.proofs.Words.{is_up, listed, refusal_owes, is_running, AwaitMessage, awaits}
-use Rattle.node_core.proofs.Words.{is_whole, peer_of, Rule, IsCalmFault, refuses_calmly, KeptLink, up_peer, IsRunningOf, is_number, scope_words, IsGroupListing}
-use Rattle.node_core.proofs.Words.{node_total, max_rows, are_counted, rows_of, is_from, members, groups, peer_rows, CoreFault, Running, is_shown, are_of_peer}
-use Rattle.node_core.proofs.Words.{and_parts, scope_in, early_checks, Event, get_or, ◌++◌, ◌∷◌}
-use Rattle.node_core.proofs.Words.{says_in, message_taken, row_limit, Check, IsRowFault, Option}
-use Rattle.node_core.proofs.Words.{table_refusal, Table, rows_so_far, rows_before, Begun, Entry}
-use Rattle.node_core.proofs.Words.{IsPlayed, begun_with, begun_after}
-use Rattle.std.proofs.lemmas.List.Folds.{list_all_at}
+use Rattle.node_core.proofs
+use proofs.Words.{All, all_hold, always, and_parts, ap, are_counted, are_of_peer, arith}
+use proofs.Words.{AwaitMessage, awaits, Begun, begun, begun_after, begun_with, Bool, Check, checks}
+use proofs.Words.{cond, CoreFault, early_checks, Entry, Event, false, filter, first_broken}
+use proofs.Words.{flat_map, flip, frame_taken, get_or, groups, heard, History, is_empty, is_from}
+use proofs.Words.{is_number, is_open, is_running, is_shown, is_up, is_whole, IsCalmFault}
+use proofs.Words.{IsGroupListing, IsPidListing, IsPlayed, IsRowFault, IsRunningOf, KeptLink, length}
+use proofs.Words.{List, list_all, listed, max_rows, members, Message2, message_checks}
+use proofs.Words.{message_taken, nat_le, no_value, node_total, None, not, Option, option_map_or}
+use proofs.Words.{PartKind, peer_limit, peer_of, peer_rows, Pid, refl, refusal_owes, refuses_calmly}
+use proofs.Words.{Row, row_limit, rows_before, rows_of, rows_so_far, Rule, Running, same}
+use proofs.Words.{same_decides, same_sym, says_in, scope_in, scope_words, so_far, Some, subst, sym}
+use proofs.Words.{Table, table_refusal, takes_parts, true, unbroken, up_peer, ℕ, [], ◌&&◌, ◌++◌}
+use proofs.Words.{◌+◌, ◌==◌, ◌||◌, ◌∙◌, ◌∷◌, ◌≡◌}
+use Rattle.std.proofs.lemmas.List.Folds.{list_all-append, list_all_at}
 use Rattle.scope_core.proofs.Members.{length-members}
-use Rattle.std.proofs.lemmas.List.Folds.{list_all-append}
 use Rattle.link_frames.specs.Parts.{is_next}
 use Rattle.policy_audit.specs.Sides.{is_visible}
-use Rattle.policy_audit.specs.Checks.{has_row_room, are_from, are_listed, can_be_told, hears_in}
+use Rattle.policy_audit.specs.Checks.{are_from, are_listed, can_be_told, has_row_room, hears_in}
 use Rattle.policy_audit.specs.Checks.{is_in_order, unless}
 use Rattle.policy_audit.proofs.Begun.{are_peers, kept_peers}
 use Rattle.policy_audit.specs.Hearing.{rows_kept}
 use Rattle.policy_audit.proofs.Onward.{whole_is_message}
 use Rattle.node_core.specs.Messages.{refusal, row_refusal}
-use Rattle.node_core.proofs.Found.{some_is}
-use Rattle.node_core.proofs.Scopes.{counts_listed, members_listing, groups_listing}
-use Rattle.node_core.proofs.MessagePlaces.{IsUpHere}
-use Rattle.node_core.proofs.MessageKept.{message_rules}
+use proofs.Found.{some_is}
+use proofs.Scopes.{counts_listed, groups_listing, members_listing}
+use proofs.MessagePlaces.{IsUpHere}
+use proofs.MessageKept.{message_rules}
 
 -- ---- checks
 
@@ -106,18 +107,37 @@ turned false x y = refl
 module _ {h : History} {l : ℕ} {x : KeptLink} (here : IsUpHere h l x) where
   -- whether the link is visible
   pub visible_is : is_shown x.state ≡ is_visible h l
-  visible_is = (let gave = here.introduced.said.1 in grind (arith, here.is, gave.visible_is, gave.said))
+  visible_is = (let gave = here.introduced.said.1 in
+      grind (arith, here.is, gave.visible_is, gave.said))
 
-  from_is : (p : Pid) → is_from l h.entries p ≡ (same p.node here.far.peer && p.creation == here.far.creation)
-  from_is p = (let gave = here.introduced.said.1 in grind (arith, here.introduced.peer.peer, gave.said, gave.creation_is, same_sym here.far.peer p.node, flip here.far.creation p.creation))
+  from_is : (p : Pid)
+      → is_from l h.entries p ≡ (same p.node here.far.peer && p.creation == here.far.creation)
+  from_is p = (let gave = here.introduced.said.1 in
+      grind (
+        arith,
+        here.introduced.peer.peer,
+        gave.said,
+        gave.creation_is,
+        same_sym here.far.peer p.node,
+        flip here.far.creation p.creation,
+      ))
 
   -- whether rows are of its peer
-  pub of_peer_is : (rows : List Row) → are_of_peer x.state rows ≡ list_all (λ r. is_from l h.entries r.pid) rows
-  of_peer_is rows = ap (λ s. are_of_peer s rows) here.is ∙ sym (λ i. list_all (λ r. from_is r.pid i) rows)
+  pub of_peer_is : (rows : List Row)
+      → are_of_peer x.state rows ≡ list_all (λ r. is_from l h.entries r.pid) rows
+  of_peer_is rows = ap (λ s. are_of_peer s rows) here.is
+      ∙ sym (λ i. list_all (λ r. from_is r.pid i) rows)
 
   -- then each of their processes is of that node
-  pub all_of_peer : (rows : List Row) → list_all (λ r. is_from l h.entries r.pid) rows ≡ true → All (λ r. r.pid.node ≡ here.far.peer) rows
-  all_of_peer rows q k d within = grind (arith, list_all_at (λ r. is_from l h.entries r.pid) rows k d, from_is (get_or rows k d).pid, same_decides (get_or rows k d).pid.node here.far.peer)
+  pub all_of_peer : (rows : List Row) → list_all (λ r. is_from l h.entries r.pid) rows ≡ true
+      → All (λ r. r.pid.node ≡ here.far.peer) rows
+  all_of_peer rows q k d within =
+      grind (
+        arith,
+        list_all_at (λ r. is_from l h.entries r.pid) rows k d,
+        from_is (get_or rows k d).pid,
+        same_decides (get_or rows k d).pid.node here.far.peer,
+      )
 
   -- what is kept of its message
   pub begun_is : x.begun ≡ begun h.opening l h.entries
@@ -180,7 +200,9 @@ module _ {h : History} {l : ℕ} {x : KeptLink} (here : IsUpHere h l x) where
 
 module _ (h : History) (l : ℕ) (body : List ℕ) (up : is_up l h.entries ≡ true) where
   pub calm : (r : Rule) → refusal_owes r ≡ [] → refuses_calmly h (Event.Frame l body) r ≡ true
-  calm r nothing = λ i. (not ((and_parts (is_open l h.entries) (is_whole l h.entries) up).0 i) || (and_parts (is_open l h.entries) (is_whole l h.entries) up).1 i) && is_empty (nothing i)
+  calm r nothing =
+      λ i. (not ((and_parts (is_open l h.entries) (is_whole l h.entries) up).0 i)
+      || (and_parts (is_open l h.entries) (is_whole l h.entries) up).1 i) && is_empty (nothing i)
 
 row_silent : (a b : Bool) (r : Rule)
     → cond a (cond b None (Some Rule.ForeignPid)) (Some Rule.PartOrder) ≡ Some r
@@ -197,7 +219,8 @@ further_silent true a b r q = row_silent a b r q
 further_silent false a b r q = ap refusal_owes (sym (some_is q))
 
 -- what a message breaks early is owed nothing
-pub refusal_silent : (x : KeptLink) (hs : List ℕ) (m : Message2) (r : Rule) → refusal x hs m ≡ Some r → refusal_owes r ≡ []
+pub refusal_silent : (x : KeptLink) (hs : List ℕ) (m : Message2) (r : Rule)
+    → refusal x hs m ≡ Some r → refusal_owes r ≡ []
 refusal_silent x hs (Message2.Discover s) r q = no_value (sym q)
 refusal_silent x hs (Message2.Part PartKind.Sync s number last rows) r q =
     row_silent (is_next x.begun PartKind.Sync s number) (are_of_peer x.state rows) r q
@@ -269,14 +292,26 @@ pub behind_early : (early : List Check) (b : Bool) (r : Rule) → first_broken e
     → first_broken (early ++ unless b r ∷ []) ≡ cond b None (Some r)
 behind_early early b r q = behind early (unless b r) q ∙ turned b (Some r) None
 
-module _ (h : History) (l : ℕ) (s : List ℕ) (r : Running) (named : r.scope ≡ s) (t : IsRunningOf (scope_words h) r) where
-  pub total_is : (n : List ℕ) → peer_of l h.entries ≡ Some n → peer_rows h l s ≡ node_total r.table n
+module _ (h : History) (l : ℕ) (s : List ℕ) (r : Running) (named : r.scope ≡ s)
+    (t : IsRunningOf (scope_words h) r) where
+  pub total_is : (n : List ℕ) → peer_of l h.entries ≡ Some n
+      → peer_rows h l s ≡ node_total r.table n
   total_is n of =
-      (λ i. length (filter (λ p. (ap (λ o. option_map_or {T = List ℕ} {U = Bool} (λ m. same m p.node) o false) of ∙ same_sym n p.node) i) (flat_map (members h s) (groups h s))))
-      ∙ length-members r.table n (groups h s) (members h s) (subst (λ f. IsGroupListing f (groups h s)) (sym (counts_listed h s r named t)) (groups_listing h s)) (λ g. subst (λ f. IsPidListing (f g) (members h s g)) (sym (counts_listed h s r named t)) (members_listing h s g))
+      (λ i. length
+      (filter (λ p.
+      (ap (λ o. option_map_or {T = List ℕ} {U = Bool} (λ m. same m p.node) o false) of
+      ∙ same_sym n p.node) i) (flat_map (members h s) (groups h s))))
+      ∙ length-members r.table n (groups h s) (members h s)
+      (subst (λ f. IsGroupListing f (groups h s)) (sym (counts_listed h s r named t))
+      (groups_listing h s)) (λ g. subst (λ f. IsPidListing (f g) (members h s g))
+      (sym (counts_listed h s r named t)) (members_listing h s g))
 
-  pub counted_is : (rows : List Row) → are_counted r.table rows ≡ list_all (λ w. nat_le (rows_of w.group w.pid rows) (listed h s w.group w.pid)) rows
-  counted_is rows = λ i. list_all (λ w. nat_le (rows_of w.group w.pid rows) (counts_listed h s r named t i w.group w.pid)) rows
+  pub counted_is : (rows : List Row)
+      → are_counted r.table rows
+      ≡ list_all (λ w. nat_le (rows_of w.group w.pid rows) (listed h s w.group w.pid)) rows
+  counted_is rows =
+      λ i. list_all (λ w. nat_le (rows_of w.group w.pid rows)
+      (counts_listed h s r named t i w.group w.pid)) rows
 
   -- a part that breaks no rule early breaks what its rows so far break by the table
   pub table_is : (n : List ℕ) → peer_of l h.entries ≡ Some n → (kind : PartKind) (number : ℕ)
@@ -330,7 +365,8 @@ rows_calm h seat l body up awaited m says broken q silent CoreFault.OutOfMemory 
 
 -- ---- the peer of a link that is up
 
-pub peer_is : {h : History} {l : ℕ} {x : KeptLink} (here : IsUpHere h l x) {n : List ℕ} → Some n ≡ up_peer x.state → n ≡ here.far.peer
+pub peer_is : {h : History} {l : ℕ} {x : KeptLink} (here : IsUpHere h l x) {n : List ℕ}
+    → Some n ≡ up_peer x.state → n ≡ here.far.peer
 peer_is here q = some_is (q ∙ ap up_peer here.is)
 
 pub has_peer : {h : History} {l : ℕ} {x : KeptLink} → IsUpHere h l x → None ≡ up_peer x.state → ⊥
@@ -338,7 +374,9 @@ has_peer here q = no_value {P = ⊥} (sym (q ∙ ap up_peer here.is))
 
 -- a link that is up awaits messages
 pub up_awaits : (h : History) (l : ℕ) → is_up l h.entries ≡ true → awaits l h.entries ≡ AwaitMessage
-up_awaits h l up = (whole_is_message l h.entries (and_parts (is_open l h.entries) (is_whole l h.entries) up).0).0 (and_parts (is_open l h.entries) (is_whole l h.entries) up).1
+up_awaits h l up =
+    (whole_is_message l h.entries (and_parts (is_open l h.entries) (is_whole l h.entries) up).0).0
+    (and_parts (is_open l h.entries) (is_whole l h.entries) up).1
 
 -- a body that is no message
 pub frame_unread : (h : History) (seat l : ℕ) (body : List ℕ) → is_up l h.entries ≡ true

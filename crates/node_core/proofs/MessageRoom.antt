@@ -1,34 +1,32 @@
 -- Room that is made for a message, and the answer to a Discover.
-use Rattle.node_core.proofs.Words.{Follows, Parts, same, early_checks, List, None, Some, ap, cond}
-use Rattle.node_core.proofs.Words.{false, get_or, refl, set, subst, sym, true}
-use Rattle.node_core.proofs.Words.{ℕ, [], ◌++◌, ◌∙◌, ◌∷◌, ◌≡◌, IsRowListing, count_of, kept_climbs}
-use Rattle.node_core.proofs.Words.{running_rises, first_broken, local_rows}
-use Rattle.node_core.proofs.Words.{begun_with, can_be_told, checks, frame_taken, link_version}
-use Rattle.node_core.proofs.Words.{message_checks, message_owes, Message2, takes_parts, nat_le}
-use Rattle.node_core.proofs.Words.{length, max_rows, said_in, Rule, ◌==◌, ◌||◌, ◌≤◌, Bool}
-use Rattle.node_core.proofs.Words.{leb-true, local_total, get_or_default}
-use Rattle.node_core.proofs.Words.{History, is_up, OutFrame, wide, is_full, just, Accepted}
-use Rattle.node_core.proofs.Words.{IsLinkOf, LinksFollow, link_words, KeptLink, with_frames}
-use Rattle.node_core.proofs.Words.{with_room, ScopesFollow, scope_words, Running}
-use Rattle.node_core.proofs.Words.{with_number, HasBecome, AnswersDiscover, Message, Event, Reply}
-use Rattle.node_core.proofs.Words.{IsAlone}
+use Rattle.node_core.proofs
+use proofs.Words.{Accepted, AnswersDiscover, ap, begun_with, Bool, can_be_told, checks, cond}
+use proofs.Words.{count_of, early_checks, Event, false, first_broken, Follows, frame_taken, get_or}
+use proofs.Words.{get_or_default, HasBecome, History, is_full, is_up, IsAlone, IsLinkOf}
+use proofs.Words.{IsRowListing, just, kept_climbs, KeptLink, leb-true, length, link_place}
+use proofs.Words.{link_version, link_words, LinksFollow, List, local_rows, local_total, max_rows}
+use proofs.Words.{Message, Message2, message_checks, message_owes, nat_le, None, OutFrame, Parts}
+use proofs.Words.{refl, Reply, Rule, Running, running_rises, said_in, same, scope_place}
+use proofs.Words.{scope_words, ScopesFollow, set, Some, subst, sym, takes_parts, true, wide}
+use proofs.Words.{with_frames, with_number, with_room, ℕ, [], ◌++◌, ◌==◌, ◌||◌, ◌∙◌, ◌∷◌, ◌≡◌, ◌≤◌}
 use Rattle.policy_audit.proofs.OwnRows.{sync_listing}
-use Rattle.node_core.proofs.Entered.{made}
-use Rattle.node_core.proofs.KeptOn.{one_follows, place_is}
-use Rattle.node_core.proofs.OneScope.{one_scope_follows}
-use Rattle.node_core.proofs.Scopes.{own_counts}
-use Rattle.node_core.proofs.MessagePlaces.{IsUpHere, IsScopeHere, up_here, scope_here, same_there}
-use Rattle.node_core.proofs.MessageKept.{its_links}
-use Rattle.node_core.proofs.MessageRefused.{behind_early, says_broken}
-use Rattle.node_core.proofs.RowsGone.{rows_total}
-use Rattle.node_core.proofs.MessageScopes.{counted, heard_there, told_there, becomes_running, discovered_next, discovered_follows}
-use Rattle.node_core.proofs.Words.{link_place, scope_place}
+use proofs.Entered.{made}
+use proofs.KeptOn.{one_follows, place_is}
+use proofs.OneScope.{one_scope_follows}
+use proofs.Scopes.{own_counts}
+use proofs.MessagePlaces.{IsScopeHere, IsUpHere, same_there, scope_here, up_here}
+use proofs.MessageKept.{its_links}
+use proofs.MessageRefused.{behind_early, says_broken}
+use proofs.RowsGone.{rows_total}
+use proofs.MessageScopes.{becomes_running, counted, discovered_follows, discovered_next}
+use proofs.MessageScopes.{heard_there, told_there}
 
 -- ---- nothing but room has changed
 
 pub roomed_links : {h : History} {parts : Parts} → Follows h parts → (l : ℕ) → is_up l h.entries
     ≡ true → {p : ℕ} {x a : KeptLink} → link_place l parts.links ≡ Some p
-    → x ≡ get_or parts.links p x → a ≡ with_room x a.room → LinksFollow (link_words h) (set parts.links p a)
+    → x ≡ get_or parts.links p x → a ≡ with_room x a.room
+    → LinksFollow (link_words h) (set parts.links p a)
 roomed_links {h} {parts} t l up {p} {x} {a} q is same =
     let here = up_here t l up q is in
     let place = place_is parts.links l p x q in
@@ -52,13 +50,17 @@ same_links t l up {p} {x} {a} q is same =
 pub same_scope : {h : History} {parts : Parts} → Follows h parts
     → (s : List ℕ) {p : ℕ} {r y : Running} → scope_place s parts.scopes ≡ Some p → r
     ≡ get_or parts.scopes p r
-    → HasBecome r y (count_of r.table) r.heard.items r.told.items → ScopesFollow (scope_words h) (set parts.scopes p y)
+    → HasBecome r y (count_of r.table) r.heard.items r.told.items
+    → ScopesFollow (scope_words h) (set parts.scopes p y)
 same_scope {h} {parts} t s {p} {r} {y} q is b =
     let there = scope_here t s q is in
     one_scope_follows (scope_words h) (scope_words h) s y
-    (becomes_running h s r there.named there.running h refl y (count_of r.table) r.heard.items r.told.items b
-    (counted h s r there.named there.running) (heard_there h s r there.named there.running) (told_there h s r there.named there.running))
-    (b.scope ∙ there.named) (λ z apart u. u) parts.scopes p r t.scopes (running_rises h) refl there.within (ap (λ z. z.scope) (sym there.is) ∙ there.named)
+    (becomes_running h s r there.named there.running h refl y (count_of r.table) r.heard.items
+    r.told.items b
+    (counted h s r there.named there.running) (heard_there h s r there.named there.running)
+    (told_there h s r there.named there.running))
+    (b.scope ∙ there.named) (λ z apart u. u) parts.scopes p r t.scopes (running_rises h) refl
+    there.within (ap (λ z. z.scope) (sym there.is) ∙ there.named)
 
 pub still_scope : {h : History} {parts : Parts} → Follows h parts → (s : List ℕ) {p : ℕ}
     {r : Running} → scope_place s parts.scopes ≡ Some p → r ≡ get_or parts.scopes p r
@@ -71,9 +73,18 @@ still_scope t s q is =
       told = refl;
     })
 
-pub follows_with : {h : History} {parts : Parts} → Follows h parts → {rs : List Running} {kept : List KeptLink} → ScopesFollow (scope_words h) rs → LinksFollow (link_words h) kept
+pub follows_with : {h : History} {parts : Parts} → Follows h parts
+    → {rs : List Running} {kept : List KeptLink} → ScopesFollow (scope_words h) rs
+    → LinksFollow (link_words h) kept
     → Follows h (record parts { scopes = rs; links = kept })
-follows_with t scopes links = record { sound = t.sound; admission = t.admission; processes = t.processes; scopes = scopes; links = links; monitors = t.monitors }
+follows_with t scopes links = record {
+  sound = t.sound;
+  admission = t.admission;
+  processes = t.processes;
+  scopes = scopes;
+  links = links;
+  monitors = t.monitors;
+}
 
 -- ---- the answer to a Discover
 
@@ -89,7 +100,8 @@ few_told {h} {parts} t s {p} {r} {o} at r_is o_is parted fits none =
     (same_there h parts.scopes s p r o (scope_here t s at r_is) o_is)
     ∙ fits)
 
-module _ {h : History} {parts : Parts} (t : Follows h parts) (seat l : ℕ) (body : List ℕ) (space : is_full h ≡ false) (up : is_up l h.entries ≡ true)
+module _ {h : History} {parts : Parts} (t : Follows h parts) (seat l : ℕ) (body : List ℕ)
+    (space : is_full h ≡ false) (up : is_up l h.entries ≡ true)
     {pl : ℕ} {x : KeptLink} (placed : link_place l parts.links ≡ Some pl)
     (x_is : x ≡ get_or parts.links pl x)
     (s : List ℕ) {p : ℕ} {r : Running} (at : scope_place s parts.scopes ≡ Some p)
@@ -157,16 +169,22 @@ module _ {h : History} {parts : Parts} (t : Follows h parts) (seat l : ℕ) (bod
         (record parts { scopes = set parts.scopes p y; links = set parts.links pl z })
     answered_now {o} {y} {v} {a} {z} {frames} o_is v_is became answered same owed =
         let one = same_there h parts.scopes s p r o its_scope o_is in
-        let becomes = subst (λ w. HasBecome w y (count_of w.table) w.heard.items (with_number l w.told.items)) one became in
-        let answer = answer_is (subst (λ w. AnswersDiscover w (takes_parts x.state) l s frames) one answered) in
+        let becomes =
+        subst (λ w. HasBecome w y (count_of w.table) w.heard.items (with_number l w.told.items))
+        one became in
+        let answer =
+        answer_is (subst (λ w. AnswersDiscover w (takes_parts x.state) l s frames) one
+        answered) in
         let is : z ≡ with_room (begun_with (with_frames x frames) None) z.room =
         owed
         ∙ ap (λ w. with_room (begun_with (with_frames w frames) None) z.room)
         (same ∙ ap (λ w. with_room w a.room) (again v_is)) in (
           discovered_next t seat l body space up placed x_is s y at r_is says holds,
-          discovered_follows t seat l body space up placed x_is s y at r_is says holds becomes (set parts.links pl z)
+          discovered_follows t seat l body space up placed x_is s y at r_is says holds becomes
+              (set parts.links pl z)
               (its_links h seat l body (Message2.Discover s) space up its_link.awaited says holds []
               parts.links t.sound.played t.links pl x z placed its_link
               (ap (λ w. w.number) is) (ap (λ w. w.state) is) (ap (λ w. w.begun) is)
-              (ap (λ w. w.prepared) is ∙ its_link.link.idle) (ap (λ w. w.frames) is ∙ ap (λ fs. x.frames ++ fs) answer)),
+              (ap (λ w. w.prepared) is ∙ its_link.link.idle)
+              (ap (λ w. w.frames) is ∙ ap (λ fs. x.frames ++ fs) answer)),
         )

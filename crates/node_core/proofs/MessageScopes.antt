@@ -1,33 +1,30 @@
 -- What each accepted message makes of its scope and of its link.
-use Rattle.node_core.proofs.Words.{said_at, begun, frame_taken, Message2, PartKind, message_checks}
-use Rattle.node_core.proofs.Words.{message_owes, rows_so_far, completed, append-nil}
-use Rattle.node_core.proofs.Words.{Bool, List, arith, ◌++◌, early_checks}
-use Rattle.node_core.proofs.Words.{up_peer, CoreFault}
-use Rattle.node_core.proofs.Words.{IsCalmFault, None, Some, ap, cond, false, get_or, nat_eq, not, refl, set, subst, sym, true, ℕ}
-use Rattle.node_core.proofs.Words.{[], ◌&&◌, ◌+◌, ◌-◌, ◌==◌, ◌||◌, ◌∙◌, ◌∷◌, ◌≡◌, and-true, eqb-true, same_decides, same_sym, IsDifference, occurrences, same}
-use Rattle.node_core.proofs.Words.{same_row, GroupChange, Pid, Row, count_after_drop, count_of}
-use Rattle.node_core.proofs.Words.{no_change, flip, if_some, first_broken, row}
-use Rattle.node_core.proofs.Words.{heard, told, History, is_up, listed, IsStep}
-use Rattle.node_core.proofs.Words.{begun_after, count_with, heard_with, IsRowFault, row_limit}
-use Rattle.node_core.proofs.Words.{table_refusal, Option, option_and_then}
-use Rattle.node_core.proofs.Words.{IsAlone}
-use Rattle.node_core.proofs.Words.{is_full, just, peer_of, Entry, Accepted}
-use Rattle.node_core.proofs.Words.{Follows, Parts, LinksFollow, link_words, KeptLink, IsCutOff, IsRunningOf, is_number, scope_words, count_after_sync}
-use Rattle.node_core.proofs.Words.{count_after_add, count_after_take, IsHeardNow, Running, with_number, without, running_rises, HasBecome, Message, Event}
-use Rattle.node_core.proofs.Words.{Reply}
-use Rattle.node_core.proofs.Words.{link_place, scope_place}
+use Rattle.node_core.proofs
+use proofs.Words.{Accepted, and-true, ap, append-nil, arith, begun, begun_after, Bool, completed}
+use proofs.Words.{cond, CoreFault, count_after_add, count_after_drop, count_after_sync}
+use proofs.Words.{count_after_take, count_of, count_with, early_checks, Entry, eqb-true, Event}
+use proofs.Words.{false, first_broken, flip, Follows, frame_taken, get_or, GroupChange, HasBecome}
+use proofs.Words.{heard, heard_with, History, if_some, is_full, is_number, is_up, IsAlone}
+use proofs.Words.{IsCalmFault, IsCutOff, IsDifference, IsHeardNow, IsRowFault, IsRunningOf, IsStep}
+use proofs.Words.{just, KeptLink, link_place, link_words, LinksFollow, List, listed, Message}
+use proofs.Words.{Message2, message_checks, message_owes, nat_eq, no_change, None, not, occurrences}
+use proofs.Words.{Option, option_and_then, PartKind, Parts, peer_of, Pid, refl, Reply, Row, row}
+use proofs.Words.{row_limit, rows_so_far, Running, running_rises, said_at, same, same_decides}
+use proofs.Words.{same_row, same_sym, scope_place, scope_words, set, Some, subst, sym}
+use proofs.Words.{table_refusal, told, true, up_peer, with_number, without, ℕ, [], ◌&&◌, ◌++◌, ◌+◌}
+use proofs.Words.{◌-◌, ◌==◌, ◌||◌, ◌∙◌, ◌∷◌, ◌≡◌}
 use Rattle.std.proofs.lemmas.List.Folds.{list_any-append}
-use Rattle.policy_audit.proofs.HeardSaid.{synced_heard, discovered_heard, downed_heard, joined_heard, left_heard}
-use Rattle.policy_audit.proofs.MessageRows.{discovered_rows, synced_rows, added_rows, taken_rows}
-use Rattle.policy_audit.proofs.MessageRows.{downed_rows, unsaid_rows}
+use Rattle.policy_audit.proofs.HeardSaid.{discovered_heard, downed_heard, joined_heard, left_heard}
+use Rattle.policy_audit.proofs.HeardSaid.{synced_heard}
+use Rattle.policy_audit.proofs.MessageRows.{added_rows, discovered_rows, downed_rows, synced_rows}
+use Rattle.policy_audit.proofs.MessageRows.{taken_rows, unsaid_rows}
 use Rattle.policy_audit.proofs.HeardNow.{unsaid_heard}
-use Rattle.node_core.proofs.Entered.{made, step_follows}
-use Rattle.node_core.proofs.MessagePlaces.{IsUpHere, IsScopeHere, up_here, scope_here, same_there}
-use Rattle.node_core.proofs.MessageRefused.{begun_is, limit_is, peer_is, rows_calm, table_is}
-use Rattle.node_core.proofs.MessageRefused.{table_silent}
-use Rattle.node_core.proofs.OneScope.{one_scope_follows, scope_change}
-use Rattle.node_core.proofs.ScopesCutOff.{number_left}
-use Rattle.node_core.proofs.MessageKept.{its_answered, its_next, its_links}
+use proofs.Entered.{made, step_follows}
+use proofs.MessagePlaces.{IsScopeHere, IsUpHere, same_there, scope_here, up_here}
+use proofs.MessageRefused.{begun_is, limit_is, peer_is, rows_calm, table_is, table_silent}
+use proofs.OneScope.{one_scope_follows, scope_change}
+use proofs.ScopesCutOff.{number_left}
+use proofs.MessageKept.{its_answered, its_links, its_next}
 
 -- ---- numbers
 
@@ -36,7 +33,8 @@ number_on j l ns = grind (arith, eqb-true l j, flip j l, list_any-append (nat_eq
 
 -- ---- the scope of a message
 
-module _ (h : History) (s : List ℕ) (r : Running) (named : r.scope ≡ s) (u : IsRunningOf (scope_words h) r) where
+module _ (h : History) (s : List ℕ) (r : Running) (named : r.scope ≡ s)
+    (u : IsRunningOf (scope_words h) r) where
   pub counted : (g : List ℕ) (p : Pid) → count_of r.table g p ≡ listed h s g p
   counted g p = u.rows g p ∙ ap (λ t. listed h t g p) named
 
@@ -46,7 +44,9 @@ module _ (h : History) (s : List ℕ) (r : Running) (named : r.scope ≡ s) (u :
   pub told_there : (j : ℕ) → is_number j r.told.items ≡ told h.opening j s h.entries
   told_there j = u.told j ∙ ap (λ t. told h.opening j t h.entries) named
 
-  module _ (k : History) (opening : k.opening ≡ h.opening) (y : Running) (count : List ℕ → Pid → ℕ) (hs ts : List ℕ) (b : HasBecome r y count hs ts) (rows : (g : List ℕ) (p : Pid) → count g p ≡ listed k s g p) where
+  module _ (k : History) (opening : k.opening ≡ h.opening) (y : Running) (count : List ℕ → Pid → ℕ)
+      (hs ts : List ℕ) (b : HasBecome r y count hs ts) (rows : (g : List ℕ) (p : Pid)
+      → count g p ≡ listed k s g p) where
     pub becomes_running : ((j : ℕ) → is_number j hs ≡ heard k.opening j s k.entries)
         → ((j : ℕ) → is_number j ts ≡ told k.opening j s k.entries) → IsRunningOf (scope_words k) y
     becomes_running hears tells =
@@ -60,12 +60,17 @@ module _ (h : History) (s : List ℕ) (r : Running) (named : r.scope ≡ s) (u :
               ∙ ap (λ t. told k.opening j t k.entries) same_name;
         }
 
-    difference_is : (groups : List GroupChange) → IsDifference (count_of r.table) (count_of y.table) groups → IsDifference (listed h s) (listed k s) groups
-    difference_is groups d = subst (λ (f : (List ℕ → Pid → ℕ) × (List ℕ → Pid → ℕ)). IsDifference f.0 f.1 groups) (λ i. (λ g p. counted g p i, λ g p. (b.rows.counts g p ∙ rows g p) i)) d
+    difference_is : (groups : List GroupChange)
+        → IsDifference (count_of r.table) (count_of y.table) groups
+        → IsDifference (listed h s) (listed k s) groups
+    difference_is groups d =
+        subst (λ (f : (List ℕ → Pid → ℕ) × (List ℕ → Pid → ℕ)). IsDifference f.0 f.1 groups)
+        (λ i. (λ g p. counted g p i, λ g p. (b.rows.counts g p ∙ rows g p) i)) d
 
 -- ---- the messages
 
-module _ {h : History} {parts : Parts} (t : Follows h parts) (seat l : ℕ) (body : List ℕ) (space : is_full h ≡ false) (up : is_up l h.entries ≡ true)
+module _ {h : History} {parts : Parts} (t : Follows h parts) (seat l : ℕ) (body : List ℕ)
+    (space : is_full h ≡ false) (up : is_up l h.entries ≡ true)
     {pl : ℕ} {x : KeptLink} (placed : link_place l parts.links ≡ Some pl)
     (x_is : x ≡ get_or parts.links pl x)
     (s : List ℕ) {p : ℕ} {r : Running} (y : Running) (at : scope_place s parts.scopes ≡ Some p)
@@ -107,10 +112,12 @@ module _ {h : History} {parts : Parts} (t : Follows h parts) (seat l : ℕ) (bod
       × Follows (after_it gs)
       (record parts { scopes = set parts.scopes p y; links = set parts.links pl z })
 
-  -- a message of which is known what it makes of a count, and of whether a link is heard and told, here and at other scopes
+  -- a message of which is known what it makes of a count, and of whether a link is heard and told,
+  -- here and at other scopes
   module _ (m : Message2) (says : frame_taken h.opening l h.entries body ≡ Some m)
       (holds : first_broken (message_checks h l m) ≡ None) (gs : List GroupChange)
-      (counts : ℕ → List ℕ → Pid → ℕ) (hears tells : Bool → Bool → Bool) (plain : (b : Bool) → (hears b false ≡ b) × (tells b false ≡ b))
+      (counts : ℕ → List ℕ → Pid → ℕ) (hears tells : Bool → Bool → Bool) (plain : (b : Bool)
+      → (hears b false ≡ b) × (tells b false ≡ b))
       (rows : IsStep h (entry gs) → (u g : List ℕ) (q : Pid)
       → listed (after_it gs) u g q
       ≡ cond (same u s) (counts (listed h u g q) g q) (listed h u g q))
@@ -118,7 +125,8 @@ module _ {h : History} {parts : Parts} (t : Follows h parts) (seat l : ℕ) (bod
       → IsHeardNow (after_it gs) j u (hears (heard h.opening j u h.entries) (l == j && same s u))
       (tells (told h.opening j u h.entries) (l == j && same s u)))
       (hs ts : List ℕ) (b : HasBecome r y (λ g q. counts (count_of r.table g q) g q) hs ts)
-      (heard_so : (j : ℕ) → is_number j hs ≡ hears (is_number j r.heard.items) (l == j)) (told_so : (j : ℕ) → is_number j ts ≡ tells (is_number j r.told.items) (l == j)) where
+      (heard_so : (j : ℕ) → is_number j hs ≡ hears (is_number j r.heard.items) (l == j))
+      (told_so : (j : ℕ) → is_number j ts ≡ tells (is_number j r.told.items) (l == j)) where
     so : IsStep h (entry gs)
     so = its_answered h seat l body m space up here.awaited says holds (if_some s gs)
 
@@ -131,13 +139,17 @@ module _ {h : History} {parts : Parts} (t : Follows h parts) (seat l : ℕ) (bod
     elsewhere : (j : ℕ) (u : List ℕ) → same u s ≡ false → (l == j && same s u) ≡ false
     elsewhere j u apart = grind (arith, same_sym s u)
 
-    rows_here : (g : List ℕ) (q : Pid) → counts (count_of r.table g q) g q ≡ listed (after_it gs) s g q
-    rows_here g q = ap (λ n. counts n g q) (counted h s r there.named there.running g q) ∙ sym (rows so s g q ∙ grind (arith, itself))
+    rows_here : (g : List ℕ) (q : Pid)
+        → counts (count_of r.table g q) g q ≡ listed (after_it gs) s g q
+    rows_here g q = ap (λ n. counts n g q) (counted h s r there.named there.running g q)
+        ∙ sym (rows so s g q ∙ grind (arith, itself))
 
-    rows_apart : (u : List ℕ) → same u s ≡ false → (g : List ℕ) (q : Pid) → listed (after_it gs) u g q ≡ listed h u g q
+    rows_apart : (u : List ℕ) → same u s ≡ false → (g : List ℕ) (q : Pid)
+        → listed (after_it gs) u g q ≡ listed h u g q
     rows_apart u apart g q = rows so u g q ∙ grind (arith, apart)
 
-    still : (z : Running) → same z.scope s ≡ false → IsRunningOf (scope_words h) z → IsRunningOf (scope_words (after_it gs)) z
+    still : (z : Running) → same z.scope s ≡ false → IsRunningOf (scope_words h) z
+        → IsRunningOf (scope_words (after_it gs)) z
     still z apart u = record {
       own = u.own;
       rows = λ g q. u.rows g q ∙ sym (rows_apart z.scope apart g q);
@@ -156,17 +168,26 @@ module _ {h : History} {parts : Parts} (t : Follows h parts) (seat l : ℕ) (bod
         → Follows (after_it gs) (record parts { scopes = set parts.scopes p y; links = kept })
     follows next kept links = step_follows t next refl t.admission t.processes
         (one_scope_follows (scope_words h) (scope_words (after_it gs)) s y
-        (becomes_running h s r there.named there.running (after_it gs) refl y (λ g q. counts (count_of r.table g q) g q) hs ts b rows_here
-        (λ j. heard_so j ∙ (λ i. hears (heard_there h s r there.named there.running j i) (its_own j i)) ∙ sym (talk so j s).heard_is)
-        (λ j. told_so j ∙ (λ i. tells (told_there h s r there.named there.running j i) (its_own j i)) ∙ sym (talk so j s).told_is))
-        (b.scope ∙ there.named) still parts.scopes p r t.scopes (running_rises h) refl there.within (ap (λ z. z.scope) (sym there.is) ∙ there.named))
+        (becomes_running h s r there.named there.running (after_it gs) refl y
+        (λ g q. counts (count_of r.table g q) g q) hs ts b rows_here
+        (λ j. heard_so j
+        ∙ (λ i. hears (heard_there h s r there.named there.running j i) (its_own j i))
+        ∙ sym (talk so j s).heard_is)
+        (λ j. told_so j
+        ∙ (λ i. tells (told_there h s r there.named there.running j i) (its_own j i))
+        ∙ sym (talk so j s).told_is))
+        (b.scope ∙ there.named) still parts.scopes p r t.scopes (running_rises h) refl there.within
+        (ap (λ z. z.scope) (sym there.is) ∙ there.named))
         links
 
     -- its change is the difference of the scope
     changed_next : IsDifference (count_of r.table) (count_of y.table) gs → IsAlone h (entry gs)
     changed_next differ =
         its_next h seat l body m space up here.awaited says holds (if_some s gs)
-        (scope_change h (after_it gs) s gs (difference_is h s r there.named there.running (after_it gs) refl y (λ g q. counts (count_of r.table g q) g q) hs ts b rows_here gs differ) (λ u g q apart. sym (rows_apart u apart g q)))
+        (scope_change h (after_it gs) s gs
+        (difference_is h s r there.named there.running (after_it gs) refl y
+        (λ g q. counts (count_of r.table g q) g q) hs ts b rows_here gs differ)
+        (λ u g q apart. sym (rows_apart u apart g q)))
 
     -- nothing is owed to it
     silent : message_owes h l m ≡ [] → {z : KeptLink} → IsLinkAfter m z
@@ -199,12 +220,17 @@ module _ {h : History} {parts : Parts} (t : Follows h parts) (seat l : ℕ) (bod
         (listed_so (its_answered h seat l body (Message2.Discover s) space up here.awaited
         says holds []) u g q)))
 
-    pub discovered_follows : HasBecome r y (count_of r.table) r.heard.items (with_number l r.told.items) → (kept : List KeptLink) → LinksFollow (link_words (after_it [])) kept
+    pub discovered_follows : HasBecome r y (count_of r.table) r.heard.items
+        (with_number l r.told.items) → (kept : List KeptLink)
+        → LinksFollow (link_words (after_it [])) kept
         → Follows (after_it []) (record parts { scopes = set parts.scopes p y; links = kept })
-    discovered_follows b = follows (Message2.Discover s) says holds [] (λ n g q. n) (λ b c. b) (λ b c. c || b) (λ b. (refl, refl)) (λ so u g q. listed_so so u g q ∙ grind arith)
+    discovered_follows b =
+        follows (Message2.Discover s) says holds [] (λ n g q. n) (λ b c. b) (λ b c. c || b)
+        (λ b. (refl, refl)) (λ so u g q. listed_so so u g q ∙ grind arith)
         (λ so j u. discovered_heard h t.sound.played (entry []) so refl l body refl here.awaited j
         u s (on_link says refl))
-        r.heard.items (with_number l r.told.items) b (λ j. refl) (λ j. number_on j l r.told.items) discovered_next
+        r.heard.items (with_number l r.told.items) b (λ j. refl) (λ j. number_on j l r.told.items)
+        discovered_next
 
   -- the peer of the link is n
   module _ {n : List ℕ} (far : Some n ≡ up_peer x.state) where
@@ -229,7 +255,8 @@ module _ {h : History} {parts : Parts} (t : Follows h parts) (seat l : ℕ) (bod
         → frame_taken h.opening l h.entries body ≡ Some (Message2.Part kind s number last rows)
         → first_broken (early_checks h l (Message2.Part kind s number last rows)) ≡ None
         → (f : CoreFault)
-        → IsRowFault (table_refusal r.table n kind (all_rows kind number rows) (row_limit x.state)) f
+        → IsRowFault (table_refusal r.table n kind (all_rows kind number rows) (row_limit x.state))
+        f
         → IsCalmFault h seat (Event.Frame l body) f
     refused_calm kind number last rows says early =
         rows_calm h seat l body up here.awaited (Message2.Part kind s number last rows) says
@@ -250,14 +277,18 @@ module _ {h : History} {parts : Parts} (t : Follows h parts) (seat l : ℕ) (bod
           → IsLinkAfter (last_part PartKind.Sync) z → IsKept gs z
       synced says holds gs b differ {z} is =
           let all = all_rows PartKind.Sync number rows in
-          let said = on_link says (ap (λ rs. Some (Message.Sync s rs)) (all_are PartKind.Sync number rows)) in
+          let said = on_link says
+          (ap (λ rs. Some (Message.Sync s rs)) (all_are PartKind.Sync number rows)) in
           silent (last_part PartKind.Sync) says holds gs
-          (λ k g q. cond (same q.node n) (occurrences same_row (row g q) all) k) (λ b c. c || b) (λ b c. b) (λ b. (refl, refl))
-          (λ so. synced_rows h t.sound.played (entry gs) so refl l body refl n here.awaited of other s
+          (λ k g q. cond (same q.node n) (occurrences same_row (row g q) all) k) (λ b c. c || b)
+          (λ b c. b) (λ b. (refl, refl))
+          (λ so. synced_rows h t.sound.played (entry gs) so refl l body refl n here.awaited of other
+          s
           all said)
           (λ so j u. synced_heard h t.sound.played (entry gs) so refl l body refl here.awaited j u s
           all said)
-          (with_number l r.heard.items) r.told.items b (λ j. number_on j l r.heard.items) (λ j. refl) refl is differ
+          (with_number l r.heard.items) r.told.items b (λ j. number_on j l r.heard.items)
+          (λ j. refl) refl is differ
 
       added : frame_taken h.opening l h.entries body ≡ Some (last_part PartKind.Join)
           → first_broken (message_checks h l (last_part PartKind.Join)) ≡ None
@@ -268,10 +299,13 @@ module _ {h : History} {parts : Parts} (t : Follows h parts) (seat l : ℕ) (bod
           → IsLinkAfter (last_part PartKind.Join) z → IsKept gs z
       added says holds gs b differ {z} is =
           let all = all_rows PartKind.Join number rows in
-          let said = on_link says (ap (λ rs. Some (Message.Join s rs)) (all_are PartKind.Join number rows)) in
+          let said = on_link says
+          (ap (λ rs. Some (Message.Join s rs)) (all_are PartKind.Join number rows)) in
           silent (last_part PartKind.Join) says holds gs
-          (λ k g q. k + occurrences same_row (row g q) all) (λ b c. b) (λ b c. b) (λ b. (refl, refl))
-          (λ so. added_rows h t.sound.played (entry gs) so refl l body refl n here.awaited of other s
+          (λ k g q. k + occurrences same_row (row g q) all) (λ b c. b) (λ b c. b)
+          (λ b. (refl, refl))
+          (λ so. added_rows h t.sound.played (entry gs) so refl l body refl n here.awaited of other
+          s
           all said)
           (λ so j u. joined_heard h t.sound.played (entry gs) so refl l body refl here.awaited j u s
           all said)
@@ -286,10 +320,13 @@ module _ {h : History} {parts : Parts} (t : Follows h parts) (seat l : ℕ) (bod
           → IsLinkAfter (last_part PartKind.Leave) z → IsKept gs z
       taken says holds gs b differ {z} is =
           let all = all_rows PartKind.Leave number rows in
-          let said = on_link says (ap (λ rs. Some (Message.Leave s rs)) (all_are PartKind.Leave number rows)) in
+          let said = on_link says
+          (ap (λ rs. Some (Message.Leave s rs)) (all_are PartKind.Leave number rows)) in
           silent (last_part PartKind.Leave) says holds gs
-          (λ k g q. k - occurrences same_row (row g q) all) (λ b c. b) (λ b c. b) (λ b. (refl, refl))
-          (λ so. taken_rows h t.sound.played (entry gs) so refl l body refl n here.awaited of other s
+          (λ k g q. k - occurrences same_row (row g q) all) (λ b c. b) (λ b c. b)
+          (λ b. (refl, refl))
+          (λ so. taken_rows h t.sound.played (entry gs) so refl l body refl n here.awaited of other
+          s
           all said)
           (λ so j u. left_heard h t.sound.played (entry gs) so refl l body refl here.awaited j u s
           all said)
@@ -304,7 +341,8 @@ module _ {h : History} {parts : Parts} (t : Follows h parts) (seat l : ℕ) (bod
           → IsDifference (count_of r.table) (count_of y.table) gs → {z : KeptLink}
           → IsLinkAfter (Message2.Part kind s number false rows) z → IsKept gs z
       unfinished kind says holds gs b differ {z} is =
-          silent (Message2.Part kind s number false rows) says holds gs (λ k g q. k) (λ b c. b) (λ b c. b) (λ b. (refl, refl))
+          silent (Message2.Part kind s number false rows) says holds gs (λ k g q. k) (λ b c. b)
+          (λ b c. b) (λ b. (refl, refl))
           (λ so u g q. unsaid_rows h t.sound.played (entry gs) so refl l body refl n here.awaited of
           other (on_link says refl) u g q ∙ grind arith)
           (λ so j u. unsaid_heard h t.sound.played (entry gs) so refl l body refl here.awaited
@@ -334,14 +372,19 @@ module _ {h : History} {parts : Parts} (t : Follows h parts) (seat l : ℕ) (bod
 
     pub downed : frame_taken h.opening l h.entries body ≡ Some (Message2.Down s)
         → first_broken (early_checks h l (Message2.Down s)) ≡ None → (gs : List GroupChange)
-        → IsCutOff l n r y → {o : Running} → o ≡ get_or parts.scopes p o → IsDifference (count_of o.table) (count_after_drop o.table n) gs → {z : KeptLink}
+        → IsCutOff l n r y → {o : Running} → o ≡ get_or parts.scopes p o
+        → IsDifference (count_of o.table) (count_after_drop o.table n) gs → {z : KeptLink}
         → IsLinkAfter (Message2.Down s) z → IsKept gs z
-    downed says early gs cut {o} o_is differ {z} is = silent (Message2.Down s) says early gs (λ k g q. cond (same q.node n) 0 k) (λ b c. b && not c) (λ b c. b && not c) (λ b. (and-true b, and-true b))
+    downed says early gs cut {o} o_is differ {z} is =
+        silent (Message2.Down s) says early gs (λ k g q. cond (same q.node n) 0 k)
+        (λ b c. b && not c) (λ b c. b && not c) (λ b. (and-true b, and-true b))
         (λ so. downed_rows h t.sound.played (entry gs) so refl l body refl n here.awaited of
         other s (on_link says refl))
         (λ so j u. downed_heard h t.sound.played (entry gs) so refl l body refl here.awaited j
         u s (on_link says refl))
-        (without l r.heard.items) (without l r.told.items) (record { scope = cut.scope; rows = cut.rows; heard = cut.heard; told = cut.told })
+        (without l r.heard.items) (without l r.told.items)
+        (record { scope = cut.scope; rows = cut.rows; heard = cut.heard; told = cut.told })
         (λ j. number_left j l r.heard.items) (λ j. number_left j l r.told.items) refl is
         (subst (λ f. IsDifference (count_of r.table) f gs) (λ i g q. sym (cut.rows.counts g q) i)
-        (subst (λ w. IsDifference (count_of w.table) (count_after_drop w.table n) gs) (same_there h parts.scopes s p r o there o_is) differ))
+        (subst (λ w. IsDifference (count_of w.table) (count_after_drop w.table n) gs)
+        (same_there h parts.scopes s p r o there o_is) differ))

@@ -1,25 +1,18 @@
 -- A Discover that ends its link: too many frames would wait for it.
-use Rattle.node_core.proofs.Words.{begun, begun_with, completed, frame_taken, message_checks, said_at}
-use Rattle.node_core.proofs.Words.{frames_to, link_version, local_total, message_owes, Message2}
-use Rattle.node_core.proofs.Words.{option_and_then, said_in, suc, sync_frames, zero}
-use Rattle.node_core.proofs.Words.{takes_parts, Row, PartKind, length-map, max_rows, drop}
-use Rattle.node_core.proofs.Words.{arith, ap, refl, subst, sym, ◌∙◌, Bool, List, None, Some, []}
-use Rattle.node_core.proofs.Words.{◌∷◌, ◌≡◌, ◌&&◌, ◌++◌, ◌+◌, ◌==◌, cond, false, true, not, ℕ}
-use Rattle.node_core.proofs.Words.{length}
-use Rattle.node_core.proofs.Words.{map, nat_lt, reverse, filter, set, get_or, and_both, and_parts}
-use Rattle.node_core.proofs.Words.{History, past, is_open, is_up, is_whole, named_by, is_last}
-use Rattle.node_core.proofs.Words.{heard, is_full}
-use Rattle.node_core.proofs.Words.{IsLegal, IsStep, IsNext, with_entry, just, lose, loss, audit_of}
-use Rattle.node_core.proofs.Words.{max_waiting}
-use Rattle.node_core.proofs.Words.{Entry, Accepted, Event, Reply, Message, Change, same, IsChange}
-use Rattle.node_core.proofs.Words.{entry_link, framed_numbers, Follows, Parts, IsAlone, IsSound}
-use Rattle.node_core.proofs.Words.{LinksFollow, link_words, KeptLink, Running, up_peer}
-use Rattle.node_core.proofs.Words.{without_number}
-use Rattle.node_core.proofs.Words.{AreCut, AreLost, OutFrame, and-true, is_some, get_or_default}
-use Rattle.node_core.proofs.Words.{with_frames, first_broken, is_number}
-use Rattle.node_core.proofs.Words.{link_place, scope_place, waiting, frame_owes, AwaitMessage}
-use Rattle.node_core.proofs.Words.{is_kept}
-use Rattle.node_core.proofs.Words.{no_value, le-ltb, lt-ltb, local_rows, wide, ◌≤◌, ◌<◌}
+use Rattle.node_core.proofs
+use proofs.Words.{Accepted, and-true, and_both, and_parts, ap, AreCut, AreLost, arith, audit_of}
+use proofs.Words.{AwaitMessage, begun, begun_with, Bool, Change, completed, cond, drop, Entry}
+use proofs.Words.{entry_link, Event, false, filter, first_broken, Follows, frame_owes, frame_taken}
+use proofs.Words.{framed_numbers, frames_to, get_or, get_or_default, heard, History, is_full}
+use proofs.Words.{is_kept, is_last, is_number, is_open, is_some, is_up, is_whole, IsAlone, IsChange}
+use proofs.Words.{IsLegal, IsNext, IsSound, IsStep, just, KeptLink, le-ltb, length, length-map}
+use proofs.Words.{link_place, link_version, link_words, LinksFollow, List, local_rows, local_total}
+use proofs.Words.{lose, loss, lt-ltb, map, max_rows, max_waiting, Message, Message2, message_checks}
+use proofs.Words.{message_owes, named_by, nat_lt, no_value, None, not, option_and_then, OutFrame}
+use proofs.Words.{PartKind, Parts, past, refl, Reply, reverse, Row, Running, said_at, said_in, same}
+use proofs.Words.{scope_place, set, Some, subst, suc, sym, sync_frames, takes_parts, true, up_peer}
+use proofs.Words.{waiting, wide, with_entry, with_frames, without_number, zero, ℕ, [], ◌&&◌, ◌++◌}
+use proofs.Words.{◌+◌, ◌<◌, ◌==◌, ◌∙◌, ◌∷◌, ◌≡◌, ◌≤◌}
 use Rattle.std.proofs.lemmas.List.{length-append}
 use Rattle.group_monitors.specs.Follows.{FollowsPolicy}
 use Rattle.policy_audit.proofs.Onward.{message_taken_on}
@@ -29,17 +22,16 @@ use Rattle.policy_audit.proofs.HeardNow.{lost_heard}
 use Rattle.policy_audit.proofs.HeardSaid.{discovered_heard}
 use Rattle.policy_audit.proofs.MessageRows.{discovered_rows}
 use Rattle.policy_audit.proofs.RowsAfter.{lost_rows}
-use Rattle.node_core.proofs.Entered.{made, sound_now}
-use Rattle.node_core.proofs.KeptOn.{place_is}
-use Rattle.node_core.proofs.Losing.{IsGone, RowsGone, IsUpWith, gone_change, gone_links}
-use Rattle.node_core.proofs.Losing.{gone_scopes}
-use Rattle.node_core.proofs.SlowLinks.{is_slow_link, slow_are, none_kept_slow, none_lost, one_slow}
-use Rattle.node_core.proofs.SlowLinks.{lost_opens, monitors_still}
-use Rattle.node_core.proofs.MessagePlaces.{IsUpHere, IsScopeHere, up_here, scope_here}
-use Rattle.node_core.proofs.MessageKept.{its_answered, its_verdict, its_links}
-use Rattle.node_core.proofs.RowsGone.{rows_total}
+use proofs.Entered.{made, sound_now}
+use proofs.KeptOn.{place_is}
+use proofs.Losing.{gone_change, gone_links, gone_scopes, IsGone, IsUpWith, RowsGone}
+use proofs.SlowLinks.{is_slow_link, lost_opens, monitors_still, none_kept_slow, none_lost, one_slow}
+use proofs.SlowLinks.{slow_are}
+use proofs.MessagePlaces.{IsScopeHere, IsUpHere, scope_here, up_here}
+use proofs.MessageKept.{its_answered, its_links, its_verdict}
+use proofs.RowsGone.{rows_total}
 use Rattle.link_frames.specs.Parts.{before_last, message2_bytes, parts as parts_of, parts_from}
-use Rattle.node_core.proofs.MessageScopes.{heard_there, discovered_next}
+use proofs.MessageScopes.{discovered_next, heard_there}
 
 -- how many parts there are
 parts_count : (kind : PartKind) (s : List ℕ) (number more : ℕ) (rows : List Row)

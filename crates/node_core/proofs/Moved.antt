@@ -1,19 +1,18 @@
 -- One scope whose own rows have changed, and the links that are told of it.
-use Rattle.node_core.proofs.Words.{and_parts, facts, is_open, is_up, is_whole, link_version}
-use Rattle.node_core.proofs.Words.{first_of, said_in, talk, tells as tells_it, true, unwrap_or, ◌==◌}
-use Rattle.node_core.proofs.Words.{arith, Bool, List, Some, ap, cond, false, get_or, refl, not, set}
-use Rattle.node_core.proofs.Words.{subst, sym, ℕ, [], ◌||◌, ◌∙◌, ◌≡◌}
-use Rattle.node_core.proofs.Words.{IsDifference, is_empty, same, Pid, Row, Message, count_of, IsChange, if_some, heard, told, History, listed}
-use Rattle.node_core.proofs.Words.{OutFrame, running_scopes, Change, Follows, Parts, KeptLink}
-use Rattle.node_core.proofs.Words.{AreTold, IsMovedBy, IsOwnChange, said_to, IsRunningOf}
-use Rattle.node_core.proofs.Words.{ScopesFollow, is_number}
-use Rattle.node_core.proofs.Words.{scope_words, Alike, if_among, running_rises, set-get_or, if_told, Running}
-use Rattle.node_core.proofs.Words.{scope_place}
+use Rattle.node_core.proofs
+use proofs.Words.{Alike, and_parts, ap, AreTold, arith, Bool, Change, cond, count_of, facts, false}
+use proofs.Words.{first_of, Follows, get_or, heard, History, if_among, if_some, if_told, is_empty}
+use proofs.Words.{is_number, is_open, is_up, is_whole, IsChange, IsDifference, IsMovedBy}
+use proofs.Words.{IsOwnChange, IsRunningOf, KeptLink, link_version, List, listed, Message, not}
+use proofs.Words.{OutFrame, Parts, Pid, refl, Row, Running, running_rises, running_scopes, said_in}
+use proofs.Words.{said_to, same, scope_place, scope_words, ScopesFollow, set, set-get_or, Some}
+use proofs.Words.{subst, sym, talk, tells as tells_it, told, true, unwrap_or, ℕ, [], ◌==◌, ◌||◌}
+use proofs.Words.{◌∙◌, ◌≡◌}
 use Rattle.scope_core.specs.Calls.{Counts}
-use Rattle.node_core.proofs.Scopes.{counts_listed}
-use Rattle.node_core.proofs.MessagePlaces.{scope_here}
-use Rattle.node_core.proofs.OneScope.{one_scope_follows, scope_change}
-use Rattle.node_core.proofs.Told.{IsItsWay, alike_again}
+use proofs.Scopes.{counts_listed}
+use proofs.MessagePlaces.{scope_here}
+use proofs.OneScope.{one_scope_follows, scope_change}
+use proofs.Told.{alike_again, IsItsWay}
 
 -- ---- what waits for the links that are told
 
@@ -74,13 +73,16 @@ moved_so by links own = record {
 
 module _ (h : History) (seat : ℕ) (parts : Parts) (t : Follows h parts) (s : List ℕ) (p : ℕ)
     (here : scope_place s parts.scopes ≡ Some p) (a b : Running) (at : a ≡ get_or parts.scopes p a)
-    (m : Message) (count : List ℕ → Pid → ℕ) (links : List KeptLink) (cs : List Change) (moved : IsMoved m count a b parts.links links cs) where
+    (m : Message) (count : List ℕ → Pid → ℕ) (links : List KeptLink) (cs : List Change)
+    (moved : IsMoved m count a b parts.links links cs) where
   its_scope : a.scope ≡ s
   its_scope = (scope_here t s here at).named
 
-  module _ (k : History) (rows : (f : List ℕ) (q : Pid) → listed k s f q ≡ count f q) (others : (u f : List ℕ) (q : Pid) → same u s ≡ false → listed h u f q ≡ listed k u f q) where
+  module _ (k : History) (rows : (f : List ℕ) (q : Pid) → listed k s f q ≡ count f q)
+      (others : (u f : List ℕ) (q : Pid) → same u s ≡ false → listed h u f q ≡ listed k u f q) where
     now_counted : (f : List ℕ) (q : Pid) → count_of b.table f q ≡ listed k b.scope f q
-    now_counted f q = moved.rows.counts f q ∙ sym (rows f q) ∙ ap (λ u. listed k u f q) (sym (moved.scope ∙ its_scope))
+    now_counted f q = moved.rows.counts f q ∙ sym (rows f q)
+        ∙ ap (λ u. listed k u f q) (sym (moved.scope ∙ its_scope))
 
     pub moved_change : IsChange h k cs
     moved_change =
@@ -94,7 +96,8 @@ module _ (h : History) (seat : ℕ) (parts : Parts) (t : Follows h parts) (s : L
         others)
 
   -- the scopes after it
-  module _ (k : History) (rows : (f : List ℕ) (q : Pid) → listed k s f q ≡ count f q) (others : (u f : List ℕ) (q : Pid) → same u s ≡ false → listed h u f q ≡ listed k u f q)
+  module _ (k : History) (rows : (f : List ℕ) (q : Pid) → listed k s f q ≡ count f q)
+      (others : (u f : List ℕ) (q : Pid) → same u s ≡ false → listed h u f q ≡ listed k u f q)
       (running : running_scopes k ≡ running_scopes h) (own_name : k.opening.name ≡ h.opening.name)
       (hears : (l : ℕ) (u : List ℕ) → heard k.opening l u k.entries ≡ heard h.opening l u h.entries)
       (tells : (l : ℕ) (u : List ℕ) → told k.opening l u k.entries ≡ told h.opening l u h.entries)
@@ -112,7 +115,8 @@ module _ (h : History) (seat : ℕ) (parts : Parts) (t : Follows h parts) (s : L
             ∙ ap (λ u. told h.opening l u h.entries) (sym moved.scope) ∙ sym (tells l b.scope);
       }
 
-      still : (r : Running) → same r.scope s ≡ false → IsRunningOf (scope_words h) r → IsRunningOf (scope_words k) r
+      still : (r : Running) → same r.scope s ≡ false → IsRunningOf (scope_words h) r
+          → IsRunningOf (scope_words k) r
       still r other q = record {
         own = q.own ∙ sym own_name;
         rows = λ f x. q.rows f x ∙ others r.scope f x other;
@@ -121,8 +125,10 @@ module _ (h : History) (seat : ℕ) (parts : Parts) (t : Follows h parts) (s : L
       }
 
       pub moved_scopes : ScopesFollow (scope_words k) (set parts.scopes p b)
-      moved_scopes = one_scope_follows (scope_words h) (scope_words k) s b changed (moved.scope ∙ its_scope) still
-          parts.scopes p a t.scopes (running_rises h) running (scope_here t s here at).within (sym (ap (λ r. r.scope) at) ∙ its_scope)
+      moved_scopes = one_scope_follows (scope_words h) (scope_words k) s b changed
+          (moved.scope ∙ its_scope) still
+          parts.scopes p a t.scopes (running_rises h) running (scope_here t s here at).within
+          (sym (ap (λ r. r.scope) at) ∙ its_scope)
 
   -- what is told of rows, to links of which as many are told as the policy says
   pub moved_frames : (say : List ℕ → List Row → Message) (brought : List Row) (l : ℕ)
@@ -134,12 +140,17 @@ module _ (h : History) (seat : ℕ) (parts : Parts) (t : Follows h parts) (s : L
       let there = (scope_here t s here at).running in
       rows_told h l s (say s) brought a.told.items parted way
       (there.told l ∙ ap (λ u. told h.opening l u h.entries) its_scope)
-      ∙ ap (λ u. if_among (cond (not (is_empty brought)) a.told.items []) (said_in (say u brought)) l
+      ∙ ap (λ u. if_among (cond (not (is_empty brought)) a.told.items []) (said_in (say u brought))
+      l
       parted) (sym its_scope)
 
 -- ---- where nothing was moved
 
 -- all is as before where the scope at the place is the same, and the links are but for their room
-pub unmoved : {h : History} {parts : Parts} → Follows h parts → (p : ℕ) {a b : Running} → a ≡ get_or parts.scopes p a → b ≡ a → {links : List KeptLink} → Alike parts.links links → Follows h (record parts { scopes = set parts.scopes p b; links = links })
+pub unmoved : {h : History} {parts : Parts} → Follows h parts → (p : ℕ) {a b : Running}
+    → a ≡ get_or parts.scopes p a → b ≡ a → {links : List KeptLink} → Alike parts.links links
+    → Follows h (record parts { scopes = set parts.scopes p b; links = links })
 unmoved {h} {parts} t p {a} at same {links} alike =
-    subst (λ rs. Follows h (record parts { scopes = rs; links = links })) (sym ((λ i. set parts.scopes p ((same ∙ at) i)) ∙ set-get_or parts.scopes p a)) (alike_again h parts t links alike)
+    subst (λ rs. Follows h (record parts { scopes = rs; links = links }))
+    (sym ((λ i. set parts.scopes p ((same ∙ at) i)) ∙ set-get_or parts.scopes p a))
+    (alike_again h parts t links alike)

@@ -1,24 +1,23 @@
 -- Changes of own rows, as they are made before they happen.
-use Rattle.node_core.proofs.Words.{List, None, Option, Some, false, refl, ℕ, [], ◌∷◌, ◌≡◌, Bool}
-use Rattle.node_core.proofs.Words.{not, AllByRecursion, AllZip, filter, arith}
-use Rattle.node_core.proofs.Words.{is_empty, IsProper, GroupChange, Change, if_some, Table, Pid}
-use Rattle.node_core.proofs.Words.{IsParting, Running, KeptLink, IsDifference}
-use Rattle.node_core.proofs.Words.{Result, Ok, Err, OnOk, OnErr, OutFrame, AreIdle, ArePrepared}
-use Rattle.node_core.proofs.Words.{Alike, unroomed, with_prepared, map, subst, sym, ◌∙◌, ◌<◌}
-use Rattle.node_core.proofs.Words.{length, get_or, get_or_default}
-use Rattle.node_core.proofs.Words.{All, min, cond, ◌-◌, ◌⊎◌, inl, inr, Pid, same, same_pid}
-use Rattle.node_core.proofs.Words.{mentions, same_decides, same_pid_decides, same_sym, IsPidListing}
-use Rattle.node_core.proofs.Words.{count_of, local_count, count_after_join, count_after_leave}
+use Rattle.node_core.proofs
+use Rattle.node_core.specs
+use proofs.Words.{Alike, All, AllByRecursion, AllZip, AreIdle, ArePrepared, arith, Bool, Change}
+use proofs.Words.{cond, count_after_join, count_after_leave, count_of, Err, false, filter, get_or}
+use proofs.Words.{get_or_default, GroupChange, if_some, inl, inr, is_empty, IsDifference, IsParting}
+use proofs.Words.{IsPidListing, IsProper, KeptLink, length, List, local_count, map, mentions, min}
+use proofs.Words.{None, not, Ok, OnErr, OnOk, Option, OutFrame, Pid, refl, Result, Running, same}
+use proofs.Words.{same_decides, same_pid, same_pid_decides, same_sym, Some, subst, sym, Table}
+use proofs.Words.{unroomed, with_prepared, ℕ, [], ◌-◌, ◌<◌, ◌∙◌, ◌∷◌, ◌≡◌, ◌⊎◌}
 use Rattle.std.specs.Result.{IfOk}
 use Rattle.dist_types.specs.Difference.{change_unless_empty}
 use Rattle.dist_types.proofs.Differences.{one_difference}
 use Rattle.dist_types.proofs.Sorts.{all_from}
 use Rattle.scope_core.proofs.Calls.{joined_change}
 use Rattle.scope_core.proofs.Rising.{all_map, none_pass}
-use Rattle.node_core.proofs.Told.{forgotten, prepared_bare}
-use Rattle.node_core.specs.declared.slow.End.{End}
-use Rattle.node_core.specs.declared.slow.Ending.{Ending}
-use Rattle.node_core.specs.Ending.{IsEnding}
+use proofs.Told.{forgotten, prepared_bare}
+use specs.declared.slow.End.{End}
+use specs.declared.slow.Ending.{Ending}
+use specs.Ending.{IsEnding}
 
 -- what is known of own changes may be less
 pub ending_weaker : {P Q : List Change → Type 0} → ((cs : List Change) → P cs → Q cs)

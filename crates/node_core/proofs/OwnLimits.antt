@@ -1,17 +1,17 @@
 -- How many own rows a scope may have, by the links that are told there.
-use Rattle.node_core.proofs.Words.{Bool, List, ap, arith, cond, false, length, not, refl, subst}
-use Rattle.node_core.proofs.Words.{sym, true, ℕ, [], ◌&&◌, ◌==◌, ◌∙◌, ◌∷◌, ◌≡◌, ◌≤◌, filter}
-use Rattle.node_core.proofs.Words.{list_any, and_parts, max_rows, local_total, History, facts, told}
-use Rattle.node_core.proofs.Words.{first_of, talk, tells, unwrap_or, is_open, is_up, is_whole}
-use Rattle.node_core.proofs.Words.{is_kept, is_old_told, links, link_version, own_limit, few_local}
-use Rattle.node_core.proofs.Words.{Follows, Parts, IsLinkOf, link_words, KeptLink, is_any_in}
-use Rattle.node_core.proofs.Words.{local_rows, takes, told_limit, own_most, is_number, Running}
-use Rattle.node_core.proofs.Words.{IsRunningOf, scope_words, bare, map, waiting, is_empty, ◌||◌}
+use Rattle.node_core.proofs
+use proofs.Words.{and_parts, ap, arith, bare, Bool, cond, facts, false, few_local, filter, first_of}
+use proofs.Words.{Follows, History, is_any_in, is_empty, is_kept, is_number, is_old_told, is_open}
+use proofs.Words.{is_up, is_whole, IsLinkOf, IsRunningOf, KeptLink, length, link_version}
+use proofs.Words.{link_words, links, List, list_any, local_rows, local_total, map, max_rows, not}
+use proofs.Words.{own_limit, own_most, Parts, refl, Running, scope_words, subst, sym, takes, talk}
+use proofs.Words.{tells, told, told_limit, true, unwrap_or, waiting, ℕ, [], ◌&&◌, ◌==◌, ◌||◌, ◌∙◌}
+use proofs.Words.{◌∷◌, ◌≡◌, ◌≤◌}
 use Rattle.policy_audit.proofs.KeptNumbers.{any_reverse}
-use Rattle.node_core.proofs.Found.{any_map}
-use Rattle.node_core.proofs.LinkTests.{agree}
-use Rattle.node_core.proofs.RowsGone.{rows_total}
-use Rattle.node_core.proofs.Told.{its_way}
+use proofs.Found.{any_map}
+use proofs.LinkTests.{agree}
+use proofs.RowsGone.{rows_total}
+use proofs.Told.{its_way}
 
 any_filter : {A : Type 0} (test passes : A → Bool) → ((x : A) → test x ≡ true → passes x ≡ true)
     → (xs : List A) → list_any test (filter passes xs) ≡ list_any test xs

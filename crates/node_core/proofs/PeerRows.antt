@@ -1,8 +1,8 @@
 -- Rows of a peer that a table follows, or refuses.
-use Rattle.node_core.proofs.Words.{Bool, List, None, Some, ap, arith, cond, length, nat_le}
-use Rattle.node_core.proofs.Words.{refl, true, ℕ, [], ◌+◌, ◌≡◌, ◌≤◌, lt-leb, le-leb, Pid, Row}
-use Rattle.node_core.proofs.Words.{Table, are_counted, fault_of, node_total, IsChangeIn, IsRowFault}
-use Rattle.node_core.proofs.Words.{Rule}
+use Rattle.node_core.proofs
+use proofs.Words.{ap, are_counted, arith, Bool, cond, fault_of, IsChangeIn, IsRowFault, le-leb}
+use proofs.Words.{length, List, lt-leb, nat_le, node_total, None, Pid, refl, Row, Rule, Some, Table}
+use proofs.Words.{true, ℕ, [], ◌+◌, ◌≡◌, ◌≤◌}
 use Rattle.scope_core.specs.Calls.{IsAddFault, IsSyncFault, IsTakeFault}
 use Rattle.scope_core.specs.declared.fault.TableFault.{TableFault}
 

@@ -1,17 +1,17 @@
 -- What an event with which links may end changes by itself: of peers' rows none, but in a scope
 -- that stops; and no monitors, but those of that scope.
-use Rattle.node_core.proofs.Words.{arith, ap, cond, refl, subst, sym, true, false, eqb-true, List}
-use Rattle.node_core.proofs.Words.{ℕ, ◌∷◌, ◌∙◌, ◌≡◌, same, same_sym, History, Change, Entry}
-use Rattle.node_core.proofs.Words.{Accepted, Event, Reply, Pid, IsPlayed, IsStep, audit_of, audited}
-use Rattle.node_core.proofs.Words.{is_entered, just, listed, next_number, past, stopped_lists}
-use Rattle.node_core.proofs.Words.{follows_dropped}
+use Rattle.node_core.proofs
+use proofs.Words.{Accepted, ap, arith, audit_of, audited, Change, cond, Entry, eqb-true, Event}
+use proofs.Words.{false, follows_dropped, History, is_entered, IsPlayed, IsStep, just, List, listed}
+use proofs.Words.{next_number, past, Pid, refl, Reply, same, same_sym, stopped_lists, subst, sym}
+use proofs.Words.{true, ℕ, ◌∙◌, ◌∷◌, ◌≡◌}
 use Rattle.group_monitors.specs.declared.monitor.Monitor.{Monitor}
-use Rattle.group_monitors.specs.Follows.{FollowsPolicy, concerns_monitors}
+use Rattle.group_monitors.specs.Follows.{concerns_monitors, FollowsPolicy}
 use Rattle.group_monitors.specs.Monitors.{without_scope}
 use Rattle.policy_audit.proofs.RowsAfter.{started_rows, stopped_rows}
-use Rattle.node_core.proofs.Entered.{audit_next, made}
-use Rattle.node_core.proofs.LostChanges.{LeavesPeers}
-use Rattle.node_core.proofs.SlowLinks.{monitors_still}
+use proofs.Entered.{audit_next, made}
+use proofs.LostChanges.{LeavesPeers}
+use proofs.SlowLinks.{monitors_still}
 
 module _ (h : History) (seat : ℕ) where
   abbrev done : Event → List Change → Entry

@@ -1,11 +1,14 @@
 -- Messages of own rows, and the links that are told them.
-use Rattle.node_core.proofs.Words.{List, OnErr, ap, arith, cond, length, map, not, refl, subst, sym, true, ℕ, [], ◌<◌, ◌∙◌, ◌∷◌, ◌≡◌, same_pid_decides}
-use Rattle.node_core.proofs.Words.{is_empty, IsListing, IsPidListing, IsRowListing, listing, mentions, same, same_pid, pid_cmp, Pid, Row, Message, Table, lie}
-use Rattle.node_core.proofs.Words.{Bool, false, ◌≤◌, ◌^◌, CanBeSaid, MayBeSaid, is_any_in, told_limit}
-use Rattle.node_core.proofs.Words.{row, KeptLink, Alike, min, stands_in, exact_pids, pids_total, IsJoinFault, IsLeaveFault, occurs_stands, Running, IsBrief}
-use Rattle.node_core.proofs.Words.{is_said, fault_of, IsJoinRefusal, IsLeaveRefusal, length-map, same_sym, occurrences, same_row, row_cmp, same_row_decides}
-use Rattle.node_core.proofs.Words.{same_length, count_in_group, max_rows, append-nil, ◌++◌}
-use Rattle.node_core.proofs.Words.{OutFrame}
+use Rattle.node_core.proofs
+use proofs.Words.{Alike, ap, append-nil, arith, Bool, CanBeSaid, cond, count_in_group, exact_pids}
+use proofs.Words.{false, fault_of, is_any_in, is_empty, is_said, IsBrief, IsJoinFault}
+use proofs.Words.{IsJoinRefusal, IsLeaveFault, IsLeaveRefusal, IsListing, IsPidListing}
+use proofs.Words.{IsRowListing, KeptLink, length, length-map, lie, List, listing, map, max_rows}
+use proofs.Words.{MayBeSaid, mentions, Message, min, not, occurrences, occurs_stands, OnErr}
+use proofs.Words.{OutFrame, Pid, pid_cmp, pids_total, refl, Row, row, row_cmp, Running, same}
+use proofs.Words.{same_length, same_pid, same_pid_decides, same_row, same_row_decides, same_sym}
+use proofs.Words.{stands_in, subst, sym, Table, told_limit, true, ℕ, [], ◌++◌, ◌<◌, ◌^◌, ◌∙◌, ◌∷◌}
+use proofs.Words.{◌≡◌, ◌≤◌}
 use Rattle.std.proofs.Common.{Result}
 use Rattle.dist_types.proofs.Listings.{listing_counts}
 use Rattle.link_frames.specs.Parts.{HasParts}
@@ -68,30 +71,45 @@ asked_too is_heard fs sync asks q e = e ∙ ap (λ b. sync ++ cond b [] asks) (s
 -- ---- rows of one group
 
 -- the rows of a group are the listing of its processes
-pub moved_listing : (g : List ℕ) (ps : List Pid) (count : Pid → ℕ) (rows : List Row) → ((p : Pid) → 0 < count p → stands_in same_pid p ps ≡ true)
-    → IsRowListing (λ f q. cond (same f g) (count q) 0) rows → rows ≡ map (row g) (listing pid_cmp count ps)
-moved_listing g ps count rows named a = one_row_listing (λ f q. cond (same f g) (count q) 0) rows (map (row g) (listing pid_cmp count ps)) a
-    (rows_in_group g count (listing pid_cmp count ps) (listing_counts pid_cmp same_pid pids_total exact_pids same_pid_decides count ps named))
+pub moved_listing : (g : List ℕ) (ps : List Pid) (count : Pid → ℕ) (rows : List Row)
+    → ((p : Pid) → 0 < count p → stands_in same_pid p ps ≡ true)
+    → IsRowListing (λ f q. cond (same f g) (count q) 0) rows
+    → rows ≡ map (row g) (listing pid_cmp count ps)
+moved_listing g ps count rows named a =
+    one_row_listing (λ f q. cond (same f g) (count q) 0) rows
+    (map (row g) (listing pid_cmp count ps)) a
+    (rows_in_group g count (listing pid_cmp count ps)
+    (listing_counts pid_cmp same_pid pids_total exact_pids same_pid_decides count ps named))
 
-pub joined_rows_are : (g : List ℕ) (ps : List Pid) (rows : List Row) → IsRowListing (λ f q. cond (same f g) (mentions q ps) 0) rows → rows ≡ map (row g) (listing pid_cmp (λ p. mentions p ps) ps)
-joined_rows_are g ps rows a = moved_listing g ps (λ p. mentions p ps) rows (λ p some. occurs_stands same_pid p ps some) a
+pub joined_rows_are : (g : List ℕ) (ps : List Pid) (rows : List Row)
+    → IsRowListing (λ f q. cond (same f g) (mentions q ps) 0) rows
+    → rows ≡ map (row g) (listing pid_cmp (λ p. mentions p ps) ps)
+joined_rows_are g ps rows a =
+    moved_listing g ps (λ p. mentions p ps) rows (λ p some. occurs_stands same_pid p ps some) a
 
-pub left_rows_are : (g : List ℕ) (ps gone : List Pid) (count : Pid → ℕ) (rows : List Row) → IsPidListing (λ p. min (mentions p ps) (count p)) gone
-    → IsRowListing (λ f q. cond (same f g) (mentions q gone) 0) rows → rows ≡ map (row g) (listing pid_cmp (λ p. min (mentions p ps) (count p)) ps)
+pub left_rows_are : (g : List ℕ) (ps gone : List Pid) (count : Pid → ℕ) (rows : List Row)
+    → IsPidListing (λ p. min (mentions p ps) (count p)) gone
+    → IsRowListing (λ f q. cond (same f g) (mentions q gone) 0) rows
+    → rows ≡ map (row g) (listing pid_cmp (λ p. min (mentions p ps) (count p)) ps)
 left_rows_are g ps gone count rows left a =
-    moved_listing g ps (λ p. min (mentions p ps) (count p)) rows (λ p some. occurs_stands same_pid p ps (omega (arith, some)))
-    (subst (λ (c : Pid → ℕ). IsRowListing (λ f q. cond (same f g) (c q) 0) rows) (λ i q. IsListing.counts left q i) a)
+    moved_listing g ps (λ p. min (mentions p ps) (count p)) rows
+    (λ p some. occurs_stands same_pid p ps (omega (arith, some)))
+    (subst (λ (c : Pid → ℕ). IsRowListing (λ f q. cond (same f g) (c q) 0) rows)
+    (λ i q. IsListing.counts left q i) a)
 
 -- the rows of processes, in order
-module _ (g : List ℕ) (pids : List Pid) (rows sorted : List Row) (is : rows ≡ map (row g) pids) (listing : IsListing row_cmp same_row (λ r. occurrences same_row r rows) sorted) where
+module _ (g : List ℕ) (pids : List Pid) (rows sorted : List Row) (is : rows ≡ map (row g) pids)
+    (listing : IsListing row_cmp same_row (λ r. occurrences same_row r rows) sorted) where
   pub rows_listing : IsRowListing (λ f p. cond (same f g) (mentions p pids) 0) sorted
   rows_listing = record {
     ascends = IsListing.ascends listing;
-    counts = λ r. IsListing.counts listing r ∙ ap (occurrences same_row r) is ∙ count_in_group r g pids ∙ ap (λ b. cond b (mentions r.pid pids) 0) (same_sym g r.group);
+    counts = λ r. IsListing.counts listing r ∙ ap (occurrences same_row r) is
+        ∙ count_in_group r g pids ∙ ap (λ b. cond b (mentions r.pid pids) 0) (same_sym g r.group);
   }
 
   pub rows_length : length sorted ≡ length pids
-  rows_length = same_length same_row same_row_decides sorted rows (λ r. IsListing.counts listing r) ∙ ap length is ∙ length-map pids (row g)
+  rows_length = same_length same_row same_row_decides sorted rows (λ r. IsListing.counts listing r)
+      ∙ ap length is ∙ length-map pids (row g)
 
 -- ---- faults
 
@@ -101,11 +119,13 @@ join_fault t ps most TableFault.RowsFull q = (refl, q)
 join_fault t ps most TableFault.OutOfMemory q = tt
 join_fault t ps most f q = absurd q
 
-pub leave_fault : (t : Table) (g : List ℕ) (ps : List Pid) (f : TableFault) → IsLeaveFault t g ps f → IsLeaveRefusal t g ps (fault_of f)
+pub leave_fault : (t : Table) (g : List ℕ) (ps : List Pid) (f : TableFault) → IsLeaveFault t g ps f
+    → IsLeaveRefusal t g ps (fault_of f)
 leave_fault t g ps TableFault.NotJoined q = (refl, q)
 leave_fault t g ps TableFault.OutOfMemory q = tt
 leave_fault t g ps f q = absurd q
 
 -- where a message finds no memory, nothing has changed
-pub untold : {T E : Type 0} (o : Result T E) (r : Running) (old new : List KeptLink) → Alike old new → OnErr o ((r ≡ r) × Alike old new)
+pub untold : {T E : Type 0} (o : Result T E) (r : Running) (old new : List KeptLink) → Alike old new
+    → OnErr o ((r ≡ r) × Alike old new)
 untold o r old new same = on_err {P = (r ≡ r) × Alike old new} o (refl, same)

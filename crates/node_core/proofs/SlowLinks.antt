@@ -1,28 +1,22 @@
 -- Links for which too many frames wait: which they are, and what is kept once one of them is lost.
-use Rattle.node_core.proofs.Words.{arith, ap, refl, subst, sym, ◌∙◌, Bool, List, Some, [], ◌∷◌, ◌≡◌}
-use Rattle.node_core.proofs.Words.{◌&&◌}
-use Rattle.node_core.proofs.Words.{◌≤◌, ◌<◌, cond, false, true, ℕ, zero, suc, length, map, nat_lt}
-use Rattle.node_core.proofs.Words.{reverse, filter, set, is_some}
-use Rattle.node_core.proofs.Words.{AllByRecursion, AllZip, History, past, is_open, is_whole, links}
-use Rattle.node_core.proofs.Words.{is_kept}
-use Rattle.node_core.proofs.Words.{IsPlayed, IsLegal, IsStep, with_entry, slow_links, just, Entry}
-use Rattle.node_core.proofs.Words.{Verdict, Event}
-use Rattle.node_core.proofs.Words.{Change, Pid, same, listed, loss, max_waiting, is_slow}
-use Rattle.node_core.proofs.Words.{is_accepted, lie, no_value, and_parts, ltb-true}
-use Rattle.node_core.proofs.Words.{◌+◌, eqb-true, audit_of, audited, is_entered, next_number}
-use Rattle.node_core.proofs.Words.{follows_other}
-use Rattle.group_monitors.specs.Follows.{FollowsPolicy, concerns_monitors}
+use Rattle.node_core.proofs
+use proofs.Words.{AllByRecursion, AllZip, and_parts, ap, arith, audit_of, audited, Bool, Change}
+use proofs.Words.{cond, Entry, eqb-true, Event, facts, false, filter, Follows, follows_other}
+use proofs.Words.{History, is_accepted, is_entered, is_kept, is_open, is_slow, is_some, is_whole}
+use proofs.Words.{IsCutOff, IsLegal, IsLinkOf, IsPlayed, IsState, IsStep, just, KeptLink, length}
+use proofs.Words.{lie, link_words, links, LinksFollow, LinkState, List, listed, loss, ltb-true, map}
+use proofs.Words.{max_waiting, nat_lt, next_number, no_value, Parts, past, Pid, refl, reverse}
+use proofs.Words.{Running, same, set, slow_links, Some, subst, suc, sym, true, up_peer, Verdict}
+use proofs.Words.{with_entry, without_number, zero, ℕ, [], ◌&&◌, ◌+◌, ◌<◌, ◌∙◌, ◌∷◌, ◌≡◌, ◌≤◌}
+use Rattle.group_monitors.specs.Follows.{concerns_monitors, FollowsPolicy}
 use Rattle.group_monitors.specs.declared.monitor.Monitor.{Monitor}
-use Rattle.node_core.proofs.Words.{Follows, Parts, IsLinkOf, IsState, LinksFollow, facts}
-use Rattle.node_core.proofs.Words.{link_words}
-use Rattle.node_core.proofs.Words.{KeptLink, LinkState, up_peer, without_number, IsCutOff, Running}
 use Rattle.std.proofs.lemmas.List.{reverse-reverse}
-use Rattle.policy_audit.proofs.KeptNumbers.{reverse_filter, filter_both}
+use Rattle.policy_audit.proofs.KeptNumbers.{filter_both, reverse_filter}
 use Rattle.policy_audit.proofs.Losses.{alone, legal_few}
 use Rattle.policy_audit.proofs.Early.{early}
 use Rattle.policy_audit.proofs.RowsAfter.{lost_rows}
-use Rattle.node_core.proofs.Entered.{audit_size, made}
-use Rattle.node_core.proofs.Losing.{IsUpWith, gone_by, gone_links, gone_scopes}
+use proofs.Entered.{audit_size, made}
+use proofs.Losing.{gone_by, gone_links, gone_scopes, IsUpWith}
 
 -- ---- which they are
 

@@ -1,25 +1,25 @@
 -- What a step answers, from what it enters.
-use Rattle.node_core.proofs.Words.{arith, Bool, Err, List, Ok, Result, ap, cond, false, length}
-use Rattle.node_core.proofs.Words.{refl, subst, sym, true, ℕ, [], ◌+◌, ◌≤◌, ◌∙◌, ◌∷◌, ◌≡◌, ◌<◌}
-use Rattle.node_core.proofs.Words.{checks, first_broken, History, is_full, verdict, with_entry}
-use Rattle.node_core.proofs.Words.{history, Verdict, Accepted, Refused, Event, Reply, judged, after}
-use Rattle.node_core.proofs.Words.{entry_of, CoreFault, Rule, next_is, Opening, Change, Entry}
-use Rattle.node_core.proofs.Words.{Follows, Keeps, parts, Answered, Kept, Answers, Call}
-use Rattle.node_core.proofs.Words.{lt-ltb, ltb-true, nat_le, suc, ◌^◌, ◌&&◌, ◌==◌, same, Pid}
-use Rattle.node_core.proofs.Words.{is_local, entered, IsLegal, IsLegalIn, IsNext}
+use Rattle.node_core.proofs
+use Rattle.node_core.specs
+use proofs.Words.{Accepted, after, Answered, Answers, ap, arith, Bool, Call, Change, checks, cond}
+use proofs.Words.{CoreFault, entered, Entry, entry_of, Err, Event, false, first_broken, Follows}
+use proofs.Words.{History, history, is_full, is_local, IsLegal, IsLegalIn, IsNext, judged, Keeps}
+use proofs.Words.{Kept, length, List, lt-ltb, ltb-true, nat_le, next_is, Ok, Opening, parts, Pid}
+use proofs.Words.{refl, Refused, Reply, Result, Rule, same, subst, suc, sym, true, Verdict, verdict}
+use proofs.Words.{with_entry, ℕ, [], ◌&&◌, ◌+◌, ◌<◌, ◌==◌, ◌^◌, ◌∙◌, ◌∷◌, ◌≡◌, ◌≤◌}
 use Rattle.std.proofs.lemmas.Bool.Decides.{leb_tells}
-use Rattle.policy_audit.specs.Log.{Log, IsAuditFault}
+use Rattle.policy_audit.specs.Log.{IsAuditFault, Log}
 use Rattle.policy_audit.specs.declared.audit.AuditFault.{AuditFault}
 use Rattle.group_monitors.specs.Follows.{Reaches}
 use Rattle.group_monitors.proofs.Reached.{reach_after}
 use Rattle.policy_audit.proofs.ScopeChanges.{next_is_after}
 use Rattle.policy_audit.proofs.Losses.{history_opening, legal_next, made_entered, made_legal}
 use Rattle.policy_audit.proofs.Losses.{next_entered, same_opening}
-use Rattle.node_core.proofs.Entered.{seen}
-use Rattle.node_core.specs.Unentered.{unentered}
-use Rattle.node_core.specs.Core.{IsCore}
-use Rattle.node_core.specs.Recorded.{Recorded}
-use Rattle.node_core.specs.Step.{IsStepped, made, one_more, reply_of}
+use proofs.Entered.{seen}
+use specs.Unentered.{unentered}
+use specs.Core.{IsCore}
+use specs.Recorded.{Recorded}
+use specs.Step.{IsStepped, made, one_more, reply_of}
 
 -- ---- a node with these entries
 
@@ -189,15 +189,18 @@ module _ (o : Opening) (es : List Entry) (legal : IsLegalIn o es) (seat : ℕ) (
 -- ---- nothing is entered
 
 -- for want of memory
-pub unstepped : (old new : History) (seat : ℕ) (e : Event) → is_full old ≡ false → new ≡ old → IsStepped old seat e new (Err CoreFault.OutOfMemory)
+pub unstepped : (old new : History) (seat : ℕ) (e : Event) → is_full old ≡ false → new ≡ old
+    → IsStepped old seat e new (Err CoreFault.OutOfMemory)
 unfolding IsStepped
 unstepped old new seat e space same = (space, same)
 
 -- where the audit is full
-pub full_step : (old : History) (seat : ℕ) (e : Event) → is_full old ≡ true → IsStepped old seat e old (Err (CoreFault.Refused Rule.EntriesFull))
+pub full_step : (old : History) (seat : ℕ) (e : Event) → is_full old ≡ true
+    → IsStepped old seat e old (Err (CoreFault.Refused Rule.EntriesFull))
 unfolding IsStepped
 full_step old seat e full = (
-  ap (λ b. cond b (Refused Rule.EntriesFull) (judged old seat e (first_broken (checks old seat e)))) full,
+  ap (λ b. cond b (Refused Rule.EntriesFull) (judged old seat e (first_broken (checks old seat e))))
+      full,
   sym (ap (λ b. cond b old (with_entry old (entry_of old seat e))) full),
 )
 
@@ -221,7 +224,8 @@ unentered_step log {old} {new} entries limit same seat e AuditFault.OutOfMemory 
 
 module _ (old new : History) (seat : ℕ) (e : Event) where
   -- what holds before and after the event holds of what a step leaves
-  leaves : (P : History → Type 0) → P old → P (after old seat e) → (result : Result Reply CoreFault) → IsStepped old seat e new result → P new
+  leaves : (P : History → Type 0) → P old → P (after old seat e) → (result : Result Reply CoreFault)
+      → IsStepped old seat e new result → P new
   unfolding IsStepped
   leaves P was now (Ok reply) t = subst P (sym t.1) now
   leaves P was now (Err (CoreFault.Refused rule)) t = subst P (sym t.1) now
@@ -235,7 +239,8 @@ module _ (old new : History) (seat : ℕ) (e : Event) where
       by true q = was
       by false q = now q
 
-  pub stepped_legal : (result : Result Reply CoreFault) → IsLegal old → IsStepped old seat e new result → IsLegal new
+  pub stepped_legal : (result : Result Reply CoreFault) → IsLegal old
+      → IsStepped old seat e new result → IsLegal new
   stepped_legal result legal t = leaves IsLegal legal (then IsLegal legal one) result t
     where
       one : is_full old ≡ false → IsLegal (with_entry old (entry_of old seat e))
@@ -243,7 +248,8 @@ module _ (old new : History) (seat : ℕ) (e : Event) where
           (legal_next old (entry_of old seat e) (next_entered old (entry_of old seat e) next)).1
           (next, legal)
 
-  pub stepped_opening : (result : Result Reply CoreFault) → IsStepped old seat e new result → new.opening ≡ old.opening
+  pub stepped_opening : (result : Result Reply CoreFault) → IsStepped old seat e new result
+      → new.opening ≡ old.opening
   stepped_opening result t =
       leaves (λ h. h.opening ≡ old.opening) refl
       (then (λ h. h.opening ≡ old.opening) refl (λ q. same_opening old (entry_of old seat e)))

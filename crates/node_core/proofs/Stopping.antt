@@ -1,21 +1,21 @@
 -- A scope that stops.
-use Rattle.node_core.proofs.Words.{broken_off, committed, map}
+use Rattle.node_core.proofs
+use proofs.Words.{Accepted, AllByRecursion, ap, AreTold, arith, broken_off, committed, cond, Entry}
+use proofs.Words.{Event, false, filter, Follows, GroupChange, History, if_among, if_some, is_full}
+use proofs.Words.{is_running, IsDifference, IsRunningOf, IsStep, just, KeptLink, link_words, List}
+use proofs.Words.{listed, map, Message, no_count, not, Parts, refl, Reply, Running, running_stopped}
+use proofs.Words.{said_in, same, same_decides, same_sym, scope_words, shown_numbers, stopped_links}
+use proofs.Words.{subst, sym, told_numbers, true, waiting, ℕ, [], ◌++◌, ◌∙◌, ◌∷◌, ◌≡◌}
 use Rattle.node_core.specs.Ending.{ends_of}
-use Rattle.node_core.proofs.Words.{List, ap, cond, false, not, refl, subst, sym, true, ℕ, [], ◌++◌, ◌∙◌, ◌∷◌, ◌≡◌, AllByRecursion, filter, same_decides}
-use Rattle.node_core.proofs.Words.{same_sym, IsDifference, same, GroupChange, no_count, told_numbers, if_some, History, listed, waiting, said_in, is_running}
-use Rattle.node_core.proofs.Words.{IsStep, is_full, just, Entry, Accepted, Follows, Parts}
-use Rattle.node_core.proofs.Words.{link_words, KeptLink, IsRunningOf, scope_words}
-use Rattle.node_core.proofs.Words.{AreTold, if_among, shown_numbers, stopped_links, running_stopped}
-use Rattle.node_core.proofs.Words.{Running, Message, Event, Reply, arith}
 use Rattle.group_monitors.specs.Monitors.{without_scope}
 use Rattle.policy_audit.proofs.HeardNow.{stopped_heard}
 use Rattle.policy_audit.proofs.RowsAfter.{stopped_rows}
-use Rattle.node_core.proofs.Ended.{Turns}
-use Rattle.node_core.proofs.PeersKept.{stop_leaves, monitors_drop}
-use Rattle.node_core.proofs.Entered.{made, accepted_next, answered_by, sound_now}
-use Rattle.node_core.proofs.OneScope.{scope_change}
-use Rattle.node_core.proofs.Starting.{names}
-use Rattle.node_core.proofs.Told.{down_alike, map_map, stopped_follow, visible_told}
+use proofs.Ended.{Turns}
+use proofs.PeersKept.{monitors_drop, stop_leaves}
+use proofs.Entered.{accepted_next, answered_by, made, sound_now}
+use proofs.OneScope.{scope_change}
+use proofs.Starting.{names}
+use proofs.Told.{down_alike, map_map, stopped_follow, visible_told}
 
 -- ---- links where nothing is kept of messages of one scope
 
@@ -35,7 +35,8 @@ ends_unbroken s (x ∷ xs) = grind (arith, ends_unbroken s xs)
 abbrev pub all_but : List ℕ → List Running → List Running
 all_but s rs = filter (λ r. not (same r.scope s)) rs
 
-names_left : (s : List ℕ) (rs : List Running) → names (all_but s rs) ≡ filter (λ t. not (same t s)) (names rs)
+names_left : (s : List ℕ) (rs : List Running)
+    → names (all_but s rs) ≡ filter (λ t. not (same t s)) (names rs)
 names_left s [] = refl
 names_left s (r ∷ rs) = grind (arith, names_left s rs)
 
@@ -46,25 +47,35 @@ module _ (h : History) (seat : ℕ) (s : List ℕ) (gs : List GroupChange) where
   abbrev pub stopped : History
   stopped = just h e
 
-  module _ (parts : Parts) (t : Follows h parts) (runs : is_running h s ≡ true) (groups : IsDifference (listed h s) no_count gs) where
+  module _ (parts : Parts) (t : Follows h parts) (runs : is_running h s ≡ true)
+      (groups : IsDifference (listed h s) no_count gs) where
     module _ (its : IsStep h e) where
-      still : (r : Running) → same r.scope s ≡ false → IsRunningOf (scope_words h) r → IsRunningOf (scope_words stopped) r
+      still : (r : Running) → same r.scope s ≡ false → IsRunningOf (scope_words h) r
+          → IsRunningOf (scope_words stopped) r
       still r other q = record {
         own = q.own;
         rows =
             λ g p. q.rows g p
             ∙ sym (stopped_rows h t.sound.played e its refl s refl r.scope g p
             ∙ ap (λ b. cond b 0 (listed h r.scope g p)) other);
-        heard = λ l. q.heard l ∙ sym ((stopped_heard h e refl s refl l r.scope).heard_is ∙ grind (arith, same_sym s r.scope, other));
-        told = λ l. q.told l ∙ sym ((stopped_heard h e refl s refl l r.scope).told_is ∙ grind (arith, same_sym s r.scope, other));
+        heard = λ l. q.heard l
+            ∙ sym ((stopped_heard h e refl s refl l r.scope).heard_is
+            ∙ grind (arith, same_sym s r.scope, other));
+        told = λ l. q.told l ∙ sym ((stopped_heard h e refl s refl l r.scope).told_is
+            ∙ grind (arith, same_sym s r.scope, other));
       }
 
-      all_still : (rs : List Running) → AllByRecursion (IsRunningOf (scope_words h)) rs → AllByRecursion (IsRunningOf (scope_words stopped)) (all_but s rs)
+      all_still : (rs : List Running) → AllByRecursion (IsRunningOf (scope_words h)) rs
+          → AllByRecursion (IsRunningOf (scope_words stopped)) (all_but s rs)
       all_still [] a = tt
-      all_still (r ∷ rs) a = elim (same r.scope s) as (λ b. same r.scope s ≡ b → AllByRecursion (IsRunningOf (scope_words stopped)) (cond (not b) (r ∷ all_but s rs) (all_but s rs)))
+      all_still (r ∷ rs) a = elim (same r.scope s) as (λ b. same r.scope s ≡ b
+          → AllByRecursion (IsRunningOf (scope_words stopped))
+          (cond (not b) (r ∷ all_but s rs) (all_but s rs)))
           [ true ↦ λ q. all_still rs a.1 | false ↦ λ q. (still r q a.0, all_still rs a.1) ] refl
 
-    pub stop_now : is_full h ≡ false → (links : List KeptLink) → AreTold (if_among (shown_numbers parts.links) (said_in (Message.Down s))) parts.links links
+    pub stop_now : is_full h ≡ false → (links : List KeptLink)
+        → AreTold (if_among (shown_numbers parts.links) (said_in (Message.Down s))) parts.links
+        links
         → Turns h seat (Event.StopScope s) (if_some s gs)
         (record parts {
           scopes = all_but s parts.scopes;
@@ -72,7 +83,8 @@ module _ (h : History) (seat : ℕ) (s : List ℕ) (gs : List GroupChange) where
           monitors = without_scope s parts.monitors;
         }) (λ u. same s u) (λ x. x ≡ if_some s gs)
     stop_now space links tells =
-        let next = accepted_next h seat (Event.StopScope s) space Reply.Done (if_some s gs) (rw runs) refl (λ its. scope_change h stopped s gs
+        let next = accepted_next h seat (Event.StopScope s) space Reply.Done (if_some s gs)
+        (rw runs) refl (λ its. scope_change h stopped s gs
         (subst (λ f. IsDifference (listed h s) f gs)
         (λ i g p. sym (stopped_rows h t.sound.played e its refl s refl s g p
         ∙ ap (λ b. cond b 0 (listed h s g p)) ((same_decides s s).1 refl)) i) groups)
@@ -86,12 +98,14 @@ module _ (h : History) (seat : ℕ) (s : List ℕ) (gs : List GroupChange) where
             admission = t.admission;
             processes = t.processes;
             scopes = record {
-              running = names_left s parts.scopes ∙ ap (filter (λ u. not (same u s))) t.scopes.running ∙ sym (running_stopped h e refl s refl);
+              running = names_left s parts.scopes ∙ ap (filter (λ u. not (same u s)))
+                  t.scopes.running ∙ sym (running_stopped h e refl s refl);
               each = all_still its parts.scopes t.scopes.each;
             };
             links = stopped_follow (link_words h) (link_words stopped)
                 (if_among (shown_numbers parts.links) (said_in (Message.Down s))) s (λ l. refl)
-                (told_numbers h e its refl refl (λ l. (stopped_links h e its refl s refl l).kept_is)) parts.links links
+                (told_numbers h e its refl refl
+                (λ l. (stopped_links h e its refl s refl l).kept_is)) parts.links links
                 (λ l parted way. ap (λ fs. waiting h l ++ fs)
                 (visible_told h parts.links t.sound.played t.links (Message.Down s) (down_alike s) l
                 parted))

@@ -1,20 +1,20 @@
 -- The frames that wait for a link are handed over.
-use Rattle.node_core.proofs.Words.{Bool, List, Some, ap, cond, false, get_or, length, nat_eq, not}
-use Rattle.node_core.proofs.Words.{refl, set, subst, sym, true, ℕ, [], ◌&&◌, ◌<◌}
-use Rattle.node_core.proofs.Words.{◌==◌, ◌∙◌, ◌≡◌, filter, eq-eqb, eqb-true, kept_climbs, flip}
-use Rattle.node_core.proofs.Words.{History, is_open, OutFrame, waiting, IsAlone, is_full}
-use Rattle.node_core.proofs.Words.{just, Entry, Accepted, Follows, Parts, IsLinkOf, IsState}
-use Rattle.node_core.proofs.Words.{LinksFollow, facts, link_words, KeptLink, LinkState}
-use Rattle.node_core.proofs.Words.{is_ended, without_ended, Event, Reply, arith, LinkWords}
-use Rattle.node_core.proofs.Words.{link_place, without_number}
+use Rattle.node_core.proofs
+use proofs.Words.{Accepted, ap, arith, Bool, cond, Entry, eq-eqb, eqb-true, Event, facts, false}
+use proofs.Words.{filter, flip, Follows, get_or, History, is_ended, is_full, is_open, IsAlone}
+use proofs.Words.{IsLinkOf, IsState, just, kept_climbs, KeptLink, length, link_place, link_words}
+use proofs.Words.{LinksFollow, LinkState, LinkWords, List, nat_eq, not, OutFrame, Parts, refl}
+use proofs.Words.{Reply, set, Some, subst, sym, true, waiting, without_ended, without_number, ℕ, []}
+use proofs.Words.{◌&&◌, ◌<◌, ◌==◌, ◌∙◌, ◌≡◌}
 use Rattle.policy_audit.proofs.LinkFrames.{taken_links}
 use Rattle.policy_audit.proofs.LinksLeft.{taken_numbers}
-use Rattle.node_core.proofs.Entered.{step_follows, made}
-use Rattle.node_core.proofs.Calm.{quiet_next}
-use Rattle.node_core.proofs.KeptOn.{one_follows, same_link, stay_follow, filter_set, filter_all, is_kept_at, link_at}
+use proofs.Entered.{made, step_follows}
+use proofs.Calm.{quiet_next}
+use proofs.KeptOn.{filter_all, filter_set, is_kept_at, link_at, one_follows, same_link, stay_follow}
 
 -- a link is open unless its state is the end
-pub open_by : (h : History) (l : ℕ) (s : LinkState) → IsState (facts h l) s → is_open l h.entries ≡ not (is_ended s)
+pub open_by : (h : History) (l : ℕ) (s : LinkState) → IsState (facts h l) s
+    → is_open l h.entries ≡ not (is_ended s)
 open_by h l LinkState.Ended t = t
 open_by h l s t = t.0.open_now
 
@@ -41,20 +41,26 @@ module _ (h : History) (seat j : ℕ) (frames : List OutFrame) (parts : Parts) (
   it = link_at h t.sound.played parts.links t.links j p d found
 
   opens : (ended : Bool) → is_ended link.state ≡ ended → is_open j h.entries ≡ not ended
-  opens ended is = sym (ap (λ l. is_open l h.entries) it.1) ∙ open_by h link.number link.state it.0.state ∙ ap not is
+  opens ended is = sym (ap (λ l. is_open l h.entries) it.1)
+      ∙ open_by h link.number link.state it.0.state ∙ ap not is
 
   abbrev words : LinkWords
   words = link_words (just h take)
 
   -- of each other link the same frames wait
-  other_link : (x : KeptLink) → (j == x.number) ≡ false → IsLinkOf (link_words h) x → IsLinkOf words x
-  other_link x other y = same_link x refl ((taken_links h take refl j refl x.number).waiting_is ∙ grind (arith, other)) y
+  other_link : (x : KeptLink) → (j == x.number) ≡ false → IsLinkOf (link_words h) x
+      → IsLinkOf words x
+  other_link x other y =
+      same_link x refl ((taken_links h take refl j refl x.number).waiting_is ∙ grind (arith, other))
+      y
 
   its_frames : (l : ℕ) → l ≡ j → waiting (just h take) l ≡ []
-  its_frames l is = (taken_links h take refl j refl l).waiting_is ∙ ap (λ b. cond b [] (waiting h l)) (eq-eqb j l (sym is))
+  its_frames l is = (taken_links h take refl j refl l).waiting_is
+      ∙ ap (λ b. cond b [] (waiting h l)) (eq-eqb j l (sym is))
 
   -- an open link is kept
-  open_taken : (room : ℕ) → is_ended link.state ≡ false → LinksFollow words (set parts.links p (emptied link room))
+  open_taken : (room : ℕ) → is_ended link.state ≡ false
+      → LinksFollow words (set parts.links p (emptied link room))
   open_taken room opened = one_follows (link_words h) words (emptied link room) (record {
     state = it.0.state;
     begun = it.0.begun;
@@ -63,29 +69,41 @@ module _ (h : History) (seat j : ℕ) (frames : List OutFrame) (parts : Parts) (
   })
       (λ x other y. other_link x (flip j x.number ∙ ap (λ l. nat_eq x.number l) (sym it.1) ∙ other)
       y) parts.links p d t.links (kept_climbs h t.sound.played)
-      (taken_numbers h take refl j refl ∙ filter_all (λ l. not (j == l && not (is_open l h.entries))) (λ l. grind (arith, eqb-true j l, opens false opened)) (link_words h).numbers) it.2 refl
+      (taken_numbers h take refl j refl
+      ∙ filter_all (λ l. not (j == l && not (is_open l h.entries)))
+      (λ l. grind (arith, eqb-true j l, opens false opened)) (link_words h).numbers) it.2 refl
 
   -- an ended one is gone
   ended_taken : (room : ℕ) → is_ended link.state ≡ true
       → LinksFollow words (without_number j (set parts.links p (emptied link room)))
   ended_taken room ended =
-      let goes : (l : ℕ) → (j == l && not (is_open l h.entries)) ≡ nat_eq l j = λ l. grind (arith, eqb-true j l, flip j l, opens true ended) in
-      rw (filter_set (λ x. not (nat_eq x.number j)) parts.links p d (emptied link room) it.2 (ap not (eq-eqb link.number j it.1)) (ap not (eq-eqb link.number j it.1)))
-      (stay_follow (link_words h) words (λ l. not (nat_eq l j)) parts.links t.links (taken_numbers h take refl j refl ∙ (λ i. filter (λ l. not (goes l i)) (link_words h).numbers))
+      let goes : (l : ℕ) → (j == l && not (is_open l h.entries)) ≡ nat_eq l j =
+      λ l. grind (arith, eqb-true j l, flip j l, opens true ended) in
+      rw (filter_set (λ x. not (nat_eq x.number j)) parts.links p d (emptied link room) it.2
+      (ap not (eq-eqb link.number j it.1)) (ap not (eq-eqb link.number j it.1)))
+      (stay_follow (link_words h) words (λ l. not (nat_eq l j)) parts.links t.links
+      (taken_numbers h take refl j refl
+      ∙ (λ i. filter (λ l. not (goes l i)) (link_words h).numbers))
       (λ x stays y. other_link x (grind (arith, flip j x.number)) y))
 
-  one_taken : (room : ℕ) (b : Bool) → is_ended link.state ≡ b → LinksFollow words (without_ended (emptied link room) (set parts.links p (emptied link room)))
+  one_taken : (room : ℕ) (b : Bool) → is_ended link.state ≡ b
+      → LinksFollow words
+      (without_ended (emptied link room) (set parts.links p (emptied link room)))
   one_taken room false e = rw e (open_taken room e)
   one_taken room true e = rw e
       (subst (λ l. LinksFollow words (without_number l (set parts.links p (emptied link room))))
       (sym it.1) (ended_taken room e))
 
   -- the link is changed, and gone if it has ended
-  pub taken_now : is_full h ≡ false → frames ≡ link.frames → (new at : KeptLink) (room : ℕ) → new ≡ emptied link room → at ≡ new
+  pub taken_now : is_full h ≡ false → frames ≡ link.frames → (new at : KeptLink) (room : ℕ)
+      → new ≡ emptied link room → at ≡ new
       → IsAlone h take
       × Follows (just h take) (record parts { links = without_ended at (set parts.links p new) })
   taken_now space handed new at room is same =
       let next = quiet_next h seat (Reply.Out frames) (Event.Take j) space
       (rw (is_kept_at h t.sound.played parts.links t.links j p found))
-      (ap Reply.Out (sym (handed ∙ it.0.frames ∙ ap (waiting h) it.1))) refl in
-      (next, step_follows t next refl t.admission t.processes t.scopes (rw (same, is) (one_taken room (is_ended link.state) refl)))
+      (ap Reply.Out (sym (handed ∙ it.0.frames ∙ ap (waiting h) it.1))) refl in (
+        next,
+        step_follows t next refl t.admission t.processes t.scopes
+            (rw (same, is) (one_taken room (is_ended link.state) refl)),
+      )

@@ -1,46 +1,56 @@
 -- Links for which further frames wait, or are prepared.
-use Rattle.node_core.proofs.Words.{Bool, List, ap, arith, false, map, nat_eq, not, refl, subst, suc, sym, true, zero, ℕ, [], ◌&&◌, ◌++◌, ◌∙◌, ◌∷◌, ◌≡◌}
-use Rattle.node_core.proofs.Words.{AllByRecursion, list_any, option_map_or, eqb-true, has_bit, and_false, append-nil, append_assoc, flip, kept_among, History}
-use Rattle.node_core.proofs.Words.{OutFrame, Follows, IsPlayed, Parts, IsLinkOf, IsState, LinkFacts}
-use Rattle.node_core.proofs.Words.{LinkWords, LinksFollow, facts, link_words, KeptLink}
-use Rattle.node_core.proofs.Words.{committed, prepared_for, unroomed, with_frames, with_prepared, with_room, is_number, Alike, AreIdle, AreTold, if_among}
-use Rattle.node_core.proofs.Words.{shown_numbers, LinkState, is_shown, bare, ArePrepared}
-use Rattle.node_core.proofs.Words.{cond, lie, takes_parts, ◌==◌, IsSpelled, said_in, Message}
-use Rattle.node_core.proofs.Words.{wide, if_visible}
-use Rattle.node_core.proofs.Words.{None, Option, Begun, broken_off, same, Name, Awaited, Dialled}
-use Rattle.node_core.proofs.Words.{Awaits, IsGiven, IsIntroduced, IsDialled}
+use Rattle.node_core.proofs
+use proofs.Words.{Alike, AllByRecursion, and_false, ap, append-nil, append_assoc, AreIdle}
+use proofs.Words.{ArePrepared, AreTold, arith, Awaited, Awaits, bare, Begun, Bool, broken_off}
+use proofs.Words.{committed, cond, Dialled, eqb-true, facts, false, flip, Follows, has_bit, History}
+use proofs.Words.{if_among, if_visible, is_number, is_shown, IsDialled, IsGiven, IsIntroduced}
+use proofs.Words.{IsLinkOf, IsPlayed, IsSpelled, IsState, kept_among, KeptLink, lie, link_words}
+use proofs.Words.{LinkFacts, LinksFollow, LinkState, LinkWords, List, list_any, map, Message, Name}
+use proofs.Words.{nat_eq, None, not, Option, option_map_or, OutFrame, Parts, prepared_for, refl}
+use proofs.Words.{said_in, same, shown_numbers, subst, suc, sym, takes_parts, true, unroomed, wide}
+use proofs.Words.{with_frames, with_prepared, with_room, zero, ℕ, [], ◌&&◌, ◌++◌, ◌==◌, ◌∙◌, ◌∷◌}
+use proofs.Words.{◌≡◌}
 use Rattle.scope_core.proofs.Rising.{all_map, all_mapped, all_unmapped}
-use Rattle.node_core.proofs.Zipped.{SoFar}
+use proofs.Zipped.{SoFar}
 
 -- ---- lists of values
 
-pub map_map : {A B C : Type 0} (f : B → C) (g : A → B) (xs : List A) → map f (map g xs) ≡ map (λ x. f (g x)) xs
+pub map_map : {A B C : Type 0} (f : B → C) (g : A → B) (xs : List A)
+    → map f (map g xs) ≡ map (λ x. f (g x)) xs
 map_map f g [] = refl
 map_map f g (x ∷ xs) = ap (λ ys. f (g x) ∷ ys) (map_map f g xs)
 
-pub map_same : {A B : Type 0} (f g : A → B) (xs : List A) → AllByRecursion (λ x. f x ≡ g x) xs → map f xs ≡ map g xs
+pub map_same : {A B : Type 0} (f g : A → B) (xs : List A) → AllByRecursion (λ x. f x ≡ g x) xs
+    → map f xs ≡ map g xs
 map_same f g [] a = refl
 map_same f g (x ∷ xs) a = λ i. a.0 i ∷ map_same f g xs a.1 i
 
 -- what lists give is the same, also by a further step
-through : {A B C D : Type 0} (step : C → D) (f : B → C) (g : A → C) (xs : List A) (ys : List B) → map f ys ≡ map g xs → map (λ y. step (f y)) ys ≡ map (λ x. step (g x)) xs
+through : {A B C D : Type 0} (step : C → D) (f : B → C) (g : A → C) (xs : List A) (ys : List B)
+    → map f ys ≡ map g xs → map (λ y. step (f y)) ys ≡ map (λ x. step (g x)) xs
 through step f g xs ys q = sym (map_map step f ys) ∙ ap (map step) q ∙ map_map step g xs
 
 -- ---- links that follow
 
-module _ (w v : LinkWords) (g : KeptLink → KeptLink) (on : (x : KeptLink) → IsLinkOf w x → IsLinkOf v (g x)) where
+module _ (w v : LinkWords) (g : KeptLink → KeptLink)
+    (on : (x : KeptLink) → IsLinkOf w x → IsLinkOf v (g x)) where
   -- links that have changed by g, whatever their room
-  changed_follow : v.numbers ≡ w.numbers → (old new : List KeptLink) → map (λ x. (g x).number) old ≡ map (λ x. x.number) old → map unroomed new ≡ map (λ x. unroomed (g x)) old → LinksFollow w old → LinksFollow v new
+  changed_follow : v.numbers ≡ w.numbers → (old new : List KeptLink)
+      → map (λ x. (g x).number) old ≡ map (λ x. x.number) old
+      → map unroomed new ≡ map (λ x. unroomed (g x)) old → LinksFollow w old → LinksFollow v new
   changed_follow numbers old new same q t = record {
-    numbers = through (λ z. z.number) unroomed (λ x. unroomed (g x)) old new q ∙ same ∙ t.numbers ∙ sym numbers;
+    numbers = through (λ z. z.number) unroomed (λ x. unroomed (g x)) old new q ∙ same ∙ t.numbers
+        ∙ sym numbers;
     each =
-        let roomless = all_map (IsLinkOf w) (λ x. IsLinkOf v (unroomed (g x))) (λ x it. let new = on x it in record {
+        let roomless = all_map (IsLinkOf w) (λ x. IsLinkOf v (unroomed (g x))) (λ x it. let new =
+        on x it in record {
           state = new.state;
           begun = new.begun;
           frames = new.frames;
           idle = new.idle;
         }) old t.each in
-        let moved = subst (AllByRecursion (IsLinkOf v)) (sym q) (all_mapped (IsLinkOf v) (λ x. unroomed (g x)) old roomless) in
+        let moved = subst (AllByRecursion (IsLinkOf v)) (sym q)
+        (all_mapped (IsLinkOf v) (λ x. unroomed (g x)) old roomless) in
         all_map (λ x. IsLinkOf v (unroomed x)) (IsLinkOf v) (λ x it. record {
           state = it.state;
           begun = it.begun;
@@ -132,7 +142,8 @@ pub stopped_follow : (w v : LinkWords) (more : ℕ → Bool → List OutFrame) (
 stopped_follow w v more s facts numbers old new waits q t =
     changed_follow w v (λ x. broken_off s (told x))
     (λ x it. record {
-      state = subst (λ f. IsState f x.state) (sym (facts x.number)) (still_state (w.facts x.number) _ x.state it.state);
+      state = subst (λ f. IsState f x.state) (sym (facts x.number))
+          (still_state (w.facts x.number) _ x.state it.state);
       begun =
           ap (λ b. cond (option_map_or (λ y. same y.scope s) b false) None b) it.begun
           ∙ sym (ap (λ (f : LinkFacts). f.begun) (facts x.number));
@@ -150,13 +161,15 @@ stopped_follow w v more s facts numbers old new waits q t =
     told x = with_frames x (more x.number (takes_parts x.state))
 
 -- all that a node keeps is as before where its links are the same but for their room
-pub alike_again : (h : History) (parts : Parts) → Follows h parts → (links : List KeptLink) → Alike parts.links links → Follows h (record parts { links = links })
+pub alike_again : (h : History) (parts : Parts) → Follows h parts → (links : List KeptLink)
+    → Alike parts.links links → Follows h (record parts { links = links })
 alike_again h parts t links q = record {
   sound = t.sound;
   admission = t.admission;
   processes = t.processes;
   scopes = t.scopes;
-  links = changed_follow (link_words h) (link_words h) (λ x. x) (λ x it. it) refl parts.links links refl q t.links;
+  links = changed_follow (link_words h) (link_words h) (λ x. x) (λ x it. it) refl parts.links links
+      refl q t.links;
   monitors = t.monitors;
 }
 
@@ -168,21 +181,33 @@ follow_idle w xs t = all_map (IsLinkOf w) (λ x. x.prepared ≡ []) (λ x it. it
 
 -- whether the words say that a link is up and visible
 abbrev pub shown_by : LinkFacts → Bool
-shown_by f = (f.open_now && f.whole) && (not f.hidden && option_map_or (λ n. has_bit 0 n.flags) f.said false)
+shown_by f =
+    (f.open_now && f.whole) && (not f.hidden && option_map_or (λ n. has_bit 0 n.flags) f.said false)
 
 pub shown_is : (f : LinkFacts) (s : LinkState) → IsState f s → is_shown s ≡ shown_by f
-shown_is f (LinkState.Up s) t = grind (arith, t.0.open_now, t.0.whole, t.1.said.1.visible_is, t.1.said.1.said)
+shown_is f (LinkState.Up s) t =
+    grind (arith, t.0.open_now, t.0.whole, t.1.said.1.visible_is, t.1.said.1.said)
 shown_is f LinkState.Ended t = grind (arith, t)
 shown_is f s t = grind (arith, t.0.whole)
 
-shown_among : (w : LinkWords) (xs : List KeptLink) → AllByRecursion (IsLinkOf w) xs → (l : ℕ) → is_number l (shown_numbers xs) ≡ (is_number l (map (λ x. x.number) xs) && shown_by (w.facts l))
+shown_among : (w : LinkWords) (xs : List KeptLink) → AllByRecursion (IsLinkOf w) xs → (l : ℕ)
+    → is_number l (shown_numbers xs)
+    ≡ (is_number l (map (λ x. x.number) xs) && shown_by (w.facts l))
 shown_among w [] t l = refl
-shown_among w (x ∷ xs) t l = grind (arith, shown_among w xs t.1 l, shown_is (w.facts x.number) x.state t.0.state, eqb-true l x.number, and_false)
+shown_among w (x ∷ xs) t l =
+    grind (
+      arith,
+      shown_among w xs t.1 l,
+      shown_is (w.facts x.number) x.state t.0.state,
+      eqb-true l x.number,
+      and_false,
+    )
 
 -- the number of a kept link is one of those shown where the words say so
 pub shown_number : (h : History) (xs : List KeptLink) → IsPlayed h → LinksFollow (link_words h) xs
     → (l : ℕ) → is_number l (shown_numbers xs) ≡ shown_by (facts h l)
-shown_number h xs legal t l = shown_among (link_words h) xs t.each l ∙ grind (arith, ap (is_number l) t.numbers, kept_among h legal l)
+shown_number h xs legal t l = shown_among (link_words h) xs t.each l
+    ∙ grind (arith, ap (is_number l) t.numbers, kept_among h legal l)
 
 -- a Discover and a Down are spelled alike on all links
 pub discover_alike : (s : List ℕ) (parted : Bool)
@@ -206,11 +231,16 @@ visible_told h xs legal t m alike l parted =
 -- ---- frames that are prepared and wait then
 
 -- what was prepared is dropped
-pub forgot_bare : (old new : List KeptLink) → map unroomed new ≡ map (λ x. unroomed (with_prepared x [])) old → map bare new ≡ map bare old
+pub forgot_bare : (old new : List KeptLink)
+    → map unroomed new ≡ map (λ x. unroomed (with_prepared x [])) old → map bare new ≡ map bare old
 forgot_bare old new q = through bare unroomed (λ x. unroomed (with_prepared x [])) old new q
 
-pub forgotten : (xs : List KeptLink) → AreIdle xs → map (λ x. unroomed (with_prepared x [])) xs ≡ map unroomed xs
-forgotten xs idle = map_same (λ x. unroomed (with_prepared x [])) unroomed xs (all_map (λ x. x.prepared ≡ []) (λ x. bare x ≡ unroomed x) (λ x none. λ i. record (unroomed x) { prepared = sym none i }) xs idle)
+pub forgotten : (xs : List KeptLink) → AreIdle xs
+    → map (λ x. unroomed (with_prepared x [])) xs ≡ map unroomed xs
+forgotten xs idle =
+    map_same (λ x. unroomed (with_prepared x [])) unroomed xs
+    (all_map (λ x. x.prepared ≡ []) (λ x. bare x ≡ unroomed x)
+    (λ x none. λ i. record (unroomed x) { prepared = sym none i }) xs idle)
 
 module _ (more : ℕ → Bool → List OutFrame) where
   abbrev pub more_for : KeptLink → List OutFrame
@@ -219,7 +249,8 @@ module _ (more : ℕ → Bool → List OutFrame) where
   abbrev pub more_prepared : KeptLink → KeptLink
   more_prepared x = unroomed (with_prepared x (x.prepared ++ more_for x))
 
-  pub prepared_bare : (old new : List KeptLink) → ArePrepared more old new → map bare new ≡ map bare old
+  pub prepared_bare : (old new : List KeptLink) → ArePrepared more old new
+      → map bare new ≡ map bare old
   prepared_bare old new q = through bare unroomed more_prepared old new q
 
   pub prepared_none : ((l : ℕ) (parted : Bool) → more l parted ≡ []) → (xs : List KeptLink)
@@ -231,10 +262,13 @@ module _ (more : ℕ → Bool → List OutFrame) where
   } ∷ prepared_none none xs i
 
   -- what is prepared waits
-  pub prepared_waits : (old mid : List KeptLink) → AreIdle old → ArePrepared more old mid → AreTold more old (map committed mid)
+  pub prepared_waits : (old mid : List KeptLink) → AreIdle old → ArePrepared more old mid
+      → AreTold more old (map committed mid)
   prepared_waits old mid idle q =
-      map_map unroomed committed mid ∙ through (λ z. unroomed (committed z)) unroomed more_prepared old mid q
-      ∙ map_same (λ x. unroomed (committed (more_prepared x))) (λ x. unroomed (with_frames x (more_for x))) old
+      map_map unroomed committed mid ∙ through (λ z. unroomed (committed z)) unroomed more_prepared
+      old mid q
+      ∙ map_same (λ x. unroomed (committed (more_prepared x)))
+      (λ x. unroomed (with_frames x (more_for x))) old
       (all_map (λ x. x.prepared ≡ [])
       (λ x. unroomed (committed (more_prepared x)) ≡ unroomed (with_frames x (more_for x)))
       (λ x none. λ i. record (unroomed x) {
@@ -252,19 +286,29 @@ module _ (more : ℕ → Bool → List OutFrame) where
       ∙ simp append_assoc
 
 module _ (numbers : List ℕ) (frames : Bool → List OutFrame) where
-  pub prepared_among : (old new : List KeptLink) → map unroomed new ≡ map (λ x. unroomed (prepared_for numbers frames x)) old → ArePrepared (if_among numbers frames) old new
+  pub prepared_among : (old new : List KeptLink)
+      → map unroomed new ≡ map (λ x. unroomed (prepared_for numbers frames x)) old
+      → ArePrepared (if_among numbers frames) old new
   prepared_among old new q = q ∙ all old
     where
-      all : (xs : List KeptLink) → map (λ x. unroomed (prepared_for numbers frames x)) xs ≡ map (more_prepared (if_among numbers frames)) xs
+      all : (xs : List KeptLink) → map (λ x. unroomed (prepared_for numbers frames x)) xs
+          ≡ map (more_prepared (if_among numbers frames)) xs
       all [] = refl
       all (x ∷ xs) = grind (arith, all xs, append-nil x.prepared)
 
-  pub prepared_told : (old mid : List KeptLink) → AreIdle old → map unroomed mid ≡ map (λ x. unroomed (prepared_for numbers frames x)) old → AreTold (if_among numbers frames) old (map committed mid)
-  prepared_told old mid idle q = prepared_waits (if_among numbers frames) old mid idle (prepared_among old mid q)
+  pub prepared_told : (old mid : List KeptLink) → AreIdle old
+      → map unroomed mid ≡ map (λ x. unroomed (prepared_for numbers frames x)) old
+      → AreTold (if_among numbers frames) old (map committed mid)
+  prepared_told old mid idle q =
+      prepared_waits (if_among numbers frames) old mid idle (prepared_among old mid q)
 
   -- what is prepared and then dropped leaves all as it was
-  pub dropped_again : (old mid new : List KeptLink) → AreIdle old → map unroomed mid ≡ map (λ x. unroomed (prepared_for numbers frames x)) old → map unroomed new ≡ map (λ x. unroomed (with_prepared x [])) mid → Alike old new
-  dropped_again old mid new idle q dropped = dropped ∙ prepared_bare (if_among numbers frames) old mid (prepared_among old mid q) ∙ forgotten old idle
+  pub dropped_again : (old mid new : List KeptLink) → AreIdle old
+      → map unroomed mid ≡ map (λ x. unroomed (prepared_for numbers frames x)) old
+      → map unroomed new ≡ map (λ x. unroomed (with_prepared x [])) mid → Alike old new
+  dropped_again old mid new idle q dropped =
+      dropped ∙ prepared_bare (if_among numbers frames) old mid (prepared_among old mid q)
+      ∙ forgotten old idle
 
   -- ---- frames that are prepared, one link after the other
 
@@ -272,11 +316,14 @@ module _ (numbers : List ℕ) (frames : Bool → List OutFrame) where
   abbrev pub Prepared : KeptLink → KeptLink → Type 0
   Prepared x y = unroomed y ≡ unroomed (prepared_for numbers frames x)
 
-  turned : (x : KeptLink) (n : ℕ) (b : Bool) → n ≡ x.number → b ≡ list_any (λ y. nat_eq y n) numbers → list_any (nat_eq x.number) numbers ≡ b
-  turned x n b is q = (λ i. list_any (λ y. flip x.number y i) numbers) ∙ ap (λ m. list_any (λ y. nat_eq y m) numbers) (sym is) ∙ sym q
+  turned : (x : KeptLink) (n : ℕ) (b : Bool) → n ≡ x.number → b ≡ list_any (λ y. nat_eq y n) numbers
+      → list_any (nat_eq x.number) numbers ≡ b
+  turned x n b is q = (λ i. list_any (λ y. flip x.number y i) numbers)
+      ∙ ap (λ m. list_any (λ y. nat_eq y m) numbers) (sym is) ∙ sym q
 
   -- a link that isn't among these stays
-  pub unprepared : (x : KeptLink) (n : ℕ) → n ≡ x.number → false ≡ list_any (λ y. nat_eq y n) numbers → Prepared x x
+  pub unprepared : (x : KeptLink) (n : ℕ) → n ≡ x.number
+      → false ≡ list_any (λ y. nat_eq y n) numbers → Prepared x x
   unprepared x n is q = grind (arith, turned x n false is q)
 
   pub one_prepared : (x y : KeptLink) (n : ℕ) → n ≡ x.number
@@ -288,10 +335,13 @@ module _ (numbers : List ℕ) (frames : Bool → List OutFrame) where
   one_dropped : (x y : KeptLink) → Prepared x y → bare y ≡ bare x
   one_dropped x y q = grind (arith, ap bare q)
 
-  pub all_dropped : (i : ℕ) (xs ys : List KeptLink) → SoFar Prepared i xs ys → map bare ys ≡ map bare xs
+  pub all_dropped : (i : ℕ) (xs ys : List KeptLink) → SoFar Prepared i xs ys
+      → map bare ys ≡ map bare xs
   all_dropped zero xs ys so_far = ap (map bare) so_far.rest
   all_dropped (suc i) [] [] so_far = refl
-  all_dropped (suc i) (x ∷ xs) (y ∷ ys) so_far = λ j. one_dropped x y so_far.done.0 j ∷ all_dropped i xs ys (record { done = so_far.done.1; rest = so_far.rest }) j
+  all_dropped (suc i) (x ∷ xs) (y ∷ ys) so_far =
+      λ j. one_dropped x y so_far.done.0 j ∷ all_dropped i xs ys
+      (record { done = so_far.done.1; rest = so_far.rest }) j
   all_dropped i xs ys so_far = absurd so_far.done
 
 -- a body as a frame with a length of 4 bytes

@@ -38,5 +38,6 @@ mod waiting;
 pub use awaiting::{Awaiting, FrameKind};
 pub use fault::{CoreFault, OpenFault};
 pub use laws::stepped;
+pub use links::MAX_LINKS;
 pub use node::NodeCore;
 pub use queries::Query;

@@ -1,7 +1,8 @@
 -- What an answered call adds to its pass.
-use Rattle.std.proofs.Common.{◌≡◌, ◌⊎◌, ℕ, Bool, true, false, cond, ◌&&◌, List, [], ◌∷◌, ◌++◌}
-use Rattle.std.proofs.Common.{Option, Some, None, Result, Ok, Err, refl, sym, ap, ◌∙◌, inl, inr}
-use Rattle.std.proofs.Common.{append-nil, append_assoc, arith, ◌≢◌, ◌+◌, subst}
+use Rattle.node_threads.specs
+use Rattle.std.proofs.Common.{ap, append-nil, append_assoc, arith, Bool, cond, Err, false, inl, inr}
+use Rattle.std.proofs.Common.{List, None, Ok, Option, refl, Result, Some, subst, sym, true, ℕ, []}
+use Rattle.std.proofs.Common.{◌&&◌, ◌++◌, ◌+◌, ◌∙◌, ◌∷◌, ◌≡◌, ◌≢◌, ◌⊎◌}
 use Rattle.policy_audit.specs.declared.event.Event.{Event}
 use Rattle.policy_audit.specs.declared.event.Event.TheVariants.{Frame, Lost}
 use Rattle.policy_audit.specs.declared.reply.Reply.{Reply}
@@ -9,27 +10,27 @@ use Rattle.policy_audit.specs.declared.rule.Rule.{Rule}
 use Rattle.policy_audit.specs.declared.rule.Rule.TheVariants.{EntriesFull}
 use Rattle.policy_audit.specs.declared.entry.Verdict.{Verdict}
 use Rattle.policy_audit.specs.History.{History}
-use Rattle.policy_audit.specs.Sides.{Awaited, AwaitName, AwaitAnswer, AwaitReply, AwaitStatus}
-use Rattle.policy_audit.specs.Sides.{AwaitChallenge, AwaitAck, AwaitMessage, awaits}
-use Rattle.policy_audit.specs.Checks.{Check, checks, frame_checks, first_broken}
-use Rattle.policy_audit.specs.Policy.{judged, is_full, next_number}
-use Rattle.node_core.specs.declared.fault.CoreFault.TheVariants.{Refused, OutOfMemory}
-use Rattle.node_threads.specs.declared.fault.CallFault.{CallFault}
-use Rattle.node_threads.specs.declared.fault.CallFault.TheVariants.{StrangePass, Core}
-use Rattle.node_threads.specs.declared.ends.ReadEnd.{ReadEnd}
-use Rattle.node_threads.specs.declared.pass.Call.{Call}
-use Rattle.node_threads.specs.Applied.{with_call, Called}
-use Rattle.node_threads.specs.Calls.{Record, Gains, is_up_reply, is_up_answer}
-use Rattle.node_threads.specs.Ends.{end_of, read_end_after}
-use Rattle.node_threads.specs.Entered.{is_entered, verdict_in, IsEntry, Enters, EndsAt}
-use Rattle.node_threads.specs.Reading.{Gave}
+use Rattle.policy_audit.specs.Sides.{AwaitAck, AwaitAnswer, AwaitChallenge, Awaited, AwaitMessage}
+use Rattle.policy_audit.specs.Sides.{AwaitName, AwaitReply, awaits, AwaitStatus}
+use Rattle.policy_audit.specs.Checks.{Check, checks, first_broken, frame_checks}
+use Rattle.policy_audit.specs.Policy.{is_full, judged, next_number}
+use Rattle.node_core.specs.declared.fault.CoreFault.TheVariants.{OutOfMemory, Refused}
+use specs.declared.fault.CallFault.{CallFault}
+use specs.declared.fault.CallFault.TheVariants.{Core, StrangePass}
+use specs.declared.ends.ReadEnd.{ReadEnd}
+use specs.declared.pass.Call.{Call}
+use specs.Applied.{Called, with_call}
+use specs.Calls.{Gains, is_up_answer, is_up_reply, Record}
+use specs.Ends.{end_of, read_end_after}
+use specs.Entered.{EndsAt, Enters, is_entered, IsEntry, verdict_in}
+use specs.Reading.{Gave}
 use Rattle.std.specs.Prelude.{nat_lt}
-use Rattle.node_threads.specs.declared.retreat.RetreatStep.{RetreatStep}
-use Rattle.node_threads.specs.Retreat.{step_after, GivesUp, Leaves}
+use specs.declared.retreat.RetreatStep.{RetreatStep}
+use specs.Retreat.{GivesUp, Leaves, step_after}
 use Rattle.policy_audit.specs.declared.event.Event.TheVariants as event
 use Rattle.policy_audit.specs.declared.entry.Verdict.TheVariants as verdicts
-use Rattle.node_threads.specs.declared.ends.ReadEnd.TheVariants as ends
-use Rattle.node_threads.specs.declared.retreat.RetreatStep.TheVariants as steps
+use specs.declared.ends.ReadEnd.TheVariants as ends
+use specs.declared.retreat.RetreatStep.TheVariants as steps
 
 -- where it let none go meanwhile
 gains_still : (p p' : Record) (more : List Call) →

@@ -1,21 +1,22 @@
 -- Counts beside an audit that gains an entry.
-use Rattle.std.proofs.Common.{◌≡◌, ◌==◌, ℕ, zero, suc, ◌+◌, ◌<◌, ◌≤◌, Bool, true, false, cond, List}
-use Rattle.std.proofs.Common.{[], ◌∷◌, length, replicate, slice_index, refl, sym, ap, subst, ◌∙◌}
-use Rattle.std.proofs.Common.{get_or, slice_set, inl, inr, arith}
-use Rattle.std.specs.List.{filter, AllByRecursion}
+use Rattle.node_threads.specs
+use Rattle.std.proofs.Common.{ap, arith, Bool, cond, false, get_or, inl, inr, length, List, refl}
+use Rattle.std.proofs.Common.{replicate, slice_index, slice_set, subst, suc, sym, true, zero, ℕ, []}
+use Rattle.std.proofs.Common.{◌+◌, ◌<◌, ◌==◌, ◌∙◌, ◌∷◌, ◌≡◌, ◌≤◌}
+use Rattle.std.specs.List.{AllByRecursion, filter}
 use Rattle.std.proofs.lemmas.Grind.{get_or-set_at}
-use Rattle.std.proofs.lemmas.List.{get_or_default, get_or-set_other, length-set}
-use Rattle.std.proofs.lemmas.List.Sums.{length-filter, count_by-le-length}
+use Rattle.std.proofs.lemmas.List.{get_or-set_other, get_or_default, length-set}
+use Rattle.std.proofs.lemmas.List.Sums.{count_by-le-length, length-filter}
 use Rattle.std.proofs.lemmas.Bool.Decides.{eqb_tells}
 use Rattle.policy_audit.specs.declared.entry.Entry.{Entry}
 use Rattle.policy_audit.specs.declared.event.Event.{Event}
-use Rattle.policy_audit.specs.History.{History, past, just, lose, audited, entered}
-use Rattle.policy_audit.specs.History.{is_accepted, is_entered}
+use Rattle.policy_audit.specs.History.{audited, entered, History, is_accepted, is_entered, just}
+use Rattle.policy_audit.specs.History.{lose, past}
 use Rattle.policy_audit.specs.Owed.{slow_links, with_entry}
-use Rattle.policy_audit.specs.Policy.{is_full, next_number, after, entry_of, IsLegal}
-use Rattle.node_threads.specs.Calls.{of, entries_of}
-use Rattle.node_threads.specs.Room.{Room, AreCounted, IsSound, one_more}
-use Rattle.node_threads.specs.Applied.{room_after}
+use Rattle.policy_audit.specs.Policy.{after, entry_of, is_full, IsLegal, next_number}
+use specs.Calls.{entries_of, of}
+use specs.Room.{AreCounted, IsSound, one_more, Room}
+use specs.Applied.{room_after}
 
 -- what comes with an entry is none of the audit
 audited_lose : (ls : List ℕ) (es : List Entry) → audited (lose ls es) ≡ audited es

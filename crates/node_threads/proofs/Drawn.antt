@@ -1,27 +1,26 @@
 -- What is drawn from a generator for the links of a door.
-use Rattle.std.proofs.Common.{◌≡◌, ◌⊎◌, ℕ, true, false, is_some, List, [], ◌∷◌, ◌++◌, Option, Some}
-use Rattle.std.proofs.Common.{None, refl, sym, ap, ◌∙◌, inl, inr, append-nil, append_assoc}
+use Rattle.node_threads.proofs
+use Rattle.node_threads.specs
+use Rattle.std.proofs.Common.{ap, append-nil, append_assoc, false, inl, inr, is_some, List, None}
+use Rattle.std.proofs.Common.{Option, refl, Some, sym, true, ℕ, [], ◌++◌, ◌∙◌, ◌∷◌, ◌≡◌, ◌⊎◌}
 use Rattle.std.specs.List.{All, AllZip}
 use Rattle.std.specs.Option.{unwrap_or}
 use Rattle.std.proofs.lemmas.List.Elements.{All-head, All-tail}
-use Rattle.rand_core.specs.Stream.{Stream, next_u32}
+use Rattle.rand_core.specs.Stream.{next_u32, Stream}
 use Rattle.policy_audit.specs.declared.event.Event.{Event}
-use Rattle.node_threads.specs.declared.accepting.AcceptEnd.{AcceptEnd}
-use Rattle.node_threads.specs.declared.accepting.AcceptEnd.TheVariants as ends
-use Rattle.node_threads.specs.declared.serving.Pair.{Pair}
-use Rattle.node_threads.specs.declared.accepting.Held.{Held}
-use Rattle.node_threads.specs.declared.accepting.Held.TheVariants.{Ended}
-use Rattle.node_threads.specs.declared.accepting.Stop.{Stop}
-use Rattle.node_threads.specs.declared.pass.Call.{Call}
-use Rattle.node_threads.specs.Calls.{Record, Gains}
-use Rattle.node_threads.specs.Drawing.{Draws, AreNext, challenges_in, challenges, new_challenges}
-use Rattle.node_threads.specs.Accepting.{Opens, IsUnentered, IsOfLink, Serves, Finishes, IsAtWork}
-use Rattle.node_threads.specs.Accepting.{Turns}
-use Rattle.node_threads.specs.Challenges.{opened_with, HaveDrawn, DrawnSoFar, WillHave, AllWillHave}
-use Rattle.node_threads.specs.Challenges.{Spends}
-use Rattle.node_threads.proofs.Openings.{draws_then, draws_first, draws_one, gained, gained_none}
-use Rattle.node_threads.proofs.Openings.{gained_then}
-use Rattle.node_threads.proofs.Pairs.{at_work}
+use specs.declared.accepting.AcceptEnd.{AcceptEnd}
+use specs.declared.serving.Pair.{Pair}
+use specs.declared.accepting.Held.{Held}
+use specs.declared.accepting.Held.TheVariants.{Ended}
+use specs.declared.accepting.Stop.{Stop}
+use specs.declared.pass.Call.{Call}
+use specs.Calls.{Gains, Record}
+use specs.Drawing.{AreNext, challenges, challenges_in, Draws, new_challenges}
+use specs.Accepting.{Finishes, IsAtWork, IsOfLink, IsUnentered, Opens, Serves, Turns}
+use specs.Challenges.{AllWillHave, DrawnSoFar, HaveDrawn, opened_with, Spends, WillHave}
+use proofs.Openings.{draws_first, draws_one, draws_then, gained, gained_none, gained_then}
+use proofs.Pairs.{at_work}
+use specs.declared.accepting.AcceptEnd.TheVariants as ends
 
 -- ---- an Opened
 

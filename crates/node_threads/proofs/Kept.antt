@@ -1,17 +1,18 @@
 -- A call that is kept in a pass, and what is told of it.
-use Rattle.std.proofs.Common.{◌≡◌, ◌-◌, List, [], ◌∷◌, ◌++◌, length, Some, refl, ap, ◌∙◌, arith, ℕ}
-use Rattle.std.proofs.Common.{length-append, false, Option, Result, Ok, Err, OnOk, IfErr, IfSome}
+use Rattle.node_threads.specs
+use Rattle.std.proofs.Common.{ap, arith, Err, false, IfErr, IfSome, length, length-append, List, Ok}
+use Rattle.std.proofs.Common.{OnOk, Option, refl, Result, Some, ℕ, [], ◌++◌, ◌-◌, ◌∙◌, ◌∷◌, ◌≡◌}
 use Rattle.std.specs.Prelude.{slice_get}
-use Rattle.node_threads.specs.declared.pass.Call.{Call}
+use specs.declared.pass.Call.{Call}
 use Rattle.policy_audit.specs.declared.event.Event.{Event}
 use Rattle.policy_audit.specs.declared.reply.Reply.{Reply}
 use Rattle.policy_audit.specs.declared.entry.Verdict.{Verdict}
 use Rattle.policy_audit.specs.declared.entry.Verdict.TheVariants.{Accepted, Refused}
-use Rattle.policy_audit.specs.Policy.{verdict, is_full, next_number}
-use Rattle.node_threads.specs.declared.fault.CallFault.{CallFault}
-use Rattle.node_threads.specs.Room.{Room}
-use Rattle.node_threads.specs.Applied.{Fits, IsAnswered, Applied, IsKept, room_after}
-use Rattle.node_threads.specs.Calls.{Record, reply_in, reply_of, last_reply}
+use Rattle.policy_audit.specs.Policy.{is_full, next_number, verdict}
+use specs.declared.fault.CallFault.{CallFault}
+use specs.Room.{Room}
+use specs.Applied.{Applied, Fits, IsAnswered, IsKept, room_after}
+use specs.Calls.{last_reply, Record, reply_in, reply_of}
 
 slice_get_push : (xs : List Call) (x : Call) → slice_get (xs ++ x ∷ []) (length xs) ≡ Some x
 slice_get_push [] x = refl

@@ -1,10 +1,12 @@
 -- Calls that are let go, and those that are kept behind them.
-use Rattle.std.proofs.Common.{◌≡◌, ℕ, zero, suc, ◌+◌, ◌-◌, ◌<◌, ◌≤◌, ◌^◌, List, [], ◌∷◌, ◌++◌, length, drop}
-use Rattle.std.proofs.Common.{refl, sym, ap, subst, ◌∙◌, arith, length-append, append-nil, append_assoc}
+use Rattle.node_threads.specs
+use Rattle.std.proofs.Common.{ap, append-nil, append_assoc, arith, drop, length, length-append}
+use Rattle.std.proofs.Common.{List, refl, subst, suc, sym, zero, ℕ, [], ◌++◌, ◌+◌, ◌-◌, ◌<◌, ◌^◌}
+use Rattle.std.proofs.Common.{◌∙◌, ◌∷◌, ◌≡◌, ◌≤◌}
 use Rattle.std.specs.Prelude.{slice_get}
 use Rattle.std.proofs.Math.Seq.{drop-append_seam}
-use Rattle.node_threads.specs.declared.pass.Call.{Call}
-use Rattle.node_threads.specs.Calls.{Record, AreParted, Gains, kept_calls, last_reply, reply_of}
+use specs.declared.pass.Call.{Call}
+use specs.Calls.{AreParted, Gains, kept_calls, last_reply, Record, reply_of}
 
 -- the pass as it is seen
 abbrev pub seen : ℕ → ℕ → List Call → List Call → Record
@@ -47,7 +49,11 @@ module _ (seat gone : ℕ) (first kept : List Call) (parted : AreParted gone fir
   }
 
   pub seen_all : (n : ℕ) → n ≡ length (first ++ kept) →
-      seen seat n (first ++ kept) [] ≡ record { seat = seat; calls = first ++ kept; gone = length (first ++ kept) }
+      seen seat n (first ++ kept) [] ≡ record {
+        seat = seat;
+        calls = first ++ kept;
+        gone = length (first ++ kept);
+      }
   seen_all n is = rw (is, append-nil (first ++ kept)) refl
 
 get_behind : (xs ys : List Call) (k : ℕ) → slice_get (xs ++ ys) (length xs + k) ≡ slice_get ys k

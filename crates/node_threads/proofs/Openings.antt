@@ -1,45 +1,45 @@
 -- What the calls of a door add to their passes: words that are drawn, an Opened, and what the
 -- workers of a link call.
-use Rattle.std.proofs.Common.{◌≡◌, ℕ, List, [], ◌∷◌, ◌++◌, refl, sym, ap, subst, ◌∙◌, Bool, true}
-use Rattle.std.proofs.Common.{false, Option, Some, None, ◌≢◌, Ok, Err, inl, inr, append_assoc}
+use Rattle.node_threads.proofs
+use Rattle.node_threads.specs
+use Rattle.std.proofs.Common.{ap, append_assoc, Bool, Err, false, inl, inr, List, None, Ok, Option}
+use Rattle.std.proofs.Common.{refl, Some, subst, sym, true, ℕ, [], ◌++◌, ◌∙◌, ◌∷◌, ◌≡◌, ◌≢◌}
 use Rattle.std.proofs.lemmas.List.Prefix.{front_rest}
 use Rattle.std.proofs.lemmas.Grind.{flat_map-append}
-use Rattle.rand_core.specs.Stream.{Stream, next_u32}
-use Rattle.node_threads.specs.declared.pass.Call.{Call}
-use Rattle.node_threads.specs.Calls.{Record, Gains}
-use Rattle.node_threads.specs.Drawing.{Draws, AreNext, challenges_in, challenges, new_challenges}
-use Rattle.node_threads.proofs.Answered.{gains_none, gains_more, Adds, accepted, refused, unheard}
-use Rattle.node_threads.proofs.Answered.{strange}
+use Rattle.rand_core.specs.Stream.{next_u32, Stream}
+use specs.declared.pass.Call.{Call}
+use specs.Calls.{Gains, Record}
+use specs.Drawing.{AreNext, challenges, challenges_in, Draws, new_challenges}
+use proofs.Answered.{accepted, Adds, gains_more, gains_none, leaves_gains, refused, strange}
+use proofs.Answered.{unheard}
 use Rattle.std.specs.List.{All}
-use Rattle.std.proofs.lemmas.List.Elements.{All-nil, All-cons, All-append, All-weaker}
+use Rattle.std.proofs.lemmas.List.Elements.{All-append, All-cons, All-nil, All-weaker}
 use Rattle.policy_audit.specs.declared.event.Event.{Event}
-use Rattle.policy_audit.specs.declared.event.Event.TheVariants.{Frame, Take, Lost}
-use Rattle.node_threads.specs.declared.cutter.Cutter.{Cutter}
-use Rattle.node_threads.specs.declared.cutter.Cutter.TheVariants.{Handshake, Messages}
-use Rattle.node_threads.specs.declared.ends.ReadEnd.{ReadEnd}
-use Rattle.node_threads.specs.declared.ends.WriteEnd.{WriteEnd}
+use Rattle.policy_audit.specs.declared.event.Event.TheVariants.{Frame, Lost, Take}
+use specs.declared.cutter.Cutter.{Cutter}
+use specs.declared.cutter.Cutter.TheVariants.{Handshake, Messages}
+use specs.declared.ends.ReadEnd.{ReadEnd}
+use specs.declared.ends.WriteEnd.{WriteEnd}
 use Rattle.policy_audit.specs.declared.entry.Verdict.{Verdict}
-use Rattle.node_threads.specs.declared.retreat.RetreatStep.{RetreatStep}
-use Rattle.node_threads.specs.Ends.{reader_gives_up, writer_gives_up}
-use Rattle.node_threads.specs.Entered.{verdict_in, IsEntry}
-use Rattle.node_threads.specs.Reading.{AreFrames, IsRead}
-use Rattle.node_threads.specs.Retreat.{Leaves}
-use Rattle.node_threads.specs.Serving.{HasRead, HasWritten}
-use Rattle.node_threads.proofs.Answered.{leaves_gains}
+use specs.declared.retreat.RetreatStep.{RetreatStep}
+use specs.Ends.{reader_gives_up, writer_gives_up}
+use specs.Entered.{IsEntry, verdict_in}
+use specs.Reading.{AreFrames, IsRead}
+use specs.Retreat.{Leaves}
+use specs.Serving.{HasRead, HasWritten}
 use Rattle.policy_audit.specs.declared.reply.Reply.TheVariants.{Link}
 use Rattle.policy_audit.specs.declared.rule.Rule.{Rule}
-use Rattle.node_core.specs.declared.fault.CoreFault.TheVariants.{Refused, OutOfMemory}
-use Rattle.node_threads.specs.declared.fault.CallFault.{CallFault}
-use Rattle.node_threads.specs.declared.fault.CallFault.TheVariants.{StrangePass, Core}
-use Rattle.node_threads.specs.declared.accepting.AcceptEnd.{AcceptEnd}
-use Rattle.node_threads.specs.declared.opening.LinkAnswer.{LinkAnswer}
-use Rattle.node_threads.specs.Applied.{Called}
-use Rattle.node_threads.specs.Accepting.{IsRefusal, Opens, IsUnentered, Asked, IsUnopened, IsOfLink}
-use Rattle.node_threads.specs.Accepting.{Serves}
+use Rattle.node_core.specs.declared.fault.CoreFault.TheVariants.{OutOfMemory, Refused}
+use specs.declared.fault.CallFault.{CallFault}
+use specs.declared.fault.CallFault.TheVariants.{Core, StrangePass}
+use specs.declared.accepting.AcceptEnd.{AcceptEnd}
+use specs.declared.opening.LinkAnswer.{LinkAnswer}
+use specs.Applied.{Called}
+use specs.Accepting.{Asked, IsOfLink, IsRefusal, IsUnentered, IsUnopened, Opens, Serves}
 use Rattle.policy_audit.specs.declared.event.Event.TheVariants as events
 use Rattle.policy_audit.specs.declared.entry.Verdict.TheVariants as verdicts
-use Rattle.node_threads.specs.declared.accepting.AcceptEnd.TheVariants as ends
-use Rattle.node_threads.specs.declared.opening.LinkAnswer.TheVariants as answers
+use specs.declared.accepting.AcceptEnd.TheVariants as ends
+use specs.declared.opening.LinkAnswer.TheVariants as answers
 
 -- ---- words of a stream
 

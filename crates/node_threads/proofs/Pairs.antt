@@ -1,16 +1,17 @@
 -- Pairs of passes, one after another.
-use Rattle.std.proofs.Common.{◌≡◌, ℕ, zero, suc, ◌+◌, false, List, [], ◌∷◌, ◌++◌, length, Option}
-use Rattle.std.proofs.Common.{Some, None, is_some, refl}
+use Rattle.node_threads.specs
+use Rattle.std.proofs.Common.{false, is_some, length, List, None, Option, refl, Some, suc, zero, ℕ}
+use Rattle.std.proofs.Common.{[], ◌++◌, ◌+◌, ◌∷◌, ◌≡◌}
 use Rattle.std.specs.List.{AllZip}
 use Rattle.std.specs.Option.{unwrap_or}
 use Rattle.std.proofs.lemmas.List.{length-append}
-use Rattle.node_threads.specs.declared.serving.Pair.{Pair}
-use Rattle.node_threads.specs.declared.accepting.Held.{Held}
-use Rattle.node_threads.specs.declared.accepting.Held.TheVariants.{Running, Ended}
-use Rattle.node_threads.specs.declared.accepting.Stop.{Stop}
-use Rattle.node_threads.specs.Calls.{Record}
-use Rattle.node_threads.specs.Accepting.{Opens, Works, FirstAre, HasServed, HasRested, HaveServed}
-use Rattle.node_threads.specs.Accepting.{Finishes, IsAtWork, WillServe, WillRest, Turns, SoFar}
+use specs.declared.serving.Pair.{Pair}
+use specs.declared.accepting.Held.{Held}
+use specs.declared.accepting.Held.TheVariants.{Ended, Running}
+use specs.declared.accepting.Stop.{Stop}
+use specs.Calls.{Record}
+use specs.Accepting.{Finishes, FirstAre, HasRested, HasServed, HaveServed, IsAtWork, Opens, SoFar}
+use specs.Accepting.{Turns, WillRest, WillServe, Works}
 use Rattle.node_threads.proofs.Openings.{opens_none}
 
 -- a count beside a list that gains an element

@@ -1,23 +1,24 @@
 -- Passes whose calls are compared with the entries of their seats.
-use Rattle.std.proofs.Common.{◌≡◌, ◌==◌, ◌≢◌, ◌⊎◌, ℕ, zero, suc, ◌+◌, ◌<◌, ◌≤◌, Bool, true, false}
-use Rattle.std.proofs.Common.{cond, List, [], ◌∷◌, ◌++◌, length, map, take, set, reverse, get_or, refl}
-use Rattle.std.proofs.Common.{sym, ap, subst, ◌∙◌, inl, inr, arith}
-use Rattle.std.specs.List.{filter, All, AllByRecursion}
+use Rattle.node_threads.specs
+use Rattle.std.proofs.Common.{ap, arith, Bool, cond, false, get_or, inl, inr, length, List, map}
+use Rattle.std.proofs.Common.{refl, reverse, set, subst, suc, sym, take, true, zero, ℕ, [], ◌++◌}
+use Rattle.std.proofs.Common.{◌+◌, ◌<◌, ◌==◌, ◌∙◌, ◌∷◌, ◌≡◌, ◌≢◌, ◌≤◌, ◌⊎◌}
+use Rattle.std.specs.List.{All, AllByRecursion, filter}
 use Rattle.std.specs.Borrow.{Bor}
 use Rattle.std.proofs.lemmas.Bool.Decides.{eqb_tells}
 use Rattle.std.proofs.lemmas.Grind.{get_or-set_at}
-use Rattle.std.proofs.lemmas.List.{get_or-set_other, get_or-take, get_or-map, length-map}
+use Rattle.std.proofs.lemmas.List.{get_or-map, get_or-set_other, get_or-take, length-map}
 use Rattle.std.proofs.lemmas.List.{length-take-le, map-set, reverse-append, reverse-reverse}
-use Rattle.std.proofs.lemmas.List.Elements.{All-nil, All-cons, All-append, All-more}
+use Rattle.std.proofs.lemmas.List.Elements.{All-append, All-cons, All-more, All-nil}
 use Rattle.std.proofs.lemmas.List.Elements.{recursion_from_All}
 use Rattle.policy_audit.specs.declared.entry.Entry.{Entry}
 use Rattle.policy_audit.specs.History.{audited}
-use Rattle.node_threads.specs.declared.pass.Call.{Call}
-use Rattle.node_threads.specs.Applied.{Fits}
-use Rattle.node_threads.specs.Calls.{Record, kept_calls, of, call_of}
-use Rattle.node_threads.specs.Room.{Room}
-use Rattle.node_threads.specs.Closing.{passes_of, HaveEach, HaveOne, IsOwn, AreOwn, at_seat}
-use Rattle.node_threads.specs.Closing.{Agree, MadeLast, AreLast, Precede, kept_entries}
+use specs.declared.pass.Call.{Call}
+use specs.Applied.{Fits}
+use specs.Calls.{call_of, kept_calls, of, Record}
+use specs.Room.{Room}
+use specs.Closing.{Agree, AreLast, AreOwn, at_seat, HaveEach, HaveOne, IsOwn, kept_entries}
+use specs.Closing.{MadeLast, passes_of, Precede}
 
 abbrev Calls : Type 0
 Calls = Bor (List Call)
@@ -135,7 +136,8 @@ module _ (seats : ℕ) (ps : List Record) (i : ℕ) (p : Record) (below : i < le
       absurd (omega (arith, two, one p.seat inside))
 
   -- so its calls are put in beside those of the passes before
-  pub stand_in_more : (lists : Lists) (new : Calls) → seats ≤ length lists → new.now ≡ kept_calls p →
+  pub stand_in_more : (lists : Lists) (new : Calls) → seats ≤ length lists → new.now ≡ kept_calls p
+      →
       All (StandsIn lists) (take i ps) → All (StandsIn (set lists p.seat new)) (take (i + 1) ps)
   stand_in_more lists new long is stand =
       let others : All (StandsIn (set lists p.seat new)) (take i ps) = λ k e before.
@@ -153,7 +155,8 @@ module _ (room : Room) (ps : List Record) (lists : Lists) (stand : All (StandsIn
   abbrev kept : List Entry
   kept = kept_entries room.forgotten (audited room.history.entries)
 
-  -- passes that fit are their seats' where what stands for each seat are the last calls of its entries
+  -- passes that fit are their seats' where what stands for each seat are the last calls of its
+  -- entries
   pub own_from_last : All (Fits room) ps → AreLast (length room.counts) lists kept → AreOwn room ps
   own_from_last fit last = λ k d below. record {
     fits = fit k d below;

@@ -1,7 +1,9 @@
 -- A reader's steps, one after another.
-use Rattle.std.proofs.Common.{◌≡◌, ◌≢◌, ℕ, ◌<◌, ◌≤◌, Bool, true, false, List, [], ◌∷◌, ◌++◌, ◌||◌}
-use Rattle.std.proofs.Common.{length, take, drop, Option, Some, None, Ok, Err, refl, sym, ap, ◌∙◌}
-use Rattle.std.proofs.Common.{inl, inr, append-nil, append_assoc, arith}
+use Rattle.node_threads.proofs
+use Rattle.node_threads.specs
+use Rattle.std.proofs.Common.{ap, append-nil, append_assoc, arith, Bool, drop, Err, false, inl, inr}
+use Rattle.std.proofs.Common.{length, List, None, Ok, Option, refl, Some, sym, take, true, ℕ, []}
+use Rattle.std.proofs.Common.{◌++◌, ◌<◌, ◌||◌, ◌∙◌, ◌∷◌, ◌≡◌, ◌≢◌, ◌≤◌}
 use Rattle.std.specs.Int.{w16}
 use Rattle.std.specs.List.{list_any}
 use Rattle.std.specs.Option.{option_to_list}
@@ -9,30 +11,30 @@ use Rattle.std.proofs.lemmas.List.{map-append, take-append-drop}
 use Rattle.std.proofs.lemmas.List.Elements.{All-nil}
 use Rattle.std.proofs.lemmas.List.Folds.{list_any-append}
 use Rattle.handshake_frames.specs.Stream.{IsFed}
-use Rattle.handshake_frames.proofs.StreamLemmas.{reads_16, goes_on, IsPartial-empty}
+use Rattle.handshake_frames.proofs.StreamLemmas.{goes_on, IsPartial-empty, reads_16}
 use Rattle.link_frames.specs.declared.fault.FeedFault.{FeedFault}
-use Rattle.link_frames.specs.declared.fault.FeedFault.TheVariants as faults
 use Rattle.link_frames.specs.Stream.{SplitsLink}
 use Rattle.link_frames.proofs.LinkLemmas.{goes_on as link_goes_on, IsRest-empty}
 use Rattle.policy_audit.specs.declared.entry.Verdict.{Verdict}
 use Rattle.policy_audit.specs.declared.rule.Rule.{Rule}
-use Rattle.policy_audit.specs.declared.rule.Rule.TheVariants as rules
-use Rattle.node_core.specs.declared.fault.CoreFault.TheVariants.{Refused, OutOfMemory}
-use Rattle.node_threads.specs.declared.fault.CallFault.{CallFault}
-use Rattle.node_threads.specs.declared.fault.CallFault.TheVariants.{StrangePass, Core}
+use Rattle.node_core.specs.declared.fault.CoreFault.TheVariants.{OutOfMemory, Refused}
+use specs.declared.fault.CallFault.{CallFault}
+use specs.declared.fault.CallFault.TheVariants.{Core, StrangePass}
 use Rattle.policy_audit.specs.declared.event.Event.TheVariants.{Frame}
-use Rattle.node_threads.specs.declared.cutter.Cutter.{Cutter}
-use Rattle.node_threads.specs.declared.cutter.Cutter.TheVariants.{Handshake, Messages}
-use Rattle.node_threads.specs.declared.ends.ReadEnd.{ReadEnd}
-use Rattle.node_threads.specs.declared.ends.ReadEnd.TheVariants as ends
-use Rattle.node_threads.specs.declared.pass.Call.{Call}
-use Rattle.node_threads.specs.Calls.{Record, Gains, is_up, is_up_answer}
-use Rattle.node_threads.specs.Cutting.{is_done, CutsOff}
-use Rattle.node_threads.specs.Ends.{end_of, reader_gives_up, read_end_of_feed}
-use Rattle.node_threads.specs.Entered.{verdict_in, IsEntry, Enters}
-use Rattle.node_threads.specs.Reading.{AreFrames, OfHandshake, IsRead, Moves, ReadsOn, HasReason}
-use Rattle.node_threads.specs.Reading.{Stops, Gave, Handed, ReadsTo}
-use Rattle.node_threads.proofs.Answered.{gains_none, gains_more, gains_lighter, fault_refuses, ends_at, ends_then}
+use specs.declared.cutter.Cutter.{Cutter}
+use specs.declared.cutter.Cutter.TheVariants.{Handshake, Messages}
+use specs.declared.ends.ReadEnd.{ReadEnd}
+use specs.declared.pass.Call.{Call}
+use specs.Calls.{Gains, is_up, is_up_answer, Record}
+use specs.Cutting.{CutsOff, is_done}
+use specs.Ends.{end_of, read_end_of_feed, reader_gives_up}
+use specs.Entered.{Enters, IsEntry, verdict_in}
+use specs.Reading.{AreFrames, Gave, Handed, HasReason, IsRead, Moves, OfHandshake, ReadsOn, ReadsTo}
+use specs.Reading.{Stops}
+use proofs.Answered.{ends_at, ends_then, fault_refuses, gains_lighter, gains_more, gains_none}
+use Rattle.link_frames.specs.declared.fault.FeedFault.TheVariants as faults
+use Rattle.policy_audit.specs.declared.rule.Rule.TheVariants as rules
+use specs.declared.ends.ReadEnd.TheVariants as ends
 
 abbrev Bytes : Type 0
 Bytes = List ℕ

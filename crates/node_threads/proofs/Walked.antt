@@ -1,14 +1,14 @@
 -- An audit that is gone over from its last entry back.
-use Rattle.std.proofs.Common.{◌≡◌, ◌==◌, ℕ, zero, suc, ◌-◌, ◌<◌, ◌≤◌, Bool, true, false, cond, List, []}
-use Rattle.std.proofs.Common.{◌∷◌, ◌++◌, length, take, drop, reverse, Option, Some, None, refl, sym}
-use Rattle.std.proofs.Common.{ap, subst, ◌∙◌, inl, inr, arith, nat_le}
+use Rattle.std.proofs.Common.{ap, arith, Bool, cond, drop, false, inl, inr, length, List, nat_le}
+use Rattle.std.proofs.Common.{None, Option, refl, reverse, Some, subst, suc, sym, take, true, zero}
+use Rattle.std.proofs.Common.{ℕ, [], ◌++◌, ◌-◌, ◌<◌, ◌==◌, ◌∙◌, ◌∷◌, ◌≡◌, ◌≤◌}
 use Rattle.std.specs.Prelude.{slice_get}
 use Rattle.std.specs.List.{AllByRecursion}
 use Rattle.std.proofs.lemmas.Bool.Decides.{eqb_tells, leb_tells}
-use Rattle.std.proofs.lemmas.List.{reverse-append, length-reverse, length-take-le}
+use Rattle.std.proofs.lemmas.List.{length-reverse, length-take-le, reverse-append}
 use Rattle.std.proofs.Math.Seq.{drop-append-le, drop-nil, take-length}
 use Rattle.policy_audit.specs.declared.entry.Entry.{Entry}
-use Rattle.policy_audit.specs.Log.{Log, kept_at, entry_at}
+use Rattle.policy_audit.specs.Log.{entry_at, kept_at, Log}
 use Rattle.node_threads.specs.Closing.{kept_entries}
 use Rattle.node_threads.proofs.Settling.{all_reversed}
 
@@ -62,7 +62,8 @@ up_to_next log (suc n) e found =
     elim (leb_tells (suc n) log.forgotten) [
       | inl t ↦ (let wrong : None ≡ Some e = rw t.0 at found in cc)
       | inr f ↦
-          let here : slice_get (reverse log.entries) (suc n - 1) ≡ Some e = rw (f.0, not_zero n) at found in
+          let here : slice_get (reverse log.entries) (suc n - 1) ≡ Some e =
+          rw (f.0, not_zero n) at found in
           let back = one_back (reverse log.entries) log.forgotten n e (omega (arith, f.1))
           (rw less at here) in
           (omega arith, rw less back)
@@ -81,7 +82,8 @@ get_past (x ∷ xs) (suc n) q =
     let rest = get_past xs n q in omega (arith, rest)
 
 -- where the entry of a number isn't kept, none is kept up to it
-pub up_to_none : (log : Log) (number : ℕ) → number ≤ length log.entries → kept_at number log ≡ None →
+pub up_to_none : (log : Log) (number : ℕ) → number ≤ length log.entries → kept_at number log ≡ None
+    →
     up_to log.forgotten number log.entries ≡ []
 up_to_none log zero within none =
     ap reverse (cut_short (reverse log.entries) log.forgotten zero (omega arith))
@@ -90,7 +92,8 @@ up_to_none log (suc n) within none =
     elim (leb_tells (suc n) log.forgotten) [
       | inl t ↦ ap reverse (cut_short (reverse log.entries) log.forgotten (suc n) t.1)
       | inr f ↦
-          let here : slice_get (reverse log.entries) (suc n - 1) ≡ None = rw (f.0, not_zero n) at none in
+          let here : slice_get (reverse log.entries) (suc n - 1) ≡ None =
+          rw (f.0, not_zero n) at none in
           let past = get_past (reverse log.entries) n (rw less at here) in
           absurd (omega (arith, past, within, length-reverse log.entries))
     ]
@@ -113,6 +116,7 @@ module _ (P : Entry → Type 0) where
   holds_kept log (suc n) e all found = elim (leb_tells (suc n) log.forgotten) [
     | inl t ↦ (let wrong : None ≡ Some e = rw t.0 at found in cc)
     | inr f ↦
-        let here : slice_get (reverse log.entries) (suc n - 1) ≡ Some e = rw (f.0, not_zero n) at found in
+        let here : slice_get (reverse log.entries) (suc n - 1) ≡ Some e =
+        rw (f.0, not_zero n) at found in
         at_place (reverse log.entries) (suc n - 1) e (all_reversed P log.entries all) here
   ]

@@ -1,16 +1,17 @@
 -- Passes that let no call go, of a node that has handed out no entry.
-use Rattle.std.proofs.Common.{◌≡◌, ◌==◌, ℕ, ◌<◌, Bool, true, false, cond, List, [], ◌∷◌, ◌++◌}
-use Rattle.std.proofs.Common.{length, map, reverse, refl, sym, ap, ◌∙◌, append-nil, arith}
+use Rattle.node_threads.specs
+use Rattle.std.proofs.Common.{ap, append-nil, arith, Bool, cond, false, length, List, map, refl}
+use Rattle.std.proofs.Common.{reverse, sym, true, ℕ, [], ◌++◌, ◌<◌, ◌==◌, ◌∙◌, ◌∷◌, ◌≡◌}
 use Rattle.std.specs.List.{filter}
 use Rattle.std.proofs.lemmas.List.{length-map, length-reverse, map-append, reverse-append}
 use Rattle.std.proofs.lemmas.List.{reverse-reverse}
 use Rattle.std.proofs.lemmas.List.Elements.{filter-append}
 use Rattle.policy_audit.specs.declared.entry.Entry.{Entry}
 use Rattle.policy_audit.specs.History.{audited}
-use Rattle.node_threads.specs.declared.pass.Call.{Call}
-use Rattle.node_threads.specs.Calls.{Record, of, call_of, calls_of, entries_of}
-use Rattle.node_threads.specs.Room.{Room}
-use Rattle.node_threads.specs.Closing.{Agree, IsOwn, IsWhole, HasAll}
+use specs.declared.pass.Call.{Call}
+use specs.Calls.{call_of, calls_of, entries_of, of, Record}
+use specs.Room.{Room}
+use specs.Closing.{Agree, HasAll, IsOwn, IsWhole}
 
 agree_self : (xs : List Call) → Agree xs xs
 agree_self [] = tt

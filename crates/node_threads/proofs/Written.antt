@@ -1,29 +1,30 @@
 -- A writer's steps, one after another.
-use Rattle.std.proofs.Common.{◌≡◌, ℕ, true, List, [], ◌∷◌, ◌++◌, Option, Some, None, Ok, Err, refl}
-use Rattle.std.proofs.Common.{sym, ap, subst, ◌∙◌, inl, inr, append-nil}
-use Rattle.std.specs.Io.KnownBytes.{Keeps, Appends}
+use Rattle.node_threads.proofs
+use Rattle.node_threads.specs
+use Rattle.std.proofs.Common.{ap, append-nil, Err, inl, inr, List, None, Ok, Option, refl, Some}
+use Rattle.std.proofs.Common.{subst, sym, true, ℕ, [], ◌++◌, ◌∙◌, ◌∷◌, ◌≡◌}
+use Rattle.std.specs.Io.KnownBytes.{Appends, Keeps}
 use Rattle.std.specs.List.{flat_map}
-use Rattle.std.proofs.KnownBytes.{Appends-nil, Appends-trans, Appends-kept}
+use Rattle.std.proofs.KnownBytes.{Appends-kept, Appends-nil, Appends-trans}
 use Rattle.std.proofs.lemmas.Grind.{flat_map-append}
-use Rattle.std.proofs.lemmas.List.Elements.{All-nil, All-cons, All-append}
+use Rattle.std.proofs.lemmas.List.Elements.{All-append, All-cons, All-nil}
 use Rattle.policy_audit.specs.OutFrame.{OutFrame}
 use Rattle.policy_audit.specs.Wire.{wire_bytes}
 use Rattle.policy_audit.specs.declared.event.Event.TheVariants.{Take}
 use Rattle.policy_audit.specs.declared.reply.Reply.{Reply}
 use Rattle.policy_audit.specs.declared.reply.Reply.TheVariants.{Out}
 use Rattle.policy_audit.specs.declared.entry.Verdict.{Verdict}
-use Rattle.node_threads.specs.declared.fault.CallFault.{CallFault}
-use Rattle.node_threads.specs.declared.ends.WriteEnd.{WriteEnd}
-use Rattle.node_threads.specs.declared.ends.WriteEnd.TheVariants as ends
-use Rattle.node_threads.specs.declared.pass.Call.{Call}
-use Rattle.node_threads.specs.Applied.{Called}
-use Rattle.node_threads.specs.Calls.{Record, Gains}
-use Rattle.node_threads.specs.Ends.{take_end, writer_gives_up}
-use Rattle.node_threads.specs.Entered.{verdict_in, IsEntry}
-use Rattle.node_threads.specs.Writing.{AreTakes, frames_in, wires, IsSent, HasReason, Took}
-use Rattle.node_threads.specs.Writing.{WritesTo}
-use Rattle.node_threads.proofs.Answered.{gains_none, gains_more, gains_lighter, accepted, enters, fault_refuses}
-use Rattle.node_threads.proofs.Answered.{ends_at, ends_then}
+use specs.declared.fault.CallFault.{CallFault}
+use specs.declared.ends.WriteEnd.{WriteEnd}
+use specs.declared.pass.Call.{Call}
+use specs.Applied.{Called}
+use specs.Calls.{Gains, Record}
+use specs.Ends.{take_end, writer_gives_up}
+use specs.Entered.{IsEntry, verdict_in}
+use specs.Writing.{AreTakes, frames_in, HasReason, IsSent, Took, wires, WritesTo}
+use proofs.Answered.{accepted, ends_at, ends_then, enters, fault_refuses, gains_lighter, gains_more}
+use proofs.Answered.{gains_none}
+use specs.declared.ends.WriteEnd.TheVariants as ends
 
 wires-append : (xs ys : List Call) → wires (xs ++ ys) ≡ wires xs ++ wires ys
 wires-append xs ys =

@@ -1,21 +1,22 @@
 -- How many entries are handed out, and a run of which not all could be kept.
-use Rattle.std.proofs.Common.{◌≡◌, ◌+◌, ◌-◌, ◌≤◌, ℕ, List, [], Option, Some, None, Ok, Err, sym, ap}
-use Rattle.std.proofs.Common.{◌∙◌, append-nil, arith, IfSome}
+use Rattle.pg_script.specs
+use Rattle.std.proofs.Common.{ap, append-nil, arith, Err, IfSome, List, None, Ok, Option, Some, sym}
+use Rattle.std.proofs.Common.{ℕ, [], ◌+◌, ◌-◌, ◌∙◌, ◌≡◌, ◌≤◌}
 use Rattle.std.specs.Prelude.{IfNone, max, min}
 use Rattle.policy_audit.specs.declared.entry.Entry.{Entry}
 use Rattle.policy_audit.specs.History.{entered}
 use Rattle.policy_audit.specs.Pages.{page_size}
 use Rattle.node_core.specs.Recorded.{Recorded}
-use Rattle.pg_script.specs.Playing.{Playing, forgotten_to}
+use specs.Playing.{forgotten_to, Playing}
 use Rattle.pg_script.proofs.StepLemmas.{seated}
 use Rattle.std.specs.declared.result.Result.{Result}
 use Rattle.policy_audit.specs.declared.opening.Opening.{Opening}
-use Rattle.pg_script.specs.declared.script.RunFault.{RunFault}
-use Rattle.pg_script.specs.declared.script.RunFault.TheVariants as faults
-use Rattle.pg_script.specs.declared.keeping.KeepFault.{KeepFault}
-use Rattle.pg_script.specs.declared.keeping.KeepFault.TheVariants as keep_faults
-use Rattle.pg_script.specs.Transcript.{kept_text, Met}
-use Rattle.pg_script.specs.Runs.{Writes, Begins, Ends, KeepsAs}
+use specs.declared.script.RunFault.{RunFault}
+use specs.declared.keeping.KeepFault.{KeepFault}
+use specs.Transcript.{kept_text, Met}
+use specs.Runs.{Begins, Ends, KeepsAs, Writes}
+use specs.declared.script.RunFault.TheVariants as faults
+use specs.declared.keeping.KeepFault.TheVariants as keep_faults
 
 -- a whole text is a beginning of it
 whole_begins : {M : Type 0} (text : List M → List ℕ) (old new : Option (List ℕ))

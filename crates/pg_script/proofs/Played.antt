@@ -1,21 +1,22 @@
 -- What the loop over the lines keeps.
-use Rattle.std.proofs.Common.{◌≡◌, ℕ, ◌+◌, ◌-◌, ◌<◌, ◌≤◌, subst, Bool, true, false, cond, List, []}
-use Rattle.std.proofs.Common.{◌∷◌, ◌++◌, length, take, drop, Option, Some, None, refl, sym, ap, ◌∙◌}
-use Rattle.std.proofs.Common.{append_assoc, append-nil, arith, IfSome, Err, inl, inr}
+use Rattle.pg_script.specs
+use Rattle.std.proofs.Common.{ap, append-nil, append_assoc, arith, Bool, cond, drop, Err, false}
+use Rattle.std.proofs.Common.{IfSome, inl, inr, length, List, None, Option, refl, Some, subst, sym}
+use Rattle.std.proofs.Common.{take, true, ℕ, [], ◌++◌, ◌+◌, ◌-◌, ◌<◌, ◌∙◌, ◌∷◌, ◌≡◌, ◌≤◌}
 use Rattle.std.proofs.lemmas.List.{length-drop, take-append-drop, take_all}
 use Rattle.std.proofs.Math.Seq.{take-add}
 use Rattle.std.specs.Prelude.{◌⊎◌}
 use Rattle.std.specs.Io.KnownBytes.{Appends}
-use Rattle.std.specs.Io.BufRead.{take_through, drop_through, strip_last}
+use Rattle.std.specs.Io.BufRead.{drop_through, strip_last, take_through}
 use Rattle.policy_audit.specs.declared.opening.Opening.{Opening}
-use Rattle.pg_script.specs.Playing.{Playing, opened_with}
+use specs.Playing.{opened_with, Playing}
 use Rattle.pg_text.specs.Answers.{fault_line}
 use Rattle.pg_text.specs.Lines.{lines_of}
-use Rattle.pg_script.specs.Transcript.{text_by, fault_in, fault_from, is_fault}
-use Rattle.pg_script.specs.declared.script.RunFault.{RunFault}
-use Rattle.pg_script.specs.declared.script.RunFault.TheVariants as faults
-use Rattle.pg_script.specs.Runs.{Writes, Begins, Ends}
+use specs.Transcript.{fault_from, fault_in, is_fault, text_by}
+use specs.declared.script.RunFault.{RunFault}
+use specs.Runs.{Begins, Ends, Writes}
 use Rattle.pg_text.proofs.LineLemmas.{lines_step}
+use specs.declared.script.RunFault.TheVariants as faults
 
 -- the writer holds the answers to the lines before line k, and what is left of the script gives the
 -- others, where a line that is met so is answered by `text` and leaves what `left` says
@@ -166,7 +167,8 @@ module _ {M : Type 0} {usual : M} {text : M → Playing → List ℕ → List �
       owed = cond (is_fault line) (fault_line k) (text m now line)
 
       behind : List ℕ
-      behind = text_by usual text left [] (left m now line) (k + 1) (lines_of (drop_through 10 rest))
+      behind = text_by usual text left [] (left m now line) (k + 1)
+          (lines_of (drop_through 10 rest))
 
       others : List ℕ
       others = cond (is_fault line) [] behind
@@ -186,7 +188,8 @@ module _ {M : Type 0} {usual : M} {text : M → Playing → List ℕ → List �
     p.fault ∙ ap (λ (r : List ℕ). fault_from k (lines_of r)) none,
     record {
       met = p.past ++ [];
-      appended = rw (p.whole [] ∙ ap (λ (r : List ℕ). p.written ++ text_by usual text left [] now k (lines_of r))
+      appended = rw (p.whole []
+          ∙ ap (λ (r : List ℕ). p.written ++ text_by usual text left [] now k (lines_of r))
           none ∙ append-nil p.written) p.appended;
     },
   )

@@ -1,21 +1,21 @@
 -- What a step answers and leaves, as the transcript has it, and a text in whose steps memory never
 -- lacks.
-use Rattle.std.proofs.Common.{◌≡◌, ℕ, Bool, true, false, refl, ap, sym, Result, Ok, Err, OnOk, ◌+◌}
-use Rattle.std.proofs.Common.{cond, List, [], ◌∷◌, ◌++◌}
+use Rattle.pg_script.specs
+use Rattle.std.proofs.Common.{ap, Bool, cond, Err, false, List, Ok, OnOk, refl, Result, sym, true}
+use Rattle.std.proofs.Common.{ℕ, [], ◌++◌, ◌+◌, ◌∷◌, ◌≡◌}
 use Rattle.policy_audit.specs.declared.event.Event.{Event}
 use Rattle.policy_audit.specs.declared.reply.Reply.{Reply}
 use Rattle.policy_audit.specs.History.{History}
 use Rattle.node_core.specs.declared.fault.CoreFault.{CoreFault}
-use Rattle.node_core.specs.declared.fault.CoreFault.TheVariants as faults
 use Rattle.node_core.specs.Step.{IsStepped}
-use Rattle.pg_text.specs.declared.command.Command.TheVariants as command
-use Rattle.pg_script.specs.Playing.{Playing, opened_with}
-use Rattle.pg_text.specs.Answers.{verdict_line, step_line, fault_line}
-use Rattle.pg_script.specs.Transcript.{answer_to, left_by, text, text_by, is_fault, line_text}
-use Rattle.pg_script.specs.Transcript.{line_left}
+use specs.Playing.{opened_with, Playing}
+use Rattle.pg_text.specs.Answers.{fault_line, step_line, verdict_line}
+use specs.Transcript.{answer_to, is_fault, left_by, line_left, line_text, text, text_by}
 use Rattle.std.specs.List.{list_any}
 use Rattle.policy_audit.specs.declared.opening.Opening.{Opening}
 use Rattle.pg_text.specs.Lines.{lines_of}
+use Rattle.node_core.specs.declared.fault.CoreFault.TheVariants as faults
+use Rattle.pg_text.specs.declared.command.Command.TheVariants as command
 
 -- the same seat asks a node that has seen this, and has handed out so many entries
 abbrev pub seated : ℕ → ℕ → History → Playing

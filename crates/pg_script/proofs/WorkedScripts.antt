@@ -1,9 +1,9 @@
 -- Scripts whose text the checker computes from the definitions alone, MD5 included.
-use Rattle.std.proofs.Common.{◌≡◌, false, List, ℕ, [], ◌++◌, codes, refl}
+use Rattle.std.proofs.Common.{codes, false, List, refl, ℕ, [], ◌++◌, ◌≡◌}
 use Rattle.std.specs.Fmt.{digits}
-use Rattle.md5.specs.Md5.{md5, digest_bytes, hash_after, compress, rounds, block_words}
+use Rattle.md5.specs.Md5.{block_words, compress, digest_bytes, hash_after, md5, rounds}
 use Rattle.hex.proofs.OnLiterals.{hex_on_literals}
-use Rattle.handshake_frames.specs.Reading.{name_frame, challenge_frame, reply_frame, ack_frame}
+use Rattle.handshake_frames.specs.Reading.{ack_frame, challenge_frame, name_frame, reply_frame}
 use Rattle.handshake_frames.specs.Reading.{status_of}
 use Rattle.link_frames.specs.Reading.{message as read_message}
 use Rattle.policy_audit.specs.declared.opening.Opening.{Opening}

@@ -1,11 +1,12 @@
 -- The first line of a text, and the first word of a line.
-use Rattle.std.proofs.Common.{◌≡◌, ◌≢◌, ℕ, suc, ◌-◌, ◌<◌, Bool, Some, None, true, false, cond, List}
-use Rattle.std.proofs.Common.{[], ◌∷◌, ◌++◌, length, All, refl, arith, rules, nat_lt, eqb, ne_eqb}
+use Rattle.std.proofs.Common.{All, arith, Bool, cond, eqb, false, length, List, nat_lt, ne_eqb}
+use Rattle.std.proofs.Common.{None, refl, rules, Some, suc, true, ℕ, [], ◌++◌, ◌-◌, ◌<◌, ◌∷◌, ◌≡◌}
+use Rattle.std.proofs.Common.{◌≢◌}
 use Rattle.std.proofs.lemmas.List.Elements.{All-head, All-tail}
-use Rattle.std.specs.Io.BufRead.{take_through, drop_through, strip_last}
+use Rattle.std.specs.Io.BufRead.{drop_through, strip_last, take_through}
 use Rattle.std.specs.List.{list_any}
 use Rattle.std.specs.Option.{option_map}
-use Rattle.pg_text.specs.Lines.{lines_of, words_of, onto_first, only_of}
+use Rattle.pg_text.specs.Lines.{lines_of, only_of, onto_first, words_of}
 
 -- a byte before another part of a text stays when the line feed at its end goes
 strip_cons : (b c : ℕ) (cs : List ℕ) → strip_last 10 (b ∷ c ∷ cs) ≡ b ∷ strip_last 10 (c ∷ cs)

@@ -1,18 +1,18 @@
 -- Which words are texts and numbers, how long numbers are, and the last slash of a word.
-use Rattle.std.proofs.Common.{◌≡◌, ◌≢◌, ℕ, ◌+◌, ◌<◌, List, [], ◌∷◌, ◌++◌, length, take, drop}
-use Rattle.std.proofs.Common.{get_or, Some, None, All, refl, sym, ap, ◌∙◌, ne_eqb, take-append-drop}
-use Rattle.std.proofs.Common.{true, arith, ◌≤◌, ◌^◌, subst, rules, decimal}
+use Rattle.std.proofs.Common.{All, ap, arith, decimal, drop, get_or, length, List, ne_eqb, None}
+use Rattle.std.proofs.Common.{refl, rules, Some, subst, sym, take, take-append-drop, true, ℕ, []}
+use Rattle.std.proofs.Common.{◌++◌, ◌+◌, ◌<◌, ◌^◌, ◌∙◌, ◌∷◌, ◌≡◌, ◌≢◌, ◌≤◌}
 use Rattle.std.proofs.lemmas.List.{drop_more}
-use Rattle.std.proofs.lemmas.List.Elements.{All-head, All-tail, All-cons, All-same}
-use Rattle.pg_text.specs.Words.{cut_of, text_of, long_number_of}
-use Rattle.dist_types.specs.Text.{IsText, is_text}
+use Rattle.std.proofs.lemmas.List.Elements.{All-cons, All-head, All-same, All-tail}
+use Rattle.pg_text.specs.Words.{cut_of, long_number_of, text_of}
+use Rattle.dist_types.specs.Text.{is_text, IsText}
 use Rattle.dist_types.proofs.LimitLemmas.{texts_compute}
 use Rattle.std.specs.Str.{bytes_eq}
 use Rattle.std.specs.Str.Parse.{digits_value}
 use Rattle.std.proofs.lemmas.Fmt.{digits_value-decimal, length-decimal-le}
 use Rattle.std.proofs.lemmas.Str.Parse.{numerals_by_value, tells_all_ascii_digits}
 use Rattle.std.proofs.lemmas.Slice.Eq.{bytes_eq-Decides}
-use Rattle.std.proofs.lemmas.Bool.{ltb-true, lt-ltb}
+use Rattle.std.proofs.lemmas.Bool.{lt-ltb, ltb-true}
 
 -- no slash stands in it
 abbrev pub IsWhole : List ℕ → Type 0

@@ -1,28 +1,27 @@
 -- An accepted wire keeps the invariant: the link that is opened is its other end, or the opening is
 -- refused.
+use Rattle.pg_world.specs
 use Rattle.pg_world.proofs
 use proofs.Words.{Accepted, ap, asks_opened, bodies, ByPeer, came_of, Carries, changed, Entry, Err}
-use proofs.Words.{gets_of, handed_of, HasEnd, History, is_accepted, IsEnd, IsNext, IsPlayed}
-use proofs.Words.{IsStep, IsWired, IsWorld, IsWritten, just, link_opened, List, next_step}
-use proofs.Words.{no_value, Nodes, None, Ok, opener, opening_of, Option, refl, Refused, Result}
-use proofs.Words.{Side, slice_get, Some, start_of, subst, sym, true, turn_of, Verdict, Wire}
+use proofs.Words.{gets_of, handed_of, HasEnd, History, is_accepted, IsEnd, IsNext, IsPlayed, IsStep}
+use proofs.Words.{IsWired, IsWorld, IsWritten, just, link_at, link_opened, List, next_step}
+use proofs.Words.{no_value, node_at, Nodes, None, Ok, opener, opening_of, Option, refl, Refused}
+use proofs.Words.{Result, Side, slice_get, Some, start_of, subst, sym, true, turn_of, Verdict, Wire}
 use proofs.Words.{wire_opener, with_link, world, WorldFault, ℕ, ◌++◌, ◌∙◌, ◌∷◌, ◌≡◌}
-use proofs.Calling.{IsApart, apart_kept, refused_none}
+use proofs.Calling.{apart_kept, IsApart, refused_none}
 use proofs.Entering.{stays_wired}
-use proofs.Next.{says, Keeps}
-use proofs.Opening.{nodes_now, now_here, came_none, handed_none, no_link_came, no_link_handed}
-use proofs.Words.{link_at, node_at}
-use proofs.Opening.{IsLinkFrom, NewLink, WasLink}
-use proofs.Opening.{no_link_gets, opens_it, still_carries, IsEndFrom, WasEnd, NewEnd, opens_world}
-use proofs.Opening.{number_answered}
-use proofs.Puts.{value_of, Compared, Same, Apart, compare, IsFound, Changed, Kept, found}
-use proofs.Puts.{changed_here, changed_there}
+use proofs.Next.{Keeps, says}
+use proofs.Opening.{came_none, handed_none, IsEndFrom, IsLinkFrom, NewEnd, NewLink, no_link_came}
+use proofs.Opening.{no_link_gets, no_link_handed, nodes_now, now_here, number_answered, opens_it}
+use proofs.Opening.{opens_world, still_carries, WasEnd, WasLink}
+use proofs.Puts.{Apart, Changed, changed_here, changed_there, compare, Compared, found, IsFound}
+use proofs.Puts.{Kept, Same, value_of}
 use proofs.Refusals.{same_wire}
 use proofs.Steady.{same_ends}
 use Rattle.policy_audit.specs.declared.event.Event.TheVariants as event
-use Rattle.pg_world.specs.declared.side.Side.TheVariants as side
-use Rattle.pg_world.specs.declared.world_step.WorldStep.TheVariants as step
-use Rattle.pg_world.specs.declared.fault.WorldFault.TheVariants as fault
+use specs.declared.side.Side.TheVariants as side
+use specs.declared.world_step.WorldStep.TheVariants as step
+use specs.declared.fault.WorldFault.TheVariants as fault
 
 module _ (w : Nodes) (sound : IsWorld w) (n seat c : ℕ) (written : IsWritten (event.Opened c)) where
   module _ (x : Wire) (stands : slice_get w.wires n ≡ Some x) (unopened : x.accepted ≡ None)

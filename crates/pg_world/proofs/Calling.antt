@@ -1,15 +1,16 @@
 -- A call and a restart leave the wires, and keep the invariant.
+use Rattle.pg_world.specs
 use Rattle.pg_world.proofs
 use proofs.Words.{ap, Asks, asks, Bool, came, cond, Entry, Event, false, handed, History}
 use proofs.Words.{is_accepted, is_opened_by, is_some, is_wrong, IsLate, IsNext, IsWorld, IsWritten}
 use proofs.Words.{just, lie, List, Nodes, None, Option, refl, Refuses, slice_get, slice_set, Some}
-use proofs.Words.{start_of, subst, sym, true, Turn, turn_of, Verdict, world, WorldStep, ℕ, []}
-use proofs.Words.{◌&&◌, ◌==◌, ◌∙◌, ◌≡◌}
-use proofs.Next.{KeptBy, Keeps}
+use proofs.Words.{start_of, subst, sym, true, Turn, turn_of, Verdict, world, WorldStep, ℕ, [], ◌&&◌}
+use proofs.Words.{◌==◌, ◌∙◌, ◌≡◌}
+use proofs.Next.{Keeps, KeptBy}
 use proofs.Steady.{made_of, quiet}
 use Rattle.policy_audit.specs.declared.event.Event.TheVariants as event
-use Rattle.pg_world.specs.declared.world_step.WorldStep.TheVariants as step
-use Rattle.pg_world.specs.declared.fault.WorldFault.TheVariants as fault
+use specs.declared.world_step.WorldStep.TheVariants as step
+use specs.declared.fault.WorldFault.TheVariants as fault
 
 -- an event by which no frame comes and none is handed out
 pub record IsApart (e : Event) : Type 0 where

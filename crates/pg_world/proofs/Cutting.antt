@@ -4,13 +4,13 @@ use proofs.Words.{Accepted, ap, Asks, bodies, Bool, cond, cut_by, ends, Entry, e
 use proofs.Words.{gets_of, History, is_accepted, is_empty, is_full, is_gone, is_kept, is_open}
 use proofs.Words.{is_opened_by, is_some, IsNext, IsPlayed, IsWorld, IsWritten, judged, just, lie}
 use proofs.Words.{link_at, node_at, Nodes, None, not, Option, other, refl, Refused, Rule, Side}
-use proofs.Words.{slice_get, Some, start_of, subst, sym, true, turn_of, under_way, Verdict}
-use proofs.Words.{verdict, waiting, Wire, wires_after, ℕ, [], ◌&&◌, ◌++◌, ◌||◌, ◌∙◌, ◌∷◌, ◌≡◌}
+use proofs.Words.{slice_get, Some, start_of, subst, sym, true, turn_of, under_way, Verdict, verdict}
+use proofs.Words.{waiting, Wire, wires_after, ℕ, [], ◌&&◌, ◌++◌, ◌||◌, ◌∙◌, ◌∷◌, ◌≡◌}
 use proofs.Calling.{IsApart, starts_none}
 use proofs.Entering.{new_came, new_handed, none_came, none_handed}
-use proofs.Next.{says, Keeps, at_wire}
+use proofs.Next.{at_wire, Keeps, says}
 use proofs.Puts.{get_same}
-use proofs.Queued.{still_fits, queued}
+use proofs.Queued.{queued, still_fits}
 use proofs.Steady.{after}
 use Rattle.policy_audit.specs.declared.event.Event.TheVariants as event
 use Rattle.policy_audit.specs.declared.rule.Rule.TheVariants as rule

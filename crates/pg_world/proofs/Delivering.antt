@@ -2,13 +2,13 @@
 use Rattle.pg_world.proofs
 use proofs.Words.{ap, append-nil, asks_frame, bodies, came, cond, drop, Entry, eq-eqb, handed}
 use proofs.Words.{History, is_some, IsLate, IsNext, IsPlayed, IsWorld, IsWritten, leaves, left_by}
-use proofs.Words.{link_at, List, next_step, node_at, Nodes, Option, other, OutFrame, queue_at}
-use proofs.Words.{refl, Side, slice_get, Some, start_of, subst, sym, true, turn_of, under_way}
-use proofs.Words.{Wire, wires_after, ℕ, [], ◌++◌, ◌∙◌, ◌∷◌, ◌≡◌}
+use proofs.Words.{link_at, List, next_step, node_at, Nodes, Option, other, OutFrame, queue_at, refl}
+use proofs.Words.{Side, slice_get, Some, start_of, subst, sym, true, turn_of, under_way, Wire}
+use proofs.Words.{wires_after, ℕ, [], ◌++◌, ◌∙◌, ◌∷◌, ◌≡◌}
 use proofs.Calling.{starts_none}
-use proofs.Entering.{ends_low, new_came, new_handed, none_handed, came_once}
-use proofs.Handing.{apart_sides, this_wire, this_side}
-use proofs.Next.{says, Keeps, at_wire}
+use proofs.Entering.{came_once, ends_low, new_came, new_handed, none_handed}
+use proofs.Handing.{apart_sides, this_side, this_wire}
+use proofs.Next.{at_wire, Keeps, says}
 use proofs.Queued.{queued}
 use proofs.Steady.{after}
 use proofs.Turning.{queue_is}

@@ -1,25 +1,24 @@
 -- A dial keeps the invariant: it makes a wire of its link, or is refused.
+use Rattle.pg_world.specs
 use Rattle.pg_world.proofs
-use proofs.Words.{Accepted, ap, append-nil, asks, ByDial, came_of, Carries, dialled, Entry}
-use proofs.Words.{History, is_accepted, IsEnd, IsNext, IsPlayed, IsStep, IsWired, IsWorld}
-use proofs.Words.{IsWritten, just, length, link_opened, List, new_wire, next_step, no_value, Nodes}
+use proofs.Words.{Accepted, ap, append-nil, asks, ByDial, came_of, Carries, dialled, Entry, History}
+use proofs.Words.{is_accepted, IsEnd, IsNext, IsPlayed, IsStep, IsWired, IsWorld, IsWritten, just}
+use proofs.Words.{length, link_at, link_opened, List, new_wire, next_step, no_value, node_at, Nodes}
 use proofs.Words.{None, Ok, Option, refl, Refused, Refuses, Side, slice_get, Some, stands_first}
 use proofs.Words.{stands_last, start_of, subst, sym, true, Turn, turn_of, Verdict, Wire, world, ℕ}
 use proofs.Words.{[], ◌++◌, ◌∙◌, ◌∷◌, ◌≡◌}
-use proofs.Calling.{IsApart, apart_kept, asks_kept, refused_none}
+use proofs.Calling.{apart_kept, asks_kept, IsApart, refused_none}
 use proofs.Entering.{onward, stays_wired}
-use proofs.Next.{says, Keeps}
-use proofs.Opening.{nodes_now, now_here, came_none, handed_none, no_link_came, no_link_handed}
-use proofs.Words.{link_at, node_at}
-use proofs.Opening.{IsLinkFrom, NewLink, WasLink}
-use proofs.Opening.{opens_it, still_carries, IsEndFrom, WasEnd, NewEnd, opens_world}
-use proofs.Opening.{number_answered}
-use proofs.Puts.{value_of, IsOneOf, Old, New, one_of}
+use proofs.Next.{Keeps, says}
+use proofs.Opening.{came_none, handed_none, IsEndFrom, IsLinkFrom, NewEnd, NewLink, no_link_came}
+use proofs.Opening.{no_link_handed, nodes_now, now_here, number_answered, opens_it, opens_world}
+use proofs.Opening.{still_carries, WasEnd, WasLink}
+use proofs.Puts.{IsOneOf, New, Old, one_of, value_of}
 use proofs.Steady.{same_ends}
 use Rattle.policy_audit.specs.declared.event.Event.TheVariants as event
-use Rattle.pg_world.specs.declared.side.Side.TheVariants as side
-use Rattle.pg_world.specs.declared.world_step.WorldStep.TheVariants as step
-use Rattle.pg_world.specs.declared.fault.WorldFault.TheVariants as fault
+use specs.declared.side.Side.TheVariants as side
+use specs.declared.world_step.WorldStep.TheVariants as step
+use specs.declared.fault.WorldFault.TheVariants as fault
 
 module _ (w : Nodes) (sound : IsWorld w) (i j seat c : ℕ)
     (written : IsWritten (event.Dial [] c)) where

@@ -8,8 +8,8 @@ use proofs.Words.{is_whole_in, IsGiven, IsLate, IsNode, IsNumbered, IsPlayedIn, 
 use proofs.Words.{map-append, moment, Name, name_frame, named_first, named_own, no_value, None}
 use proofs.Words.{Opened, opened, Opening, opening_is, opening_low, opening_of, Option, option_map}
 use proofs.Words.{option_map_or, out, OutFrame, Owing, own_hello, past, peer_of, refl, Refused}
-use proofs.Words.{sent, slice_get, Some, stands_first, Start, sym, taken, true, unopened}
-use proofs.Words.{Verdict, ℕ, [], ◌++◌, ◌+◌, ◌<◌, ◌==◌, ◌∙◌, ◌∷◌, ◌≡◌}
+use proofs.Words.{sent, slice_get, Some, stands_first, Start, sym, taken, true, unopened, Verdict}
+use proofs.Words.{ℕ, [], ◌++◌, ◌+◌, ◌<◌, ◌==◌, ◌∙◌, ◌∷◌, ◌≡◌}
 use proofs.Puts.{value_of}
 use Rattle.policy_audit.specs.declared.event.Event.TheVariants as event
 

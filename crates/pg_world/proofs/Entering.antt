@@ -6,7 +6,7 @@ use proofs.Words.{handed_of, History, is_open, is_opened_by, IsPlayed, IsStep, I
 use proofs.Words.{link_at, List, node_at, None, not, opening_low, opening_of, Option, other}
 use proofs.Words.{OutFrame, refl, sent, Side, slice_get, slice_set, Some, Start, start_of, subst}
 use proofs.Words.{sym, true, under_way, unopened, Wire, ℕ, [], ◌++◌, ◌==◌, ◌∙◌, ◌∷◌, ◌≡◌, ◌≤◌}
-use proofs.Puts.{get_same, get_other, value_of, Compared, Same, Apart, compare}
+use proofs.Puts.{Apart, compare, Compared, get_other, get_same, Same, value_of}
 use Rattle.policy_audit.specs.declared.event.Event.TheVariants as event
 use Rattle.pg_world.specs.declared.side.Side.TheVariants as side
 

@@ -4,14 +4,13 @@ use proofs.Words.{AllByRecursion, ap, arith, Bool, bytes_eq, codes, Comes, Diffe
 use proofs.Words.{exchange, false, fresh, get_or, History, IsBehind, IsExchanged, IsNode}
 use proofs.Words.{IsNodeName, IsText, IsWorld, IsWrittenStep, join_again, lie, List, names_compute}
 use proofs.Words.{no_value, Nodes, refl, slice_get, slice_get-get_or, Some, subst, suc, sym}
-use proofs.Words.{texts_compute, true}
-use proofs.Words.{two_nodes, WorldStep, zero, ℕ, [], ◌++◌, ◌∙◌, ◌∷◌, ◌≡◌}
-use proofs.Playing.{play, plays, play_sound}
+use proofs.Words.{texts_compute, true, two_nodes, WorldStep, zero, ℕ, [], ◌++◌, ◌∙◌, ◌∷◌, ◌≡◌}
+use proofs.Playing.{play, play_sound, plays}
 use proofs.Puts.{value_of}
 use proofs.Starting.{starts}
 use Rattle.std.specs.Fmt.{digits}
-use Rattle.md5.specs.Md5.{md5, digest_bytes, hash_after, compress, rounds, block_words}
-use Rattle.handshake_frames.specs.Reading.{name_frame, challenge_frame, reply_frame, ack_frame}
+use Rattle.md5.specs.Md5.{block_words, compress, digest_bytes, hash_after, md5, rounds}
+use Rattle.handshake_frames.specs.Reading.{ack_frame, challenge_frame, name_frame, reply_frame}
 use Rattle.handshake_frames.specs.Reading.{status_of}
 use Rattle.link_frames.specs.Reading.{message as read_message}
 use Rattle.link_frames.specs.PartReading.{message2 as read_message2}

@@ -1,4 +1,5 @@
 -- A world stays one where a node hands out what waits for a link.
+use Rattle.pg_world.specs
 use Rattle.pg_world.proofs
 use proofs.Words.{Accepted, ap, append-nil, Asks, bodies, came, cond, Entry, eq-eqb, handed}
 use proofs.Words.{History, is_some, IsLate, IsNext, IsPlayed, IsWorld, IsWritten, joined_by}
@@ -6,14 +7,14 @@ use proofs.Words.{link_at, List, node_at, Nodes, Option, other, OutFrame, refl, 
 use proofs.Words.{slice_get, Some, start_of, subst, sym, turn_of, under_way, Verdict, Wire}
 use proofs.Words.{wires_after, ℕ, [], ◌++◌, ◌∙◌, ◌≡◌}
 use proofs.Calling.{starts_none}
-use proofs.Entering.{bodies_apart, new_came, new_handed, none_came, handed_once}
-use proofs.Next.{says, Keeps, at_wire}
+use proofs.Entering.{bodies_apart, handed_once, new_came, new_handed, none_came}
+use proofs.Next.{at_wire, Keeps, says}
 use proofs.Queued.{queued}
 use proofs.Steady.{after}
 use Rattle.policy_audit.specs.declared.event.Event.TheVariants as event
 use Rattle.policy_audit.specs.declared.reply.Reply.TheVariants as reply
-use Rattle.pg_world.specs.declared.side.Side.TheVariants as side
-use Rattle.pg_world.specs.declared.world_step.WorldStep.TheVariants as step
+use specs.declared.side.Side.TheVariants as side
+use specs.declared.world_step.WorldStep.TheVariants as step
 
 -- ---- sides
 

@@ -5,7 +5,7 @@ use proofs.Words.{ap, bodies, ByDial, ByPeer, came_of, Carries, delivered, Frame
 use proofs.Words.{handed_of, History, is_open, is_whole, IsNode, IsWired, link_at, List, node_at}
 use proofs.Words.{None, opening_of, Option, other, refl, sent, Side, slice_get, Some, subst, sym}
 use proofs.Words.{true, under_way, Wire, ℕ, [], ◌++◌, ◌∙◌, ◌≡◌}
-use proofs.Ends.{IsJoined, joined_acceptor, joined_dialler, dialled_some}
+use proofs.Ends.{dialled_some, IsJoined, joined_acceptor, joined_dialler}
 use proofs.Puts.{value_of}
 use Rattle.pg_world.specs.declared.side.Side.TheVariants as side
 

@@ -6,9 +6,9 @@ use proofs.Words.{handed_of, heard, heard_moment, hears_node, HearsMoment, Histo
 use proofs.Words.{is_open, is_up, is_up_there, is_whole, IsEnd, IsNode, IsWired, IsWorld, link_at}
 use proofs.Words.{List, listed, listed_now, ListMoments, ListNow, moment, node_at, Nodes, None}
 use proofs.Words.{open_rest, opening_of, Option, other, out, OutFrame, peer_of, Pid, present_link}
-use proofs.Words.{refl, same, same_decides, sent, Side, slice_get, Some, subst, sym, true}
-use proofs.Words.{shared, Speaks, under_way, waiting, Wire, ℕ, [], ◌++◌, ◌∙◌, ◌≡◌}
-use proofs.Ends.{IsJoined, bodies_all}
+use proofs.Words.{refl, same, same_decides, sent, shared, Side, slice_get, Some, Speaks, subst, sym}
+use proofs.Words.{true, under_way, waiting, Wire, ℕ, [], ◌++◌, ◌∙◌, ◌≡◌}
+use proofs.Ends.{bodies_all, IsJoined}
 use proofs.Joining.{at_acceptor, at_dialler, carried_to, was_accepted}
 use proofs.Sharing.{other_twice, shared_sym}
 use proofs.Puts.{value_of}

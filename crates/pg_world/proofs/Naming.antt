@@ -1,9 +1,8 @@
 -- Names that two nodes share.
 use Rattle.pg_world.proofs
-use proofs.Words.{ap, Bool, Decides, Decides-eqb, false, get_or, histories, History, length, List, nat_eq}
-use proofs.Words.{pointwise, refl, ShareAName, slice_eq-Decides, slice_get, slice_get_read, Some}
-use proofs.Words.{option_map, Recorded, slice_get-map}
-use proofs.Words.{sym, true, ℕ, ◌<◌, ◌∙◌, ◌≡◌, ◌≢◌}
+use proofs.Words.{ap, Bool, Decides, Decides-eqb, false, get_or, histories, History, length, List}
+use proofs.Words.{nat_eq, option_map, pointwise, Recorded, refl, ShareAName, slice_eq-Decides}
+use proofs.Words.{slice_get, slice_get-map, slice_get_read, Some, sym, true, ℕ, ◌<◌, ◌∙◌, ◌≡◌, ◌≢◌}
 use proofs.Puts.{value_of}
 
 -- the history of the node that is read at a place stands there

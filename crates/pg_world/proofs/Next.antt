@@ -1,20 +1,21 @@
 -- What a node's step makes of its history: nothing, or one entry; and so of a world.
+use Rattle.pg_world.specs
 use Rattle.pg_world.proofs
-use proofs.Words.{Accepted, after, ap, arith, Asks, at_end, Awaited, AwaitName, awaits, Bool}
-use proofs.Words.{Check, checks, CoreFault, End, end_at, Entry, entry_of, Err, Event, false}
-use proofs.Words.{first_broken, frame_checks, History, is_full, IsNext, IsWorld, judged, just}
-use proofs.Words.{leaves, link_at, link_end, List, next_is, node_at, Nodes, None, Ok, Option, refl}
-use proofs.Words.{Refused, Refuses, Reply, Result, Side, slice_get, slice_set, Some, subst, sym}
-use proofs.Words.{true, Turn, turn_of, Turns, Verdict, verdict, Wire, wire_end, wires_after}
-use proofs.Words.{with_entry, world, WorldFault, WorldReply, WorldStep, ℕ, [], ◌&&◌, ◌∙◌, ◌∷◌, ◌≡◌}
+use proofs.Words.{Accepted, after, ap, arith, Asks, at_end, Awaited, AwaitName, awaits, Bool, Check}
+use proofs.Words.{checks, CoreFault, End, end_at, Entry, entry_of, Err, Event, false, first_broken}
+use proofs.Words.{frame_checks, History, is_full, IsNext, IsWorld, judged, just, leaves, link_at}
+use proofs.Words.{link_end, List, next_is, node_at, Nodes, None, Ok, Option, refl, Refused, Refuses}
+use proofs.Words.{Reply, Result, Side, slice_get, slice_set, Some, subst, sym, true, Turn, turn_of}
+use proofs.Words.{Turns, Verdict, verdict, Wire, wire_end, wires_after, with_entry, world}
+use proofs.Words.{WorldFault, WorldReply, WorldStep, ℕ, [], ◌&&◌, ◌∙◌, ◌∷◌, ◌≡◌}
 use proofs.Losing.{losses_kept}
 use proofs.Refusals.{same_element, wires_stay}
 use Rattle.node_core.specs.Step.{IsStepped}
-use Rattle.pg_world.specs.Steps.{IsWorldStep}
+use specs.Steps.{IsWorldStep}
 use Rattle.policy_audit.specs.declared.event.Event.TheVariants as event
 use Rattle.policy_audit.specs.declared.rule.Rule.TheVariants as rule
 use Rattle.node_core.specs.declared.fault.CoreFault.TheVariants as core_fault
-use Rattle.pg_world.specs.declared.fault.WorldFault.TheVariants as fault
+use specs.declared.fault.WorldFault.TheVariants as fault
 
 -- ---- one node
 

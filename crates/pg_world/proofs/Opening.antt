@@ -1,22 +1,21 @@
 -- A world stays one with an entry that opens a link, which becomes the end of one wire.
 use Rattle.pg_world.proofs
-use proofs.Words.{Accepted, accepted, all_handed, answer, ap, arith, bodies, came_of, Carries}
-use proofs.Words.{cond, entered, Entry, eq-eqb, Event, frames_of, gets_of, handed_of, HasEnd}
-use proofs.Words.{History, is_accepted, is_opened_by, is_some, IsEnd, IsNext, IsPlayed, IsWired}
-use proofs.Words.{IsWorld, IsWritten, just, link_at, List, next_number, next_step, no_value}
-use proofs.Words.{node_at, Nodes, None, opened_number, opening_of, Option, other, refl, Reply}
-use proofs.Words.{shared, Speaks, sent, Side, slice_get, Some, Start, start_of, subst, sym, true}
-use proofs.Words.{unborn_out}
-use proofs.Words.{under_way, Wire, world, ℕ, [], ◌&&◌, ◌++◌, ◌<◌, ◌∙◌, ◌∷◌, ◌≡◌, ◌≤◌}
+use proofs.Words.{Accepted, accepted, all_handed, answer, ap, arith, bodies, came_of, Carries, cond}
+use proofs.Words.{entered, Entry, eq-eqb, Event, frames_of, gets_of, handed_of, HasEnd, History}
+use proofs.Words.{is_accepted, is_opened_by, is_some, IsEnd, IsNext, IsPlayed, IsWired, IsWorld}
+use proofs.Words.{IsWritten, just, link_at, List, next_number, next_step, no_value, node_at, Nodes}
+use proofs.Words.{None, opened_number, opening_of, Option, other, refl, Reply, sent, shared, Side}
+use proofs.Words.{slice_get, Some, Speaks, Start, start_of, subst, sym, true, unborn_out, under_way}
+use proofs.Words.{Wire, world, ℕ, [], ◌&&◌, ◌++◌, ◌<◌, ◌∙◌, ◌∷◌, ◌≡◌, ◌≤◌}
 use proofs.Calling.{IsApart}
 use proofs.Ends.{none_early}
-use proofs.Entering.{none_came, none_handed, ends_low, carries_on}
+use proofs.Entering.{carries_on, ends_low, none_came, none_handed}
 use proofs.Puts.{get_same, value_of}
 use proofs.Sharing.{SharedBefore, shares_after}
 use Rattle.frame_laws.proofs.OneVersion.{never_whole}
 use proofs.Queued.{still_fits}
-use proofs.Steady.{after, made_of, same_ends, nodes_after, late_after, names_after, open_from}
-use proofs.Steady.{IsMade, IsOpenFrom, WasOpen, OpenedNow}
+use proofs.Steady.{after, IsMade, IsOpenFrom, late_after, made_of, names_after, nodes_after}
+use proofs.Steady.{open_from, OpenedNow, same_ends, WasOpen}
 use Rattle.policy_audit.specs.declared.reply.Reply.TheVariants as reply
 
 -- ---- nothing came or was handed out on a link before that was opened

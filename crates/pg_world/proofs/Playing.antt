@@ -1,5 +1,6 @@
 -- A list of steps, played: each step has an answer, and where the first world is one, so is the
 -- last.
+use Rattle.pg_world.specs
 use Rattle.pg_world.proofs
 use proofs.Words.{Accepted, after, AllByRecursion, answer_of, ap, Asks, asks, asks_frame}
 use proofs.Words.{asks_opened, at_end, Bool, Comes, cond, End, Err, Event, false, History, is_wrong}
@@ -11,10 +12,10 @@ use proofs.Words.{◌≡◌}
 use proofs.Next.{says}
 use proofs.Staying.{stays}
 use Rattle.node_core.specs.Step.{IsStepped}
-use Rattle.pg_world.specs.Steps.{IsWorldStep}
+use specs.Steps.{IsWorldStep}
 use Rattle.policy_audit.specs.declared.event.Event.TheVariants as event
-use Rattle.pg_world.specs.declared.world_step.WorldStep.TheVariants as step
-use Rattle.pg_world.specs.declared.fault.WorldFault.TheVariants as fault
+use specs.declared.world_step.WorldStep.TheVariants as step
+use specs.declared.fault.WorldFault.TheVariants as fault
 
 -- ---- one step
 

@@ -4,9 +4,9 @@ use proofs.Words.{ap, append-nil, bodies, Carries, changed, changed_queue, Entry
 use proofs.Words.{History, is_opened_by, IsLate, IsNext, IsPlayed, IsWorld, IsWritten, link_at}
 use proofs.Words.{List, node_at, Nodes, other, OutFrame, refl, Side, slice_get, Some, subst, sym}
 use proofs.Words.{true, under_way, Wire, world, ℕ, [], ◌++◌, ◌∙◌, ◌≡◌}
-use proofs.Entering.{SameEnds, new_came, new_handed, carries_on}
-use proofs.Puts.{value_of, Compared, Same, Apart, compare, IsFound, Changed, Kept, found}
-use proofs.Puts.{changed_here, changed_there}
+use proofs.Entering.{carries_on, new_came, new_handed, SameEnds}
+use proofs.Puts.{Apart, Changed, changed_here, changed_there, compare, Compared, found, IsFound}
+use proofs.Puts.{Kept, Same, value_of}
 use proofs.Steady.{after, IsMade, made_of, same_ends, steady}
 use Rattle.pg_world.specs.declared.side.Side.TheVariants as side
 

@@ -1,4 +1,5 @@
 -- What a refused step leaves as it was.
+use Rattle.pg_world.specs
 use Rattle.pg_world.proofs
 use proofs.Words.{answer_of, ap, append-nil, arith, Asks, changed, changed_queue, CoreFault, cut_by}
 use proofs.Words.{Err, Event, get_or_from_slice_get, History, IsTrue, keeps_wires, left_by, List}
@@ -6,12 +7,12 @@ use proofs.Words.{Nodes, None, Ok, Option, other, OutFrame, refl, Refuses, Reply
 use proofs.Words.{set-get_or, Side, slice_get, slice_set, Some, subst, sym, Turn, turn_of, Turns}
 use proofs.Words.{under_way, Wire, wires_after, with_queue, WorldFault, WorldStep, ℕ, ◌∙◌, ◌≡◌}
 use Rattle.node_core.specs.Step.{IsStepped}
-use Rattle.pg_world.specs.Steps.{IsWorldStep}
+use specs.Steps.{IsWorldStep}
 use Rattle.node_core.specs.declared.fault.CoreFault.TheVariants as core_fault
 use Rattle.policy_audit.specs.declared.rule.Rule.TheVariants as rule
-use Rattle.pg_world.specs.declared.side.Side.TheVariants as side
-use Rattle.pg_world.specs.declared.world_step.WorldStep.TheVariants as step
-use Rattle.pg_world.specs.declared.fault.WorldFault.TheVariants as fault
+use specs.declared.side.Side.TheVariants as side
+use specs.declared.world_step.WorldStep.TheVariants as step
+use specs.declared.fault.WorldFault.TheVariants as fault
 
 -- ---- lists
 

@@ -1,18 +1,18 @@
 -- Both ends of a wire speak the version that both nodes share.
 use Rattle.pg_world.proofs
-use proofs.Words.{Accepted, accepted, and_parts, ap, arith, Bool, but, Carries, cond, ends, entered}
-use proofs.Words.{entered_more, Entry, entry_link, eqb-true, false, frame_checks, FramesAreLate}
-use proofs.Words.{given, History, is_open, is_opened_by, is_whole, IsNode, IsPlayedIn, IsStep}
-use proofs.Words.{IsWired, just, lie, link_at, link_version, List, Name, node_at, None, not}
-use proofs.Words.{open_first, Opened, opened, opened_apart, Opening, Option, option_map_or, other}
-use proofs.Words.{past, refl, Refused, Reply, shared, Side, slice_get, slice_set, Some, Speaks}
-use proofs.Words.{SpeaksShared, speaks_now, Start, start_of, subst, sym, taken, true, unborn}
-use proofs.Words.{Verdict, Wire, awaits, ByDial, ByPeer, Event, is_accepted, is_whole_in, moment}
-use proofs.Words.{own_hello, Rule, ℕ, [], ◌&&◌, ◌<◌, ◌==◌, ◌||◌, ◌∙◌, ◌∷◌, ◌≡◌}
+use proofs.Words.{Accepted, accepted, and_parts, ap, arith, awaits, Bool, but, ByDial, ByPeer}
+use proofs.Words.{Carries, cond, ends, entered, entered_more, Entry, entry_link, eqb-true, Event}
+use proofs.Words.{false, frame_checks, FramesAreLate, given, History, is_accepted, is_open}
+use proofs.Words.{is_opened_by, is_whole, is_whole_in, IsNode, IsPlayedIn, IsStep, IsWired, just}
+use proofs.Words.{lie, link_at, link_version, List, moment, Name, node_at, None, not, open_first}
+use proofs.Words.{Opened, opened, opened_apart, Opening, Option, option_map_or, other, own_hello}
+use proofs.Words.{past, refl, Refused, Reply, Rule, shared, Side, slice_get, slice_set, Some}
+use proofs.Words.{Speaks, speaks_now, SpeaksShared, Start, start_of, subst, sym, taken, true}
+use proofs.Words.{unborn, Verdict, Wire, ℕ, [], ◌&&◌, ◌<◌, ◌==◌, ◌||◌, ◌∙◌, ◌∷◌, ◌≡◌}
 use proofs.Ends.{IsJoined}
 use Rattle.frame_laws.proofs.OneVersion.{speaks_on}
 use proofs.Joining.{at_acceptor, at_dialler, was_accepted}
-use proofs.Puts.{get_other, get_same, value_of, Compared, Same, Apart, compare}
+use proofs.Puts.{Apart, compare, Compared, get_other, get_same, Same, value_of}
 use Rattle.policy_audit.specs.declared.event.Event.TheVariants as event
 use Rattle.pg_world.specs.declared.side.Side.TheVariants as side
 

@@ -6,10 +6,10 @@ use proofs.Words.{IsEnd, IsLate, IsNext, IsNode, IsPlayed, IsStep, IsWorld, IsWr
 use proofs.Words.{link_at, List, next_step, node_at, Nodes, not, other, refl, Side, slice_get}
 use proofs.Words.{slice_set, Some, subst, sym, true, under_way, Wire, world, ℕ, [], ◌&&◌, ◌++◌}
 use proofs.Words.{◌||◌, ◌∙◌, ◌∷◌, ◌≡◌, ◌≤◌}
-use proofs.Entering.{SameEnds, same_node, same_link, stays_wired, carries_on, none_came}
-use proofs.Entering.{none_handed}
+use proofs.Entering.{carries_on, none_came, none_handed, same_link, same_node, SameEnds}
+use proofs.Entering.{stays_wired}
 use proofs.Sharing.{shares_after}
-use proofs.Puts.{get_same, get_other, value_of, Compared, Same, Apart, compare}
+use proofs.Puts.{Apart, compare, Compared, get_other, get_same, Same, value_of}
 
 pub same_ends : (x : Wire) → SameEnds x x
 same_ends x = record { from = refl; to = refl; dialled = refl; accepted = refl }

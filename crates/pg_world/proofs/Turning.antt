@@ -1,4 +1,5 @@
 -- A step of a world from what it comes to, and from where it happens.
+use Rattle.pg_world.specs
 use Rattle.pg_world.proofs
 use proofs.Words.{answer_of, Answers, ap, Asks, asks, asks_frame, asks_opened, at_end, Bool}
 use proofs.Words.{changed, CoreFault, End, end_at, Err, Event, false, get_or, History, IsAsked}
@@ -8,10 +9,10 @@ use proofs.Words.{slice_get-get_or, slice_get_past, slice_set, Some, subst, sym,
 use proofs.Words.{turn_of, Turns, under_way, Wire, wires_after, world, WorldFault, WorldReply}
 use proofs.Words.{WorldStep, ℕ, [], ◌<◌, ◌∙◌, ◌∷◌, ◌≡◌, ◌≢◌, ◌≤◌}
 use proofs.Puts.{changed_is}
-use Rattle.pg_world.specs.Steps.{IsWorldStep}
+use specs.Steps.{IsWorldStep}
 use Rattle.policy_audit.specs.declared.event.Event.TheVariants as event
-use Rattle.pg_world.specs.declared.world_step.WorldStep.TheVariants as step
-use Rattle.pg_world.specs.declared.fault.WorldFault.TheVariants as fault
+use specs.declared.world_step.WorldStep.TheVariants as step
+use specs.declared.fault.WorldFault.TheVariants as fault
 
 -- ---- what it comes to
 

@@ -1,22 +1,22 @@
 -- Of a message of which parts have come the rest is under way, or waits.
+use Rattle.pg_world.specs
 use Rattle.pg_world.proofs
-use proofs.Words.{all_handed, and_parts, ap, append-nil, append_assoc, arith, begun, Begun}
-use proofs.Words.{begun_by}
-use proofs.Words.{begun_of, bodies, bodies_of, Bool, delivered, drop, drop-append-le}
-use proofs.Words.{frames_of, frames_said, given_here, HasGiven, History, honest_first, inl, inr}
-use proofs.Words.{is_open, is_some, is_up, is_whole, IsBegun, IsCut, IsHonest, IsNode, IsWorld}
-use proofs.Words.{keeps_or_not, KeepsOrNot, length, length-append, length-drop, length-map, lie}
-use proofs.Words.{link_at, List, map-append, Message, moment, creation, node_at, node_honest, Nodes}
-use proofs.Words.{None, open_rest, Option, other, out, out_cut, OutFrame, parts, refl, said_apart}
-use proofs.Words.{sent, shared, Side, slice_get, Some, Speaks, subst, sym, take, take-append-le}
-use proofs.Words.{take-append-add, take-length, true, under_way, waiting, Wire, ℕ, [], ◌++◌, ◌+◌}
-use proofs.Words.{◌<◌, ◌∙◌, ◌∷◌, ◌≡◌, ◌≤◌}
+use proofs.Words.{all_handed, and_parts, ap, append-nil, append_assoc, arith, Begun, begun}
+use proofs.Words.{begun_by, begun_of, bodies, bodies_of, Bool, creation, delivered, drop}
+use proofs.Words.{drop-append-le, frames_of, frames_said, given_here, HasGiven, History}
+use proofs.Words.{honest_first, inl, inr, is_open, is_some, is_up, is_whole, IsBegun, IsCut}
+use proofs.Words.{IsHonest, IsNode, IsWorld, keeps_or_not, KeepsOrNot, length, length-append}
+use proofs.Words.{length-drop, length-map, lie, link_at, List, map-append, Message, moment, node_at}
+use proofs.Words.{node_honest, Nodes, None, open_rest, Option, other, out, out_cut, OutFrame, parts}
+use proofs.Words.{refl, said_apart, sent, shared, Side, slice_get, Some, Speaks, subst, sym, take}
+use proofs.Words.{take-append-add, take-append-le, take-length, true, under_way, waiting, Wire, ℕ}
+use proofs.Words.{[], ◌++◌, ◌+◌, ◌<◌, ◌∙◌, ◌∷◌, ◌≡◌, ◌≤◌}
 use proofs.Ends.{bodies_all, IsJoined}
 use proofs.Joining.{at_acceptor, at_dialler, carried_to}
 use proofs.Puts.{value_of}
 use proofs.Sharing.{other_twice, shared_sym}
-use Rattle.pg_world.specs.declared.side.Side.TheVariants as side
-use Rattle.pg_world.specs.UnderWay.{IsUnderWay, PartsUnderWay}
+use specs.UnderWay.{IsUnderWay, PartsUnderWay}
+use specs.declared.side.Side.TheVariants as side
 
 -- what stands behind some of these, and how it goes on
 split_at : {A : Type 0} (place n j : ℕ) (xs ys : List A) → length xs ≡ place + n

@@ -1,4 +1,5 @@
 -- Both nodes of each wire are there, whatever steps were made.
+use Rattle.pg_world.specs
 use Rattle.pg_world.proofs
 use proofs.Words.{ap, arith, Asks, changed, changed_queue, CoreFault, cut_by, dialled, End, end_at}
 use proofs.Words.{Err, HaveNodes, History, joined_by, left_by, length, length-set, link_at}
@@ -8,11 +9,11 @@ use proofs.Words.{slice_get-get_or, slice_get_within, slice_set, Some, subst, su
 use proofs.Words.{turn_of, Turns, Wire, wire_end, wire_opener, wires_after, with_link, world}
 use proofs.Words.{WorldFault, WorldReply, WorldStep, zero, ℕ, [], ◌++◌, ◌<◌, ◌∙◌, ◌∷◌, ◌≡◌, ◌≢◌}
 use proofs.Puts.{value_of}
-use Rattle.pg_world.specs.Steps.{IsWorldStep}
+use specs.Steps.{IsWorldStep}
 use Rattle.policy_audit.specs.declared.event.Event.TheVariants as event
-use Rattle.pg_world.specs.declared.side.Side.TheVariants as side
-use Rattle.pg_world.specs.declared.world_step.WorldStep.TheVariants as step
-use Rattle.pg_world.specs.declared.fault.WorldFault.TheVariants as fault
+use specs.declared.side.Side.TheVariants as side
+use specs.declared.world_step.WorldStep.TheVariants as step
+use specs.declared.fault.WorldFault.TheVariants as fault
 
 -- ---- each wire of a list
 

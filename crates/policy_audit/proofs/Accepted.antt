@@ -1,13 +1,15 @@
 -- What an accepted event met.
-use Rattle.policy_audit.proofs.Words.{ap, arith, refl, subst, not-false, option_and_then, option_map_or, Bool, List, MatchBool, None}
-use Rattle.policy_audit.proofs.Words.{Option, Some, [], bytes_eq, cond, false, is_some, not, true, ℕ, ◌∷◌, ◌≡◌, same, Challenge, Name}
-use Rattle.policy_audit.proofs.Words.{ack_frame, challenge_frame, name_frame, reply_frame, status_of, AckFrame, ReplyFrame, StatusWord}
-use Rattle.policy_audit.proofs.Words.{digest_of, allowed, cookie, goes_on, Check, always, answer_checks, challenge_checks, checks}
-use Rattle.policy_audit.proofs.Words.{digest_checks, first_broken, frame_checks, is_peer_up, name_checks, status_checks, History}
-use Rattle.policy_audit.proofs.Words.{digest_for, own_challenge, answer, judged, judgement}
-use Rattle.policy_audit.proofs.Words.{AwaitAck, AwaitAnswer, AwaitChallenge}
-use Rattle.policy_audit.proofs.Words.{AwaitMessage, AwaitName, AwaitReply, AwaitStatus, Awaited, Opened, Taken, challenge_in, opened}
-use Rattle.policy_audit.proofs.Words.{peer_in, peer_of, taken, Accepted, Event, Reply, Rule}
+use Rattle.policy_audit.proofs
+use proofs.Words.{Accepted, ack_frame, AckFrame, allowed, always, answer, answer_checks, ap, arith}
+use proofs.Words.{AwaitAck, AwaitAnswer, AwaitChallenge, Awaited, AwaitMessage, AwaitName}
+use proofs.Words.{AwaitReply, AwaitStatus, Bool, bytes_eq, Challenge, challenge_checks}
+use proofs.Words.{challenge_frame, challenge_in, Check, checks, cond, cookie, digest_checks}
+use proofs.Words.{digest_for, digest_of, Event, false, first_broken, frame_checks, goes_on, History}
+use proofs.Words.{is_peer_up, is_some, judged, judgement, List, MatchBool, Name, name_checks}
+use proofs.Words.{name_frame, None, not, not-false, Opened, opened, Option, option_and_then}
+use proofs.Words.{option_map_or, own_challenge, peer_in, peer_of, refl, Reply, reply_frame}
+use proofs.Words.{ReplyFrame, Rule, same, Some, status_checks, status_of, StatusWord, subst, Taken}
+use proofs.Words.{taken, true, ℕ, [], ◌∷◌, ◌≡◌}
 
 -- what is not so gives anything
 pub lie : {P : Type 0} → true ≡ false → P
@@ -37,7 +39,9 @@ all_hold (c ∷ cs) e = grind (arith, all_hold cs)
 pub unbroken : (b : Bool) → not b ≡ false → b ≡ true
 unbroken = not-false
 
-pub open_first : (b : Bool) (cs : List Check) → first_broken (cond b cs (always Rule.NoSuchLink)) ≡ None → (b ≡ true) × (first_broken cs ≡ None)
+pub open_first : (b : Bool) (cs : List Check)
+    → first_broken (cond b cs (always Rule.NoSuchLink)) ≡ None
+    → (b ≡ true) × (first_broken cs ≡ None)
 open_first b cs e = grind arith
 
 abbrev pub peer_by : Option Opened → List Taken → Option (List ℕ)
@@ -45,44 +49,79 @@ peer_by oe ts = option_and_then (λ o. peer_in o.start ts) oe
 
 -- the digest of the peer's cookie and the own challenge
 abbrev pub own_digest : History → Option Opened → List Taken → List ℕ
-own_digest h oe ts = digest_of (option_map_or (cookie h) (peer_by oe ts) []) (option_map_or (λ o. challenge_in o.start) oe 0)
+own_digest h oe ts =
+    digest_of (option_map_or (cookie h) (peer_by oe ts) [])
+    (option_map_or (λ o. challenge_in o.start) oe 0)
 
 -- what an accepted frame is, by what its link awaits
 abbrev pub Fits : History → Option Opened → List Taken → List ℕ → Awaited → Type 0
 Fits h oe ts body AwaitName = (f : Name) × (name_frame body ≡ Some f) × (allowed h f.name ≡ true)
 Fits h oe ts body AwaitAnswer = status_of body ≡ Some StatusWord.True
-Fits h oe ts body AwaitReply = (g : ReplyFrame) × (reply_frame body ≡ Some g) × (bytes_eq g.digest (own_digest h oe ts) ≡ true)
+Fits h oe ts body AwaitReply = (g : ReplyFrame) × (reply_frame body ≡ Some g)
+    × (bytes_eq g.digest (own_digest h oe ts) ≡ true)
 Fits h oe ts body AwaitStatus = (w : StatusWord) × (status_of body ≡ Some w) × (goes_on w ≡ true)
-Fits h oe ts body AwaitChallenge = (f : Challenge) × (challenge_frame body ≡ Some f) × (option_map_or (λ m. same m f.name) (peer_by oe ts) false ≡ true)
-Fits h oe ts body AwaitAck = (g : AckFrame) × (ack_frame body ≡ Some g) × (bytes_eq g.digest (own_digest h oe ts) ≡ true)
+Fits h oe ts body AwaitChallenge = (f : Challenge) × (challenge_frame body ≡ Some f)
+    × (option_map_or (λ m. same m f.name) (peer_by oe ts) false ≡ true)
+Fits h oe ts body AwaitAck = (g : AckFrame) × (ack_frame body ≡ Some g)
+    × (bytes_eq g.digest (own_digest h oe ts) ≡ true)
 Fits h oe ts body AwaitMessage = Unit {0}
 
 module _ (h : History) (l : ℕ) (body : List ℕ) where
-  named : (x : Option Name) → first_broken (option_map_or (name_checks h) x (always Rule.BadFrame)) ≡ None → (f : Name) × (x ≡ Some f) × (allowed h f.name ≡ true)
+  named : (x : Option Name) → first_broken (option_map_or (name_checks h) x (always Rule.BadFrame))
+      ≡ None → (f : Name) × (x ≡ Some f) × (allowed h f.name ≡ true)
   named None e = no_value e
   named (Some f) e = (f, refl, unbroken (allowed h f.name) (all_hold (name_checks h f) e).1.1.1.1.0)
 
-  answered : (x : Option StatusWord) → first_broken (option_map_or answer_checks x (always Rule.BadFrame)) ≡ None → x ≡ Some StatusWord.True
+  answered : (x : Option StatusWord)
+      → first_broken (option_map_or answer_checks x (always Rule.BadFrame)) ≡ None
+      → x ≡ Some StatusWord.True
   answered x e = grind arith
 
-  welcomed : (up : Bool) (x : Option StatusWord) → first_broken (option_map_or (status_checks up) x (always Rule.BadFrame)) ≡ None → (w : StatusWord) × (x ≡ Some w) × (goes_on w ≡ true)
+  welcomed : (up : Bool) (x : Option StatusWord)
+      → first_broken (option_map_or (status_checks up) x (always Rule.BadFrame)) ≡ None
+      → (w : StatusWord) × (x ≡ Some w) × (goes_on w ≡ true)
   welcomed up None e = no_value e
   welcomed up (Some w) e = (w, refl, grind arith)
 
-  asked : (x : Option Challenge) → first_broken (option_map_or (challenge_checks h l) x (always Rule.BadFrame)) ≡ None → (f : Challenge) × (x ≡ Some f) × (option_map_or (λ m. same m f.name) (peer_of l h.entries) false ≡ true)
+  asked : (x : Option Challenge)
+      → first_broken (option_map_or (challenge_checks h l) x (always Rule.BadFrame)) ≡ None
+      → (f : Challenge) × (x ≡ Some f)
+      × (option_map_or (λ m. same m f.name) (peer_of l h.entries) false ≡ true)
   asked None e = no_value e
-  asked (Some f) e = (f, refl, unbroken (option_map_or (λ m. same m f.name) (peer_of l h.entries) false) (all_hold (challenge_checks h l f) e).1.0)
+  asked (Some f) e = (
+    f,
+    refl,
+    unbroken (option_map_or (λ m. same m f.name) (peer_of l h.entries) false)
+        (all_hold (challenge_checks h l f) e).1.0,
+  )
 
-  replied : (x : Option ReplyFrame) → first_broken (option_map_or (λ f. digest_checks h l f.digest) x (always Rule.BadFrame)) ≡ None → (g : ReplyFrame) × (x ≡ Some g) × (bytes_eq g.digest (digest_for h l (own_challenge l h.entries)) ≡ true)
+  replied : (x : Option ReplyFrame)
+      → first_broken (option_map_or (λ f. digest_checks h l f.digest) x (always Rule.BadFrame))
+      ≡ None → (g : ReplyFrame) × (x ≡ Some g)
+      × (bytes_eq g.digest (digest_for h l (own_challenge l h.entries)) ≡ true)
   replied None e = no_value e
-  replied (Some g) e = (g, refl, unbroken (bytes_eq g.digest (digest_for h l (own_challenge l h.entries))) (all_hold (digest_checks h l g.digest) e).0)
+  replied (Some g) e = (
+    g,
+    refl,
+    unbroken (bytes_eq g.digest (digest_for h l (own_challenge l h.entries)))
+        (all_hold (digest_checks h l g.digest) e).0,
+  )
 
-  acked : (x : Option AckFrame) → first_broken (option_map_or (λ f. digest_checks h l f.digest) x (always Rule.BadFrame)) ≡ None → (g : AckFrame) × (x ≡ Some g) × (bytes_eq g.digest (digest_for h l (own_challenge l h.entries)) ≡ true)
+  acked : (x : Option AckFrame)
+      → first_broken (option_map_or (λ f. digest_checks h l f.digest) x (always Rule.BadFrame))
+      ≡ None → (g : AckFrame) × (x ≡ Some g)
+      × (bytes_eq g.digest (digest_for h l (own_challenge l h.entries)) ≡ true)
   acked None e = no_value e
-  acked (Some g) e = (g, refl, unbroken (bytes_eq g.digest (digest_for h l (own_challenge l h.entries))) (all_hold (digest_checks h l g.digest) e).0)
+  acked (Some g) e = (
+    g,
+    refl,
+    unbroken (bytes_eq g.digest (digest_for h l (own_challenge l h.entries)))
+        (all_hold (digest_checks h l g.digest) e).0,
+  )
 
   -- no check of a frame is broken: it is one of the kind
-  pub fits : (k : Awaited) → first_broken (frame_checks h l body k) ≡ None → Fits h (opened l h.entries) (taken l h.entries) body k
+  pub fits : (k : Awaited) → first_broken (frame_checks h l body k) ≡ None
+      → Fits h (opened l h.entries) (taken l h.entries) body k
   fits AwaitName e = named (name_frame body) e
   fits AwaitAnswer e = answered (status_of body) e
   fits AwaitReply e = replied (reply_frame body) e

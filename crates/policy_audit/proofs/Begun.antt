@@ -1,21 +1,17 @@
 -- What is kept of a message whose parts are coming.
-use Rattle.policy_audit.proofs.Words.{arith, refl, subst, eqb-true, list_all}
-use Rattle.policy_audit.proofs.Words.{list_all-append, option_map_or, option_and_then, Bool, List}
-use Rattle.policy_audit.proofs.Words.{None, Option, Some}
-use Rattle.policy_audit.proofs.Words.{[], cond, false, true, ℕ, ◌&&◌, ◌==◌}
-use Rattle.policy_audit.proofs.Words.{◌∷◌, ◌≡◌, same, Row, Message, Message2, PartKind, Begun}
-use Rattle.policy_audit.proofs.Words.{completed, rows_before, rows_so_far}
-use Rattle.policy_audit.proofs.Words.{always, first_broken, frame_checks}
-use Rattle.policy_audit.proofs.Words.{message_checks, whole_checks}
-use Rattle.policy_audit.proofs.Words.{rows_kept, begun, frame_taken, kept_after, History}
-use Rattle.policy_audit.proofs.Words.{past, is_open, is_from, IsPlayed, IsPlayedIn, judgement}
-use Rattle.policy_audit.proofs.Words.{awaits, is_accepted, eq-eqb, is_whole, opened, taken, Taken}
-use Rattle.policy_audit.proofs.Words.{Entry, Verdict, Accepted, Refused, Event, Opening, Rule}
+use Rattle.policy_audit.proofs
+use proofs.Words.{Accepted, always, arith, awaits, Begun, begun, Bool, completed, cond, Entry}
+use proofs.Words.{eq-eqb, eqb-true, Event, false, first_broken, frame_checks, frame_taken, History}
+use proofs.Words.{is_accepted, is_from, is_open, is_whole, IsPlayed, IsPlayedIn, judgement}
+use proofs.Words.{kept_after, List, list_all, list_all-append, Message, Message2, message_checks}
+use proofs.Words.{None, opened, Opening, Option, option_and_then, option_map_or, PartKind, past}
+use proofs.Words.{refl, Refused, Row, rows_before, rows_kept, rows_so_far, Rule, same, Some, subst}
+use proofs.Words.{Taken, taken, true, Verdict, whole_checks, ℕ, [], ◌&&◌, ◌==◌, ◌∷◌, ◌≡◌}
 use Rattle.policy_audit.specs.Parted.{moves_parts}
-use Rattle.policy_audit.proofs.Accepted.{lie, accepted, open_first}
-use Rattle.policy_audit.proofs.Walked.{but, fresh}
-use Rattle.policy_audit.proofs.Finished.{given_kept, kept, whole_awaits, whole_kept}
-use Rattle.policy_audit.proofs.Effects.{entry_link}
+use proofs.Accepted.{accepted, lie, open_first}
+use proofs.Walked.{but, fresh}
+use proofs.Finished.{given_kept, kept, whole_awaits, whole_kept}
+use proofs.Effects.{entry_link}
 
 -- ---- what an event makes of it
 

@@ -1,28 +1,26 @@
 -- The computed change is the exact difference of what two histories list.
-use Rattle.policy_audit.proofs.Words.{entered}
-use Rattle.policy_audit.proofs.Words.{with_entry}
-use Rattle.policy_audit.proofs.Words.{verdict}
-use Rattle.policy_audit.proofs.Words.{ap, arith, refl, subst, sym, ◌∙◌, ltb-true, not-false, or_parts, flat_map-append, append-nil}
-use Rattle.policy_audit.proofs.Words.{list_any-append, exact_bytes, AllByRecursion, flat_map, option_map_or, unwrap_or, Bool, List, []}
-use Rattle.policy_audit.proofs.Words.{cond, false, map, nat_lt, true, ℕ, ◌&&◌, ◌++◌, ◌+◌, ◌-◌, ◌<◌}
-use Rattle.policy_audit.proofs.Words.{◌∷◌, ◌≡◌, Less, ascending_rises}
-use Rattle.policy_audit.proofs.Words.{ascending_stands, listing_counts, one_of_many, exact_pids, pids_total, same_decides, same_pid_decides}
-use Rattle.policy_audit.proofs.Words.{texts_total, IsDifference, IsProper, change_unless_empty, is_empty, IsListing, IsPidListing, Rises}
-use Rattle.policy_audit.proofs.Words.{ascending, is_among, listing, mentions, same, same_pid, same_row, total, pid_cmp, text_cmp}
-use Rattle.policy_audit.proofs.Words.{GroupChange, Pid, IsChange, change, events_of, groups_in, if_some, scope_change, groups_named}
-use Rattle.policy_audit.proofs.Words.{pids_named, row, rows_named, History, events, first_of, listed, listed_by, is_local, is_running}
-use Rattle.policy_audit.proofs.Words.{own, scopes_started, starts, IsNext, entry_of, is_full}
-use Rattle.policy_audit.proofs.Words.{present_link}
-use Rattle.policy_audit.proofs.Words.{Change, Entry, Event}
-use Rattle.policy_audit.proofs.Words.{bare_entry}
-use Rattle.policy_audit.proofs.Accepted.{lie}
-use Rattle.policy_audit.proofs.LostWords.{change_unread}
-use Rattle.policy_audit.proofs.OneDifference.{apart}
-use Rattle.policy_audit.proofs.Named.{any_before, any_behind, has, named_in, listed_named, group_named, pid_named}
+use Rattle.policy_audit.proofs
+use proofs.Words.{AllByRecursion, ap, append-nil, arith, ascending, ascending_rises}
+use proofs.Words.{ascending_stands, bare_entry, Bool, Change, change, change_unless_empty, cond}
+use proofs.Words.{entered, Entry, entry_of, Event, events, events_of, exact_bytes, exact_pids}
+use proofs.Words.{false, first_of, flat_map, flat_map-append, GroupChange, groups_in, groups_named}
+use proofs.Words.{History, if_some, is_among, is_empty, is_full, is_local, is_running, IsChange}
+use proofs.Words.{IsDifference, IsListing, IsNext, IsPidListing, IsProper, Less, List}
+use proofs.Words.{list_any-append, listed, listed_by, listing, listing_counts, ltb-true, map}
+use proofs.Words.{mentions, nat_lt, not-false, one_of_many, option_map_or, or_parts, own, Pid}
+use proofs.Words.{pid_cmp, pids_named, pids_total, present_link, refl, Rises, row, rows_named, same}
+use proofs.Words.{same_decides, same_pid, same_pid_decides, same_row, scope_change, scopes_started}
+use proofs.Words.{starts, subst, sym, text_cmp, texts_total, total, true, unwrap_or, verdict}
+use proofs.Words.{with_entry, ℕ, [], ◌&&◌, ◌++◌, ◌+◌, ◌-◌, ◌<◌, ◌∙◌, ◌∷◌, ◌≡◌}
+use proofs.Accepted.{lie}
+use proofs.LostWords.{change_unread}
+use proofs.OneDifference.{apart}
+use proofs.Named.{any_before, any_behind, group_named, has, listed_named, named_in, pid_named}
 
 -- ---- the difference in one scope
 
-total_append : {A : Type 0} (f : A → ℕ) (xs ys : List A) → total f (xs ++ ys) ≡ total f xs + total f ys
+total_append : {A : Type 0} (f : A → ℕ) (xs ys : List A)
+    → total f (xs ++ ys) ≡ total f xs + total f ys
 total_append f [] ys = omega arith
 total_append f (x ∷ xs) ys = (let rest = total_append f xs ys in omega (arith, rest))
 
@@ -36,89 +34,145 @@ module _ (before after : List ℕ → Pid → ℕ) (left joined : List ℕ → L
   of_group g = change_unless_empty g (left g) (joined g)
 
   -- what a group's change adds to a count of g
-  adds : (side : GroupChange → List Pid) (lists : List ℕ → List Pid) (f : List ℕ) → side (record { group = f; left = left f; joined = joined f }) ≡ lists f
+  adds : (side : GroupChange → List Pid) (lists : List ℕ → List Pid) (f : List ℕ)
+      → side (record { group = f; left = left f; joined = joined f }) ≡ lists f
       → ((is_empty (left f) && is_empty (joined f)) ≡ true → is_empty (lists f) ≡ true)
-      → (g : List ℕ) (p : Pid) → total (λ c. cond (same c.group g) (mentions p (side c)) 0) (of_group f) ≡ cond (same f g) (mentions p (lists f)) 0
+      → (g : List ℕ) (p : Pid)
+      → total (λ c. cond (same c.group g) (mentions p (side c)) 0) (of_group f)
+      ≡ cond (same f g) (mentions p (lists f)) 0
   adds side lists f same_side empty g p = grind (arith, same_side, none_mentioned p (lists f))
 
-  sums : (side : GroupChange → List Pid) (lists : List ℕ → List Pid) → ((f : List ℕ) → side (record { group = f; left = left f; joined = joined f }) ≡ lists f)
-      → ((f : List ℕ) → (is_empty (left f) && is_empty (joined f)) ≡ true → is_empty (lists f) ≡ true)
-      → (g : List ℕ) (p : Pid) (gs : List (List ℕ)) → total (λ c. cond (same c.group g) (mentions p (side c)) 0) (flat_map of_group gs) ≡ total (λ f. cond (same f g) (mentions p (lists f)) 0) gs
+  sums : (side : GroupChange → List Pid) (lists : List ℕ → List Pid)
+      → ((f : List ℕ) → side (record { group = f; left = left f; joined = joined f }) ≡ lists f)
+      → ((f : List ℕ) → (is_empty (left f) && is_empty (joined f)) ≡ true
+      → is_empty (lists f) ≡ true)
+      → (g : List ℕ) (p : Pid) (gs : List (List ℕ))
+      → total (λ c. cond (same c.group g) (mentions p (side c)) 0) (flat_map of_group gs)
+      ≡ total (λ f. cond (same f g) (mentions p (lists f)) 0) gs
   sums side lists same_side empty g p [] = refl
   sums side lists same_side empty g p (f ∷ gs) =
-      total_append (λ c. cond (same c.group g) (mentions p (side c)) 0) (of_group f) (flat_map of_group gs)
-      ∙ ap (λ (n : ℕ × ℕ). n.0 + n.1) (λ i. (adds side lists f (same_side f) (empty f) g p i, sums side lists same_side empty g p gs i))
+      total_append (λ c. cond (same c.group g) (mentions p (side c)) 0) (of_group f)
+      (flat_map of_group gs)
+      ∙ ap (λ (n : ℕ × ℕ). n.0 + n.1)
+      (λ i. (
+        adds side lists f (same_side f) (empty f) g p i,
+        sums side lists same_side empty g p gs i,
+      ))
 
-  above : (g : List ℕ) (gs : List (List ℕ)) → AllByRecursion (λ f. text_cmp g f ≡ Less) gs → AllByRecursion (λ f. text_cmp g f ≡ Less) (map (λ c. c.group) (flat_map of_group gs))
+  above : (g : List ℕ) (gs : List (List ℕ)) → AllByRecursion (λ f. text_cmp g f ≡ Less) gs
+      → AllByRecursion (λ f. text_cmp g f ≡ Less) (map (λ c. c.group) (flat_map of_group gs))
   above g [] a = tt
   above g (f ∷ gs) a = grind (arith, above g gs a.1)
 
-  rise : (gs : List (List ℕ)) → Rises text_cmp gs → Rises text_cmp (map (λ c. c.group) (flat_map of_group gs))
+  rise : (gs : List (List ℕ)) → Rises text_cmp gs
+      → Rises text_cmp (map (λ c. c.group) (flat_map of_group gs))
   rise [] a = tt
   rise (g ∷ gs) a = grind (arith, above g gs a.0, rise gs a.1)
 
   proper : (gs : List (List ℕ)) → AllByRecursion IsProper (flat_map of_group gs)
   proper [] = tt
-  proper (g ∷ gs) = grind (arith, proper gs, IsListing.ascends (left_is g), IsListing.ascends (joined_is g))
+  proper (g ∷ gs) = grind (
+    arith,
+    proper gs,
+    IsListing.ascends (left_is g),
+    IsListing.ascends (joined_is g),
+  )
 
   unnamed : (b : Bool) (n m : ℕ) → n ≡ m → (0 < m → b ≡ true) → cond b n 0 ≡ m
   unnamed b n m e k = grind (arith, e, k)
 
   -- the groups that change are among these
-  pub difference : (gs : List (List ℕ)) → Rises text_cmp gs → ((g : List ℕ) (p : Pid) → 0 < before g p - after g p → is_among g gs ≡ true) → ((g : List ℕ) (p : Pid) → 0 < after g p - before g p → is_among g gs ≡ true)
+  pub difference : (gs : List (List ℕ)) → Rises text_cmp gs
+      → ((g : List ℕ) (p : Pid) → 0 < before g p - after g p → is_among g gs ≡ true)
+      → ((g : List ℕ) (p : Pid) → 0 < after g p - before g p → is_among g gs ≡ true)
       → IsDifference before after (flat_map of_group gs)
   difference gs r l j = record {
     groups = rise gs r;
     proper = proper gs;
     left = λ g p. sums (λ c. c.left) left (λ f. refl) (λ f e. grind arith) g p gs
-        ∙ one_of_many text_cmp same texts_total exact_bytes same_decides (λ f. mentions p (left f)) g gs r
-        ∙ unnamed (is_among g gs) (mentions p (left g)) (before g p - after g p) (IsListing.counts (left_is g) p) (l g p);
+        ∙ one_of_many text_cmp same texts_total exact_bytes same_decides (λ f. mentions p (left f))
+        g gs r
+        ∙ unnamed (is_among g gs) (mentions p (left g)) (before g p - after g p)
+        (IsListing.counts (left_is g) p) (l g p);
     joined = λ g p. sums (λ c. c.joined) joined (λ f. refl) (λ f e. grind arith) g p gs
-        ∙ one_of_many text_cmp same texts_total exact_bytes same_decides (λ f. mentions p (joined f)) g gs r
-        ∙ unnamed (is_among g gs) (mentions p (joined g)) (after g p - before g p) (IsListing.counts (joined_is g) p) (j g p);
+        ∙ one_of_many text_cmp same texts_total exact_bytes same_decides
+        (λ f. mentions p (joined f)) g gs r
+        ∙ unnamed (is_among g gs) (mentions p (joined g)) (after g p - before g p)
+        (IsListing.counts (joined_is g) p) (j g p);
   }
 
 -- ---- two histories
 
 module _ (h k : History) where
   -- what either lists was named by the events of one of them
-  before_named : (s g : List ℕ) (p : Pid) → 0 < listed h s g p → named_in s g p (events_of h k) ≡ true
-  before_named s g p q = ap (has s g p) (flat_map-append (rows_named s) (events h.entries) (events k.entries)) ∙ any_before (λ r. same_row r (row g p)) (flat_map (rows_named s) (events h.entries)) (flat_map (rows_named s) (events k.entries)) (listed_named s g p h q)
+  before_named : (s g : List ℕ) (p : Pid) → 0 < listed h s g p
+      → named_in s g p (events_of h k) ≡ true
+  before_named s g p q =
+      ap (has s g p) (flat_map-append (rows_named s) (events h.entries) (events k.entries))
+      ∙ any_before (λ r. same_row r (row g p)) (flat_map (rows_named s) (events h.entries))
+      (flat_map (rows_named s) (events k.entries)) (listed_named s g p h q)
 
-  after_named : (s g : List ℕ) (p : Pid) → 0 < listed k s g p → named_in s g p (events_of h k) ≡ true
-  after_named s g p q = ap (has s g p) (flat_map-append (rows_named s) (events h.entries) (events k.entries)) ∙ any_behind (λ r. same_row r (row g p)) (flat_map (rows_named s) (events h.entries)) (flat_map (rows_named s) (events k.entries)) (listed_named s g p k q)
+  after_named : (s g : List ℕ) (p : Pid) → 0 < listed k s g p
+      → named_in s g p (events_of h k) ≡ true
+  after_named s g p q =
+      ap (has s g p) (flat_map-append (rows_named s) (events h.entries) (events k.entries))
+      ∙ any_behind (λ r. same_row r (row g p)) (flat_map (rows_named s) (events h.entries))
+      (flat_map (rows_named s) (events k.entries)) (listed_named s g p k q)
 
   more : (a b : ℕ) → 0 < a - b → 0 < a
   more a b q = omega (arith, q)
 
   scope_difference : (s : List ℕ) → IsDifference (listed h s) (listed k s) (scope_change h k s)
   scope_difference s =
-      difference (listed h s) (listed k s) (λ g. listing pid_cmp (λ p. listed h s g p - listed k s g p) (pids_named s g (events_of h k))) (λ g. listing pid_cmp (λ p. listed k s g p - listed h s g p) (pids_named s g (events_of h k)))
-      (λ g. listing_counts pid_cmp same_pid pids_total exact_pids same_pid_decides (λ p. listed h s g p - listed k s g p) (pids_named s g (events_of h k)) (λ p q. pid_named s g p (events_of h k) (before_named s g p (more (listed h s g p) (listed k s g p) q))))
-      (λ g. listing_counts pid_cmp same_pid pids_total exact_pids same_pid_decides (λ p. listed k s g p - listed h s g p) (pids_named s g (events_of h k)) (λ p q. pid_named s g p (events_of h k) (after_named s g p (more (listed k s g p) (listed h s g p) q))))
-      (ascending text_cmp (groups_named s (events_of h k))) (ascending_rises text_cmp same texts_total exact_bytes same_decides (groups_named s (events_of h k)))
-      (λ g p q. ascending_stands text_cmp same texts_total exact_bytes same_decides g (groups_named s (events_of h k)) ∙ group_named s g p (events_of h k) (before_named s g p (more (listed h s g p) (listed k s g p) q)))
-      (λ g p q. ascending_stands text_cmp same texts_total exact_bytes same_decides g (groups_named s (events_of h k)) ∙ group_named s g p (events_of h k) (after_named s g p (more (listed k s g p) (listed h s g p) q)))
+      difference (listed h s) (listed k s)
+      (λ g. listing pid_cmp (λ p. listed h s g p - listed k s g p)
+      (pids_named s g (events_of h k)))
+      (λ g. listing pid_cmp (λ p. listed k s g p - listed h s g p)
+      (pids_named s g (events_of h k)))
+      (λ g. listing_counts pid_cmp same_pid pids_total exact_pids same_pid_decides
+      (λ p. listed h s g p - listed k s g p) (pids_named s g (events_of h k))
+      (λ p q. pid_named s g p (events_of h k)
+      (before_named s g p (more (listed h s g p) (listed k s g p) q))))
+      (λ g. listing_counts pid_cmp same_pid pids_total exact_pids same_pid_decides
+      (λ p. listed k s g p - listed h s g p) (pids_named s g (events_of h k))
+      (λ p q. pid_named s g p (events_of h k)
+      (after_named s g p (more (listed k s g p) (listed h s g p) q))))
+      (ascending text_cmp (groups_named s (events_of h k)))
+      (ascending_rises text_cmp same texts_total exact_bytes same_decides
+      (groups_named s (events_of h k)))
+      (λ g p q. ascending_stands text_cmp same texts_total exact_bytes same_decides g
+      (groups_named s (events_of h k)) ∙ group_named s g p (events_of h k)
+      (before_named s g p (more (listed h s g p) (listed k s g p) q)))
+      (λ g p q. ascending_stands text_cmp same texts_total exact_bytes same_decides g
+      (groups_named s (events_of h k)) ∙ group_named s g p (events_of h k)
+      (after_named s g p (more (listed k s g p) (listed h s g p) q)))
 
 -- ---- scopes
 
 -- a scope that runs was started
-pub was_started : (s : List ℕ) (es : List Event) → unwrap_or (first_of (starts s) es) false ≡ true → is_among s (flat_map scopes_started es) ≡ true
+pub was_started : (s : List ℕ) (es : List Event) → unwrap_or (first_of (starts s) es) false ≡ true
+    → is_among s (flat_map scopes_started es) ≡ true
 was_started s [] q = lie (sym q)
 was_started s (Event.StartScope t ∷ es) q = grind (arith, was_started s es)
 was_started s (Event.StopScope t ∷ es) q = grind (arith, was_started s es)
 was_started s (e ∷ es) q = was_started s es q
 
 -- a scope that doesn't run lists nobody
-pub stopped_lists : (h : History) (s g : List ℕ) (p : Pid) → is_running h s ≡ false → listed h s g p ≡ 0
+pub stopped_lists : (h : History) (s g : List ℕ) (p : Pid) → is_running h s ≡ false
+    → listed h s g p ≡ 0
 stopped_lists h s g p q = by (is_local h p)
   where
-    by : (b : Bool) → cond b (own h s g p) (cond (is_running h s) (option_map_or (listed_by h s g p) (present_link p.node h.entries) 0) 0) ≡ 0
+    by : (b : Bool)
+        → cond b (own h s g p)
+        (cond (is_running h s) (option_map_or (listed_by h s g p) (present_link p.node h.entries) 0)
+        0) ≡ 0
     by true = rw q
     by false = rw q
 
 -- where each row of a scope is listed as often as before, there is no difference in it
-pub no_difference : (h k : History) (s : List ℕ) → ((g : List ℕ) (p : Pid) → listed h s g p ≡ listed k s g p) → IsDifference (listed h s) (listed k s) []
+pub no_difference : (h k : History) (s : List ℕ)
+    → ((g : List ℕ) (p : Pid) → listed h s g p ≡ listed k s g p)
+    → IsDifference (listed h s) (listed k s) []
 no_difference h k s m = record {
   groups = tt;
   proper = tt;
@@ -130,11 +184,13 @@ module _ (F : List ℕ → List GroupChange) where
   abbrev all_changes : List (List ℕ) → List Change
   all_changes ss = flat_map (λ s. if_some s (F s)) ss
 
-  above_all : (s : List ℕ) (ss : List (List ℕ)) → AllByRecursion (λ t. text_cmp s t ≡ Less) ss → AllByRecursion (λ t. text_cmp s t ≡ Less) (map (λ c. c.scope) (all_changes ss))
+  above_all : (s : List ℕ) (ss : List (List ℕ)) → AllByRecursion (λ t. text_cmp s t ≡ Less) ss
+      → AllByRecursion (λ t. text_cmp s t ≡ Less) (map (λ c. c.scope) (all_changes ss))
   above_all s [] a = tt
   above_all s (t ∷ ss) a = grind (arith, above_all s ss a.1)
 
-  rise_all : (ss : List (List ℕ)) → Rises text_cmp ss → Rises text_cmp (map (λ c. c.scope) (all_changes ss))
+  rise_all : (ss : List (List ℕ)) → Rises text_cmp ss
+      → Rises text_cmp (map (λ c. c.scope) (all_changes ss))
   rise_all [] a = tt
   rise_all (t ∷ ss) a = grind (arith, above_all t ss a.0, rise_all ss a.1)
 
@@ -142,43 +198,77 @@ module _ (F : List ℕ → List GroupChange) where
   some_all [] = tt
   some_all (t ∷ ss) = grind (arith, some_all ss)
 
-  groups_behind : (s t : List ℕ) (x : List GroupChange) (cs : List Change) → groups_in s (if_some t x ++ cs) ≡ cond (same t s) x [] ++ groups_in s cs
+  groups_behind : (s t : List ℕ) (x : List GroupChange) (cs : List Change)
+      → groups_in s (if_some t x ++ cs) ≡ cond (same t s) x [] ++ groups_in s cs
   groups_behind s t x cs = grind arith
 
-  none_above : (s t : List ℕ) (ss : List (List ℕ)) → same t s ≡ true → AllByRecursion (λ u. text_cmp t u ≡ Less) ss → groups_in s (all_changes ss) ≡ []
+  none_above : (s t : List ℕ) (ss : List (List ℕ)) → same t s ≡ true
+      → AllByRecursion (λ u. text_cmp t u ≡ Less) ss → groups_in s (all_changes ss) ≡ []
   none_above s t [] e a = refl
-  none_above s t (u ∷ ss) e a = grind (arith, none_above s t ss e a.1, groups_behind s u (F u) (all_changes ss), same_decides, apart t u a.0)
+  none_above s t (u ∷ ss) e a =
+      grind (
+        arith,
+        none_above s t ss e a.1,
+        groups_behind s u (F u) (all_changes ss),
+        same_decides,
+        apart t u a.0,
+      )
 
-  groups_one : (s : List ℕ) (ss : List (List ℕ)) → Rises text_cmp ss → groups_in s (all_changes ss) ≡ cond (is_among s ss) (F s) []
+  groups_one : (s : List ℕ) (ss : List (List ℕ)) → Rises text_cmp ss
+      → groups_in s (all_changes ss) ≡ cond (is_among s ss) (F s) []
   groups_one s [] r = refl
-  groups_one s (t ∷ ss) r = grind (arith, groups_one s ss r.1, groups_behind s t (F t) (all_changes ss), none_above s t ss, append-nil, same_decides t s)
+  groups_one s (t ∷ ss) r =
+      grind (
+        arith,
+        groups_one s ss r.1,
+        groups_behind s t (F t) (all_changes ss),
+        none_above s t ss,
+        append-nil,
+        same_decides t s,
+      )
 
 -- the computed change is the difference
 pub change_is : (h k : History) → IsChange h k (change h k)
 change_is h k = record {
   scopes = rise_all (scope_change h k) scopes up;
   some = some_all (scope_change h k) scopes;
-  groups = λ s. subst (λ cs. IsDifference (listed h s) (listed k s) cs) (sym (groups_one (scope_change h k) s scopes up)) (by s (is_among s scopes) refl);
+  groups = λ s. subst (λ cs. IsDifference (listed h s) (listed k s) cs)
+      (sym (groups_one (scope_change h k) s scopes up)) (by s (is_among s scopes) refl);
 }
   where
     scopes : List (List ℕ)
     scopes = ascending text_cmp (flat_map scopes_started (events_of h k))
 
     up : Rises text_cmp (ascending text_cmp (flat_map scopes_started (events_of h k)))
-    up = ascending_rises text_cmp same texts_total exact_bytes same_decides (flat_map scopes_started (events_of h k))
+    up = ascending_rises text_cmp same texts_total exact_bytes same_decides
+        (flat_map scopes_started (events_of h k))
 
-    by : (s : List ℕ) (b : Bool) → is_among s (ascending text_cmp (flat_map scopes_started (events_of h k))) ≡ b → IsDifference (listed h s) (listed k s) (cond b (scope_change h k s) [])
+    by : (s : List ℕ) (b : Bool)
+        → is_among s (ascending text_cmp (flat_map scopes_started (events_of h k))) ≡ b
+        → IsDifference (listed h s) (listed k s) (cond b (scope_change h k s) [])
     by s true e = scope_difference h k s
-    by s false e = (let was = absent h.entries (or_parts' e).0 in let is = absent k.entries (or_parts' e).1 in no_difference h k s (λ g p. stopped_lists h s g p was ∙ sym (stopped_lists k s g p is)))
+    by s false e = (let was = absent h.entries (or_parts' e).0 in
+        let is = absent k.entries (or_parts' e).1 in
+        no_difference h k s (λ g p. stopped_lists h s g p was ∙ sym (stopped_lists k s g p is)))
       where
-        or_parts' : is_among s scopes ≡ false → (is_among s (flat_map scopes_started (events h.entries)) ≡ false) × (is_among s (flat_map scopes_started (events k.entries)) ≡ false)
-        or_parts' e = or_parts _ _ (sym (sym e ∙ ascending_stands text_cmp same texts_total exact_bytes same_decides s (flat_map scopes_started (events_of h k)) ∙ ap (is_among s) (flat_map-append scopes_started (events h.entries) (events k.entries)) ∙ list_any-append (λ t. same t s) (flat_map scopes_started (events h.entries)) (flat_map scopes_started (events k.entries))))
+        or_parts' : is_among s scopes ≡ false
+            → (is_among s (flat_map scopes_started (events h.entries)) ≡ false)
+            × (is_among s (flat_map scopes_started (events k.entries)) ≡ false)
+        or_parts' e =
+            or_parts _ _
+            (sym (sym e ∙ ascending_stands text_cmp same texts_total exact_bytes same_decides s
+            (flat_map scopes_started (events_of h k))
+            ∙ ap (is_among s) (flat_map-append scopes_started (events h.entries) (events k.entries))
+            ∙ list_any-append (λ t. same t s) (flat_map scopes_started (events h.entries))
+            (flat_map scopes_started (events k.entries))))
 
-        absent : (es : List Entry) → is_among s (flat_map scopes_started (events es)) ≡ false → unwrap_or (first_of (starts s) (events es)) false ≡ false
+        absent : (es : List Entry) → is_among s (flat_map scopes_started (events es)) ≡ false
+            → unwrap_or (first_of (starts s) (events es)) false ≡ false
         absent es out = grind (arith, was_started s (events es))
 
 -- where each row is listed as often as before, nothing changed
-pub no_change : (h k : History) → ((s g : List ℕ) (p : Pid) → listed h s g p ≡ listed k s g p) → IsChange h k []
+pub no_change : (h k : History) → ((s g : List ℕ) (p : Pid) → listed h s g p ≡ listed k s g p)
+    → IsChange h k []
 no_change h k e = record { scopes = tt; some = tt; groups = λ s. no_difference h k s (e s) }
 
 -- a change hangs on what is listed alone
@@ -193,7 +283,8 @@ change_as h j k same_rows cs c = record {
 }
 
 -- the policy's entry is the next one
-pub next_is : (h : History) (seat : ℕ) (e : Event) → is_full h ≡ false → IsNext h (entry_of h seat e)
+pub next_is : (h : History) (seat : ℕ) (e : Event) → is_full h ≡ false
+    → IsNext h (entry_of h seat e)
 next_is h seat e q = record {
   room =
       ltb-true (entered h.entries) h.opening.entries

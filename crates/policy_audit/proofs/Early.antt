@@ -1,28 +1,21 @@
 -- How few frames wait for a link whose side isn't whole, or that isn't open.
-use Rattle.policy_audit.proofs.Words.{ap, arith, refl, subst, sym, ◌∙◌, append-nil, length-append}
-use Rattle.policy_audit.proofs.Words.{eq-eqb, eqb-true}
-use Rattle.policy_audit.proofs.Words.{le-leb, was_up, or_parts, ◌||◌, and_parts, filter, Bool, List}
-use Rattle.policy_audit.proofs.Words.{None, Option, Some, []}
-use Rattle.policy_audit.proofs.Words.{cond, false, length, map, min, nat_le, not, true, ℕ, ◌&&◌}
-use Rattle.policy_audit.proofs.Words.{◌++◌, ◌+◌, ◌==◌}
-use Rattle.policy_audit.proofs.Words.{◌∷◌, ◌≡◌, ◌≤◌, listing, mentions, pid_cmp, row, same_pid}
-use Rattle.policy_audit.proofs.Words.{local_rows, own, running_scopes}
-use Rattle.policy_audit.proofs.Words.{History, past, is_accepted, is_open, is_opened_by, is_up}
-use Rattle.policy_audit.proofs.Words.{ends, is_whole, opened, taken}
-use Rattle.policy_audit.proofs.Words.{awaits, is_last, drops, owed, frame_owes, refusal_owes}
-use Rattle.policy_audit.proofs.Words.{waiting, waiting_in, OutFrame}
-use Rattle.policy_audit.proofs.Words.{whole_side, Awaited, AwaitName, AwaitAnswer, AwaitReply}
-use Rattle.policy_audit.proofs.Words.{AwaitStatus, AwaitChallenge}
-use Rattle.policy_audit.proofs.Words.{AwaitAck, AwaitMessage, Opened, Start, Taken, IsPlayed}
-use Rattle.policy_audit.proofs.Words.{IsPlayedIn, IsStep}
-use Rattle.policy_audit.proofs.Words.{Entry, Verdict, Accepted, Refused, Event, Message, Opening}
-use Rattle.policy_audit.proofs.Words.{Reply, Rule}
-use Rattle.policy_audit.proofs.Accepted.{lie}
-use Rattle.policy_audit.proofs.Walked.{but, far, fresh, Far}
-use Rattle.policy_audit.proofs.Finished.{is_message, whole_by}
-use Rattle.policy_audit.proofs.KeptLinks.{unopened_waiting, unowed, unseen, untold, all_untold}
-use Rattle.policy_audit.proofs.Onward.{frame_open, newest, reply_taken, ack_taken, message_taken_on}
-use Rattle.policy_audit.proofs.Onward.{whole_is_message, unwhole_awaits}
+use Rattle.policy_audit.proofs
+use proofs.Words.{Accepted, and_parts, ap, append-nil, arith, AwaitAck, AwaitAnswer, AwaitChallenge}
+use proofs.Words.{Awaited, AwaitMessage, AwaitName, AwaitReply, awaits, AwaitStatus, Bool, cond}
+use proofs.Words.{drops, ends, Entry, eq-eqb, eqb-true, Event, false, filter, frame_owes, History}
+use proofs.Words.{is_accepted, is_last, is_open, is_opened_by, is_up, is_whole, IsPlayed}
+use proofs.Words.{IsPlayedIn, IsStep, le-leb, length, length-append, List, listing, local_rows, map}
+use proofs.Words.{mentions, Message, min, nat_le, None, not, Opened, opened, Opening, Option}
+use proofs.Words.{or_parts, OutFrame, owed, own, past, pid_cmp, refl, refusal_owes, Refused, Reply}
+use proofs.Words.{row, Rule, running_scopes, same_pid, Some, Start, subst, sym, Taken, taken, true}
+use proofs.Words.{Verdict, waiting, waiting_in, was_up, whole_side, ℕ, [], ◌&&◌, ◌++◌, ◌+◌, ◌==◌}
+use proofs.Words.{◌||◌, ◌∙◌, ◌∷◌, ◌≡◌, ◌≤◌}
+use proofs.Accepted.{lie}
+use proofs.Walked.{but, Far, far, fresh}
+use proofs.Finished.{is_message, whole_by}
+use proofs.KeptLinks.{all_untold, unopened_waiting, unowed, unseen, untold}
+use proofs.Onward.{ack_taken, frame_open, message_taken_on, newest, reply_taken, unwhole_awaits}
+use proofs.Onward.{whole_is_message}
 
 -- a frame before the last of a side is owed two frames at most
 early_owes : (h : History) (l : ℕ) (body : List ℕ) (a : Awaited) → is_last a ≡ false

@@ -1,11 +1,11 @@
 -- What an entry does to the words of the policy, and what it leaves alone.
-use Rattle.policy_audit.proofs.Words.{ap, arith, refl, subst, sym, ◌∙◌, List, None, cond, false, true, ℕ, ◌&&◌, ◌+◌, ◌-◌, ◌==◌, ◌∷◌, ◌≡◌}
-use Rattle.policy_audit.proofs.Words.{same_decides, mentions, same, same_pid, Pid, checks, first_broken, IsSameLink, leaves_rows, History}
-use Rattle.policy_audit.proofs.Words.{is_accepted, listed, is_running, own, IsStep, judgement, just}
-use Rattle.policy_audit.proofs.Words.{Entry, Verdict, Accepted}
-use Rattle.policy_audit.proofs.Words.{Refused, Event, Reply}
-use Rattle.policy_audit.proofs.Accepted.{accepted, lie}
-use Rattle.policy_audit.proofs.Walked.{but}
+use Rattle.policy_audit.proofs
+use proofs.Words.{Accepted, ap, arith, checks, cond, Entry, Event, false, first_broken, History}
+use proofs.Words.{is_accepted, is_running, IsSameLink, IsStep, judgement, just, leaves_rows, List}
+use proofs.Words.{listed, mentions, None, own, Pid, refl, Refused, Reply, same, same_decides}
+use proofs.Words.{same_pid, subst, sym, true, Verdict, ℕ, ◌&&◌, ◌+◌, ◌-◌, ◌==◌, ◌∙◌, ◌∷◌, ◌≡◌}
+use proofs.Accepted.{accepted, lie}
+use proofs.Walked.{but}
 
 -- ---- entries that change no listing
 
@@ -23,11 +23,13 @@ pub entry_rows : (h : History) (e : Entry) → leaves_rows e ≡ true → (s g :
     → listed (just h e) s g p ≡ listed h s g p
 entry_rows h e q s g p = rows_left h e e.event e.verdict q s g p
 
-pub entry_link : (es : List Entry) (e : Entry) (k l : ℕ) (body : List ℕ) → e.event ≡ Event.Frame k body → (k == l) ≡ false → IsSameLink l es (e ∷ es)
+pub entry_link : (es : List Entry) (e : Entry) (k l : ℕ) (body : List ℕ)
+    → e.event ≡ Event.Frame k body → (k == l) ≡ false → IsSameLink l es (e ∷ es)
 entry_link es e k l body q another = grind arith
 
 -- where a fact holds of each accepted entry of an event, it holds of this one
-pub by_accepted : (e : Entry) (ev : Event) (P : Entry → Type 0) → e.event ≡ ev → is_accepted e.verdict ≡ true → ((r : Reply) → P (but e ev (Accepted r))) → P e
+pub by_accepted : (e : Entry) (ev : Event) (P : Entry → Type 0) → e.event ≡ ev
+    → is_accepted e.verdict ≡ true → ((r : Reply) → P (but e ev (Accepted r))) → P e
 by_accepted e ev P q a each = subst (λ x. P (but e x e.verdict)) (sym q) (by e.verdict a)
   where
     by : (v : Verdict) → is_accepted v ≡ true → P (but e ev v)
@@ -67,4 +69,6 @@ by_made h e ev P made a q each = by e.event e.verdict made.judged a q
 -- an event that is accepted breaks no rule
 pub breaks_none : (h : History) (e : Entry) (ev : Event) → IsStep h e → is_accepted e.verdict ≡ true
     → e.event ≡ ev → first_broken (checks h e.seat ev) ≡ None
-breaks_none h e ev made a q = by_made h e ev (λ x. first_broken (checks h e.seat ev) ≡ None) made a q (λ r v. (accepted h e.seat ev r v).0)
+breaks_none h e ev made a q =
+    by_made h e ev (λ x. first_broken (checks h e.seat ev) ≡ None) made a q
+    (λ r v. (accepted h e.seat ev r v).0)

@@ -1,19 +1,17 @@
 -- A node has few own rows in each scope.
-use Rattle.policy_audit.proofs.Words.{judgement, own_limit, subst, Accepted, ap, arith, Bool, cond}
-use Rattle.policy_audit.proofs.Words.{Entry}
-use Rattle.policy_audit.proofs.Words.{Event, false, fewer_length, History, how_many_append}
-use Rattle.policy_audit.proofs.Words.{IsListing, join_checks, leb-true}
-use Rattle.policy_audit.proofs.Words.{length, length-append, List, local_rows, map, mentions}
-use Rattle.policy_audit.proofs.Words.{nat_le, occurrences, Opening, own, past, Pid, refl, Refused}
-use Rattle.policy_audit.proofs.Words.{Reply, Row, row, same, same_decides, same_row}
-use Rattle.policy_audit.proofs.Words.{same_row_decides, suc, true, Verdict, ℕ, [], ◌++◌, ◌+◌, ◌∷◌}
-use Rattle.policy_audit.proofs.Words.{◌≡◌, ◌≤◌}
+use Rattle.policy_audit.proofs
+use proofs.Words.{Accepted, ap, arith, Bool, cond, Entry, Event, false, fewer_length, History}
+use proofs.Words.{how_many_append, IsListing, join_checks, judgement, leb-true, length}
+use proofs.Words.{length-append, List, local_rows, map, mentions, nat_le, occurrences, Opening, own}
+use proofs.Words.{own_limit, past, Pid, refl, Refused, Reply, Row, row, same, same_decides}
+use proofs.Words.{same_row, same_row_decides, subst, suc, true, Verdict, ℕ, [], ◌++◌, ◌+◌, ◌∷◌, ◌≡◌}
+use proofs.Words.{◌≤◌}
 use Rattle.std.specs.Prelude.{◌⊎◌}
 use Rattle.std.proofs.Common.{inl, inr}
-use Rattle.policy_audit.proofs.Accepted.{accepted, all_hold, unbroken}
-use Rattle.policy_audit.proofs.Walked.{but}
-use Rattle.policy_audit.proofs.Lists.{count_in_group}
-use Rattle.policy_audit.proofs.OwnRows.{local_rows_are}
+use proofs.Accepted.{accepted, all_hold, unbroken}
+use proofs.Walked.{but}
+use proofs.Lists.{count_in_group}
+use proofs.OwnRows.{local_rows_are}
 
 length_map : {A B : Type 0} (f : A → B) (xs : List A) → length (map f xs) ≡ length xs
 length_map f [] = refl

@@ -1,11 +1,14 @@
--- What an accepted frame makes of its link: it completes the side, or leaves it whole or unfinished.
-use Rattle.policy_audit.proofs.Words.{ap, arith, refl, sym, ◌∙◌, get_or-eq_default, eqb-false, eqb-true, le-leb, leb-true, length-append}
-use Rattle.policy_audit.proofs.Words.{both_ways, option_and_then, option_map_or, Bool, List, None, Option, Some, [], false, get_or, is_some}
-use Rattle.policy_audit.proofs.Words.{length, nat_le, suc, true, zero, ℕ, ◌++◌, ◌+◌, ◌==◌, ◌∷◌, ◌≡◌, Challenge, Name, AwaitMessage, Awaited}
-use Rattle.policy_audit.proofs.Words.{ByDial, ByPeer, Opened, Start, Taken, awaited_in, given_in, is_last, is_whole_in, was_up, whole_side}
-use Rattle.policy_audit.proofs.Words.{Entry, Opening}
-use Rattle.policy_audit.proofs.Accepted.{lie, peer_by}
-use Rattle.policy_audit.proofs.Walked.{Follow, Reach, Walk, Far}
+-- What an accepted frame makes of its link: it completes the side, or leaves it whole or
+-- unfinished.
+use Rattle.policy_audit.proofs
+use proofs.Words.{ap, arith, Awaited, awaited_in, AwaitMessage, Bool, both_ways, ByDial, ByPeer}
+use proofs.Words.{Challenge, Entry, eqb-false, eqb-true, false, get_or, get_or-eq_default, given_in}
+use proofs.Words.{is_last, is_some, is_whole_in, le-leb, leb-true, length, length-append, List}
+use proofs.Words.{Name, nat_le, None, Opened, Opening, Option, option_and_then, option_map_or, refl}
+use proofs.Words.{Some, Start, suc, sym, Taken, true, was_up, whole_side, zero, ℕ, [], ◌++◌, ◌+◌}
+use proofs.Words.{◌==◌, ◌∙◌, ◌∷◌, ◌≡◌}
+use proofs.Accepted.{lie, peer_by}
+use proofs.Walked.{Far, Follow, Reach, Walk}
 
 -- whether the frames are a whole side
 abbrev pub whole_by : Option Opened → List Taken → Bool
@@ -29,13 +32,15 @@ is_message AwaitMessage = true
 is_message a = false
 
 -- the place of the last frame of a side, and those behind it
-last_is : (s : Start) (up : Bool) (n : ℕ) → is_last (get_or (whole_side s up) n AwaitMessage) ≡ (n + 1 == length (whole_side s up))
+last_is : (s : Start) (up : Bool) (n : ℕ)
+    → is_last (get_or (whole_side s up) n AwaitMessage) ≡ (n + 1 == length (whole_side s up))
 last_is s up zero = grind arith
 last_is s up (suc zero) = grind arith
 last_is s up (suc (suc zero)) = grind arith
 last_is s up (suc (suc (suc n))) = grind (arith, eqb-true)
 
-message_is : (s : Start) (up : Bool) (n : ℕ) → is_message (get_or (whole_side s up) n AwaitMessage) ≡ nat_le (length (whole_side s up)) n
+message_is : (s : Start) (up : Bool) (n : ℕ)
+    → is_message (get_or (whole_side s up) n AwaitMessage) ≡ nat_le (length (whole_side s up)) n
 message_is s up zero = grind arith
 message_is s up (suc zero) = grind arith
 message_is s up (suc (suc zero)) = grind arith
@@ -46,12 +51,16 @@ abbrev pub whole_after : ℕ → Bool → Taken → List Taken → Bool
 whole_after c up a ts = nat_le (length (whole_side (ByPeer c) up)) (length (a ∷ ts))
 
 -- a link that is whole awaits a message
-pub whole_awaits : (oe : Option Opened) (ts : List Taken) → whole_by oe ts ≡ true → awaited_by oe ts ≡ AwaitMessage
+pub whole_awaits : (oe : Option Opened) (ts : List Taken) → whole_by oe ts ≡ true
+    → awaited_by oe ts ≡ AwaitMessage
 whole_awaits None ts q = lie (sym q)
-whole_awaits (Some x) ts q = get_or-eq_default (whole_side x.start (was_up ts)) AwaitMessage (leb-true (length (whole_side x.start (was_up ts))) (length ts) q)
+whole_awaits (Some x) ts q =
+    get_or-eq_default (whole_side x.start (was_up ts)) AwaitMessage
+    (leb-true (length (whole_side x.start (was_up ts))) (length ts) q)
 
 -- a link that awaits a message is whole
-pub message_whole : (oe : Option Opened) (ts : List Taken) → is_some oe ≡ true → is_message (awaited_by oe ts) ≡ true → whole_by oe ts ≡ true
+pub message_whole : (oe : Option Opened) (ts : List Taken) → is_some oe ≡ true
+    → is_message (awaited_by oe ts) ≡ true → whole_by oe ts ≡ true
 message_whole None ts s q = lie (sym s)
 message_whole (Some x) ts s q = sym (message_is x.start (was_up ts) (length ts)) ∙ q
 
@@ -59,27 +68,37 @@ module _ (m : Taken) where
   -- ---- a frame that is not the last of a side leaves it whole, or unfinished
 
   longer : (a n : ℕ) → (n + 1 == a) ≡ false → nat_le a (n + 1) ≡ nat_le a n
-  longer a n q = both_ways (nat_le a (n + 1)) (nat_le a n) (λ p. le-leb a n (omega (arith, leb-true a (n + 1) p, eqb-false (n + 1) a q))) (λ p. le-leb a (n + 1) (omega (arith, leb-true a n p)))
+  longer a n q =
+      both_ways (nat_le a (n + 1)) (nat_le a n)
+      (λ p. le-leb a n (omega (arith, leb-true a (n + 1) p, eqb-false (n + 1) a q)))
+      (λ p. le-leb a (n + 1) (omega (arith, leb-true a n p)))
 
-  stays_in : (s : Start) (ts : List Taken) → is_last (awaited_in s ts) ≡ false → is_whole_in s (ts ++ m ∷ []) ≡ is_whole_in s ts
+  stays_in : (s : Start) (ts : List Taken) → is_last (awaited_in s ts) ≡ false
+      → is_whole_in s (ts ++ m ∷ []) ≡ is_whole_in s ts
   stays_in s [] q = grind arith
-  stays_in s (a ∷ ts) q = rw length-append (longer (length (whole_side s (was_up (a ∷ [])))) (length (a ∷ ts)) (sym (last_is s (was_up (a ∷ [])) (length (a ∷ ts))) ∙ q))
+  stays_in s (a ∷ ts) q =
+      rw length-append (longer (length (whole_side s (was_up (a ∷ [])))) (length (a ∷ ts))
+      (sym (last_is s (was_up (a ∷ [])) (length (a ∷ ts))) ∙ q))
 
-  pub stays : (oe : Option Opened) (ts : List Taken) → is_last (awaited_by oe ts) ≡ false → whole_by oe (ts ++ m ∷ []) ≡ whole_by oe ts
+  pub stays : (oe : Option Opened) (ts : List Taken) → is_last (awaited_by oe ts) ≡ false
+      → whole_by oe (ts ++ m ∷ []) ≡ whole_by oe ts
   stays None ts q = refl
   stays (Some x) ts q = stays_in x.start ts q
 
   -- ---- a further frame on a link that is whole leaves its peer
 
-  pub kept : (oe : Option Opened) (ts : List Taken) → whole_by oe ts ≡ true → peer_by oe (ts ++ m ∷ []) ≡ peer_by oe ts
+  pub kept : (oe : Option Opened) (ts : List Taken) → whole_by oe ts ≡ true
+      → peer_by oe (ts ++ m ∷ []) ≡ peer_by oe ts
   kept oe ts q = grind arith
 
   -- and what its peer gave
-  pub given_kept : (oe : Option Opened) (ts : List Taken) → whole_by oe ts ≡ true → given_by oe (ts ++ m ∷ []) ≡ given_by oe ts
+  pub given_kept : (oe : Option Opened) (ts : List Taken) → whole_by oe ts ≡ true
+      → given_by oe (ts ++ m ∷ []) ≡ given_by oe ts
   given_kept oe ts q = grind arith
 
   -- and it is whole still
-  pub whole_kept : (oe : Option Opened) (ts : List Taken) → whole_by oe ts ≡ true → whole_by oe (ts ++ m ∷ []) ≡ true
+  pub whole_kept : (oe : Option Opened) (ts : List Taken) → whole_by oe ts ≡ true
+      → whole_by oe (ts ++ m ∷ []) ≡ true
   whole_kept oe ts q = stays oe ts (ap is_last (whole_awaits oe ts q)) ∙ q
 
   -- ---- the last frame of a side
@@ -95,31 +114,73 @@ module _ (m : Taken) where
     pub is_whole : whole_by oe (ts ++ m ∷ []) ≡ true
 
   module _ (o : Opening) (bo : List Entry) where
-    let_in : (c : ℕ) (a : Taken) (ts : List Taken) → (f : Name) → given_in (ByPeer c) (a ∷ []) ≡ Some f → (up : Bool) → was_up (a ∷ []) ≡ up → Follow o c a up ts
-        → is_last (get_or (whole_side (ByPeer c) up) (length (a ∷ ts)) AwaitMessage) ≡ true → Completed (Some (record { start = ByPeer c; before = bo })) (a ∷ ts)
+    let_in : (c : ℕ) (a : Taken) (ts : List Taken) → (f : Name)
+        → given_in (ByPeer c) (a ∷ []) ≡ Some f → (up : Bool) → was_up (a ∷ []) ≡ up
+        → Follow o c a up ts
+        → is_last (get_or (whole_side (ByPeer c) up) (length (a ∷ ts)) AwaitMessage) ≡ true
+        → Completed (Some (record { start = ByPeer c; before = bo })) (a ∷ ts)
     let_in c a [] f named false u p q =
         let name = ap (λ x. option_and_then {T = Name} {U = List ℕ} (λ g. Some g.name) x) named in
-        record { peer = f.name; gave = f; was_of = name; is_of = name; was_given = named; was_whole = ap (λ b. whole_after c b a []) u; is_whole = ap (λ b. whole_after c b a (m ∷ [])) u }
+        record {
+          peer = f.name;
+          gave = f;
+          was_of = name;
+          is_of = name;
+          was_given = named;
+          was_whole = ap (λ b. whole_after c b a []) u;
+          is_whole = ap (λ b. whole_after c b a (m ∷ [])) u;
+        }
     let_in c a (b ∷ []) f named true u p q =
         let name = ap (λ x. option_and_then {T = Name} {U = List ℕ} (λ g. Some g.name) x) named in
-        record { peer = f.name; gave = f; was_of = name; is_of = name; was_given = named; was_whole = ap (λ v. whole_after c v a (b ∷ [])) u; is_whole = ap (λ v. whole_after c v a (b ∷ m ∷ [])) u }
+        record {
+          peer = f.name;
+          gave = f;
+          was_of = name;
+          is_of = name;
+          was_given = named;
+          was_whole = ap (λ v. whole_after c v a (b ∷ [])) u;
+          is_whole = ap (λ v. whole_after c v a (b ∷ m ∷ [])) u;
+        }
     let_in c a [] f named true u p q = lie (sym q)
     let_in c a (b ∷ ts) f named false u p q = lie (sym q)
     let_in c a (b ∷ r ∷ ts) f named true u p q = lie (sym q)
 
-    reached : (n : List ℕ) (c : ℕ) (ts : List Taken) → Reach o n c ts → is_last (awaited_in (ByDial n c) ts) ≡ true → Completed (Some (record { start = ByDial n c; before = bo })) ts
+    reached : (n : List ℕ) (c : ℕ) (ts : List Taken) → Reach o n c ts
+        → is_last (awaited_in (ByDial n c) ts) ≡ true
+        → Completed (Some (record { start = ByDial n c; before = bo })) ts
     reached n c [] p q = lie (sym q)
     reached n c (a ∷ []) p q = lie (sym q)
     reached n c (a ∷ b ∷ []) p q =
-        let gave = ap (λ x. option_and_then {T = Challenge} {U = Name} (λ f. Some (record { flags = f.flags; creation = f.creation; name = f.name; version = f.version })) x) p.1.1 in
-        record { peer = n; gave = record { flags = p.1.0.flags; creation = p.1.0.creation; name = p.1.0.name; version = p.1.0.version }; was_of = refl; is_of = refl; was_given = gave; was_whole = refl; is_whole = refl }
+        let gave = ap (λ x. option_and_then {T = Challenge} {U =
+        Name} (λ f. Some (record {
+          flags = f.flags;
+          creation = f.creation;
+          name = f.name;
+          version = f.version;
+        })) x) p.1.1 in
+        record {
+          peer = n;
+          gave = record {
+            flags = p.1.0.flags;
+            creation = p.1.0.creation;
+            name = p.1.0.name;
+            version = p.1.0.version;
+          };
+          was_of = refl;
+          is_of = refl;
+          was_given = gave;
+          was_whole = refl;
+          is_whole = refl;
+        }
     reached n c (a ∷ b ∷ r ∷ ts) p q = lie (sym q)
 
-    completed_in : (s : Start) (ts : List Taken) → Walk o bo s ts → is_last (awaited_in s ts) ≡ true → Completed (Some (record { start = s; before = bo })) ts
+    completed_in : (s : Start) (ts : List Taken) → Walk o bo s ts → is_last (awaited_in s ts) ≡ true
+        → Completed (Some (record { start = s; before = bo })) ts
     completed_in (ByPeer c) [] p q = lie (sym q)
     completed_in (ByPeer c) (a ∷ ts) p q = let_in c a ts p.0.0 p.0.1 (was_up (a ∷ [])) refl p.1 q
     completed_in (ByDial n c) ts p q = reached n c ts p.1 q
 
-  pub completed : (o : Opening) (oe : Option Opened) (ts : List Taken) → Far o oe ts → is_last (awaited_by oe ts) ≡ true → Completed oe ts
+  pub completed : (o : Opening) (oe : Option Opened) (ts : List Taken) → Far o oe ts
+      → is_last (awaited_by oe ts) ≡ true → Completed oe ts
   completed o None ts p q = lie (sym q)
   completed o (Some x) ts p q = completed_in o x.before x.start ts p q

@@ -1,19 +1,22 @@
 -- The peer of a link never has the node's own name.
-use Rattle.policy_audit.proofs.Walked.{fresh}
-use Rattle.policy_audit.proofs.Words.{arith, refl, sym, eqb-true, List, None, Option, Some, [], false, is_some, true, ℕ, ◌++◌, ◌∷◌, ◌≡◌}
-use Rattle.policy_audit.proofs.Words.{same, checks, dial_checks, first_broken, frame_checks, History, is_accepted, past, is_open}
-use Rattle.policy_audit.proofs.Words.{IsStep, IsPlayed, IsPlayedIn, judgement, Opened, Taken}
-use Rattle.policy_audit.proofs.Words.{awaits, is_name_up, opened, peer_of}
-use Rattle.policy_audit.proofs.Words.{present_link, taken, Entry, Verdict, Accepted, Event, Opening}
-use Rattle.policy_audit.proofs.Accepted.{accepted, all_hold, lie, no_value, open_first, peer_by, unbroken}
-use Rattle.policy_audit.proofs.Walked.{but}
-use Rattle.policy_audit.proofs.Finished.{awaited_by}
-use Rattle.policy_audit.proofs.UpLinks.{none_taken, agrees}
-use Rattle.policy_audit.proofs.Effects.{breaks_none}
+use Rattle.policy_audit.proofs
+use proofs.Walked.{but, fresh}
+use proofs.Words.{Accepted, arith, awaits, checks, dial_checks, Entry, eqb-true, Event, false}
+use proofs.Words.{first_broken, frame_checks, History, is_accepted, is_name_up, is_open, is_some}
+use proofs.Words.{IsPlayed, IsPlayedIn, IsStep, judgement, List, None, Opened, opened, Opening}
+use proofs.Words.{Option, past, peer_of, present_link, refl, same, Some, sym, Taken, taken, true}
+use proofs.Words.{Verdict, ℕ, [], ◌++◌, ◌∷◌, ◌≡◌}
+use proofs.Accepted.{accepted, all_hold, lie, no_value, open_first, peer_by, unbroken}
+use proofs.Finished.{awaited_by}
+use proofs.UpLinks.{agrees, none_taken}
+use proofs.Effects.{breaks_none}
 
--- a frame that fits what its link awaits names a peer by another name than the node's own, or leaves the peer
-named_now : (h : History) (k : ℕ) (m : Taken) (n : List ℕ) (oe : Option Opened) (ts : List Taken) → first_broken (frame_checks h k m.body (awaited_by oe ts)) ≡ None
-    → peer_by oe (ts ++ m ∷ []) ≡ Some n → (peer_by oe ts ≡ Some n → same n h.opening.name ≡ false) → same n h.opening.name ≡ false
+-- a frame that fits what its link awaits names a peer by another name than the node's own, or
+-- leaves the peer
+named_now : (h : History) (k : ℕ) (m : Taken) (n : List ℕ) (oe : Option Opened) (ts : List Taken)
+    → first_broken (frame_checks h k m.body (awaited_by oe ts)) ≡ None
+    → peer_by oe (ts ++ m ∷ []) ≡ Some n → (peer_by oe ts ≡ Some n → same n h.opening.name ≡ false)
+    → same n h.opening.name ≡ false
 named_now h k m n oe [] fits now so_far = grind arith
 named_now h k m n oe (a ∷ ts) fits now so_far = grind arith
 
@@ -26,10 +29,20 @@ foreign_in o (e ∷ es) legal l n q =
     by_event : (ev : Event) (v : Verdict) → v ≡ judgement (past o es) e.seat ev
         → ((j : ℕ) → peer_of j es ≡ Some n → same n o.name ≡ false)
         → peer_of l (but e ev v ∷ es) ≡ Some n → same n o.name ≡ false
-    by_event (Event.Dial m c) (Accepted r) v so_far q = (let apart = (all_hold (dial_checks (past o es) m) (accepted (past o es) e.seat (Event.Dial m c) r v).0).0 in grind (arith, so_far l))
+    by_event (Event.Dial m c) (Accepted r) v so_far q =
+        (let apart =
+        (all_hold (dial_checks (past o es) m)
+        (accepted (past o es) e.seat (Event.Dial m c) r v).0).0 in grind (arith, so_far l))
     by_event (Event.Frame k body) (Accepted r) v so_far q =
-        let fits = (open_first (is_open k es) (frame_checks (past o es) k body (awaits k es)) (accepted (past o es) e.seat (Event.Frame k body) r v).0).1 in
-        grind (arith, named_now (past o es) k (record { body = body; before = es }) n (opened k es) (taken k es) fits, so_far, eqb-true k l)
+        let fits = (open_first (is_open k es) (frame_checks (past o es) k body (awaits k es))
+        (accepted (past o es) e.seat (Event.Frame k body) r v).0).1 in
+        grind (
+          arith,
+          named_now (past o es) k (record { body = body; before = es }) n (opened k es)
+              (taken k es) fits,
+          so_far,
+          eqb-true k l,
+        )
     by_event ev v _ so_far q =
         grind (arith, so_far l, none_taken o es legal.1 n e (fresh o es legal.1 e legal.0) l)
 
@@ -41,8 +54,13 @@ peer_foreign h legal l n q = foreign_in h.opening h.entries legal l n q
 pub left_foreign : (h : History) → IsPlayed h → (e : Entry) → IsStep h e
     → is_accepted e.verdict ≡ true → (n : List ℕ) → e.event ≡ Event.Disconnect n
     → same n h.opening.name ≡ false
-left_foreign h legal e made accepts n is = by (present_link n h.entries) refl (unbroken (is_name_up n h.entries) (all_hold (checks h e.seat (Event.Disconnect n)) (breaks_none h e (Event.Disconnect n) made accepts is)).0)
+left_foreign h legal e made accepts n is =
+    by (present_link n h.entries) refl
+    (unbroken (is_name_up n h.entries)
+    (all_hold (checks h e.seat (Event.Disconnect n))
+    (breaks_none h e (Event.Disconnect n) made accepts is)).0)
   where
-    by : (x : Option ℕ) → present_link n h.entries ≡ x → is_some x ≡ true → same n h.opening.name ≡ false
+    by : (x : Option ℕ) → present_link n h.entries ≡ x → is_some x ≡ true
+        → same n h.opening.name ≡ false
     by None q s = lie (sym s)
     by (Some l) q s = peer_foreign h legal l n ((agrees h.opening h.entries legal n l).0 q).1

@@ -1,12 +1,14 @@
 -- The entries that are kept stand behind those that were handed out.
-use Rattle.std.proofs.Common.{◌≡◌, ℕ, suc, ◌+◌, ◌-◌, ◌≤◌, max, List, [], ◌∷◌, ◌++◌, length, reverse, take, drop, slice_get, slice_index_or, subst, sym, arith}
+use Rattle.policy_audit.specs
+use Rattle.std.proofs.Common.{arith, drop, length, List, max, reverse, slice_get, slice_index_or}
+use Rattle.std.proofs.Common.{subst, suc, sym, take, ℕ, [], ◌++◌, ◌+◌, ◌-◌, ◌∷◌, ◌≡◌, ◌≤◌}
 use Rattle.std.proofs.lemmas.Grind.{common_steps}
 use Rattle.std.proofs.lemmas.Bool.Decides.{nat_tests}
-use Rattle.std.proofs.lemmas.List.{reverse-append, reverse-reverse, length-reverse}
+use Rattle.std.proofs.lemmas.List.{length-reverse, reverse-append, reverse-reverse}
 use Rattle.std.proofs.Math.Seq.{drop-append-add, drop-append_seam, take-append_seam}
-use Rattle.policy_audit.specs.declared.entry.Entry.{Entry}
-use Rattle.policy_audit.specs.Log.{kept_at, later_than}
-use Rattle.policy_audit.specs.Pages.{page_size, entries_in, entries_past, log_of, IsPaged, IsPageBehind}
+use specs.declared.entry.Entry.{Entry}
+use specs.Log.{kept_at, later_than}
+use specs.Pages.{entries_in, entries_past, IsPageBehind, IsPaged, log_of, page_size}
 use Rattle.policy_audit.proofs.InPages.{get_behind}
 
 -- the oldest first: those that were handed out, and then those that are kept

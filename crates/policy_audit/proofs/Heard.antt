@@ -1,17 +1,15 @@
 -- Who is heard in a scope: the scope runs, and the link has a whole side.
-use Rattle.policy_audit.proofs.Walked.{fresh}
-use Rattle.policy_audit.proofs.Words.{arith, refl, subst, sym, eqb-true, option_map_or, unwrap_or, Bool, List, None, Option, Some}
-use Rattle.policy_audit.proofs.Words.{[], cond, false, true, ℕ, ◌&&◌, ◌++◌, ◌==◌, ◌∷◌, ◌≡◌}
-use Rattle.policy_audit.proofs.Words.{same_decides, same, Message}
-use Rattle.policy_audit.proofs.Words.{always, checks, first_broken, frame_checks, message_checks, runs, Said, Stopped, Talk, hears}
-use Rattle.policy_audit.proofs.Words.{said_at, talk, talk_of, tells, begun, frame_taken}
-use Rattle.policy_audit.proofs.Words.{option_and_then, Begun, Message2, PartKind, completed}
-use Rattle.policy_audit.proofs.Words.{History, first_of, past}
-use Rattle.policy_audit.proofs.Words.{is_open, is_running, IsPlayedIn, judgement}
-use Rattle.policy_audit.proofs.Words.{awaits, is_whole, opened, taken, Entry, Verdict, Accepted, Refused, Event, Opening, Rule}
-use Rattle.policy_audit.proofs.Accepted.{lie, accepted, open_first}
-use Rattle.policy_audit.proofs.Walked.{but}
-use Rattle.policy_audit.proofs.Finished.{whole_awaits, whole_kept}
+use Rattle.policy_audit.proofs
+use proofs.Walked.{but, fresh}
+use proofs.Words.{Accepted, always, arith, awaits, Begun, begun, Bool, checks, completed, cond}
+use proofs.Words.{Entry, eqb-true, Event, false, first_broken, first_of, frame_checks, frame_taken}
+use proofs.Words.{hears, History, is_open, is_running, is_whole, IsPlayedIn, judgement, List}
+use proofs.Words.{Message, Message2, message_checks, None, opened, Opening, Option, option_and_then}
+use proofs.Words.{option_map_or, PartKind, past, refl, Refused, Rule, runs, Said, said_at, same}
+use proofs.Words.{same_decides, Some, Stopped, subst, sym, taken, Talk, talk, talk_of, tells, true}
+use proofs.Words.{unwrap_or, Verdict, ℕ, [], ◌&&◌, ◌++◌, ◌==◌, ◌∷◌, ◌≡◌}
+use proofs.Accepted.{accepted, lie, open_first}
+use proofs.Finished.{whole_awaits, whole_kept}
 
 -- the last that was said of s on a link is a Sync
 abbrev pub has_sync : List ℕ → List Talk → Bool
@@ -49,7 +47,9 @@ taken_runs h k b None m q is = cc
 taken_runs h k b (Some f) m q is = scope_runs h k b f m q is
 
 -- of a question about s, to which only messages of s give yes, and to which its stop gives no
-module _ (s : List ℕ) (asks : Talk → Option Bool) (stop : (t : List ℕ) → asks (Stopped t) ≡ cond (same t s) (Some false) None) (only : (m : Message) → asks (Said m) ≡ Some true → same (scope_of m) s ≡ true) where
+module _ (s : List ℕ) (asks : Talk → Option Bool)
+    (stop : (t : List ℕ) → asks (Stopped t) ≡ cond (same t s) (Some false) None)
+    (only : (m : Message) → asks (Said m) ≡ Some true → same (scope_of m) s ≡ true) where
   abbrev says_yes : List Talk → Bool
   says_yes ts = unwrap_or (first_of asks ts) false
 
@@ -60,10 +60,12 @@ module _ (s : List ℕ) (asks : Talk → Option Bool) (stop : (t : List ℕ) →
         → is_running (past o es) (scope_of m) ≡ true
     framed k body q w m says =
         let met = (open_first (is_open k es) (frame_checks (past o es) k body (awaits k es)) q).1 in
-        let kind = subst (λ a. first_broken (frame_checks (past o es) k body a) ≡ None) (whole_awaits (opened k es) (taken k es) w) met in
+        let kind = subst (λ a. first_broken (frame_checks (past o es) k body a) ≡ None)
+        (whole_awaits (opened k es) (taken k es) w) met in
         taken_runs (past o es) k (begun o k es) (frame_taken o k es body) m kind says
 
-    spoken : (x : Option Message) → ((m : Message) → x ≡ Some m → is_running (past o es) (scope_of m) ≡ true)
+    spoken : (x : Option Message)
+        → ((m : Message) → x ≡ Some m → is_running (past o es) (scope_of m) ≡ true)
         → (says_yes (talk o l es) ≡ true → is_running (past o es) s ≡ true)
         → says_yes (talk_of x ++ talk o l es) ≡ true → is_running (past o es) s ≡ true
     spoken None runs so_far h = so_far h
@@ -123,7 +125,8 @@ heard_whole o (e ∷ es) legal l s h = by_event e.event e.verdict (heard_whole o
 
     by_event : (ev : Event) (v : Verdict) → (has_sync s (talk o l es) ≡ true → is_whole l es ≡ true)
         → has_sync s (talk o l (but e ev v ∷ es)) ≡ true → is_whole l (but e ev v ∷ es) ≡ true
-    by_event (Event.Frame k body) (Accepted r) so_far h = grind (arith, whole_kept (record { body = body; before = es }) (opened l es) (taken l es))
+    by_event (Event.Frame k body) (Accepted r) so_far h =
+        grind (arith, whole_kept (record { body = body; before = es }) (opened l es) (taken l es))
     by_event (Event.Opened c) (Accepted r) so_far h = grind (arith, new)
     by_event (Event.Dial n c) (Accepted r) so_far h = grind (arith, new)
     by_event (Event.StopScope t) (Accepted r) so_far h = grind arith

@@ -1,22 +1,20 @@
 -- Which links have frames that wait, which are kept, and which numbers they have.
-use Rattle.policy_audit.proofs.Words.{and_parts, entered, is_whole, ◌&&◌}
-use Rattle.policy_audit.proofs.Words.{IsNumbered}
-use Rattle.policy_audit.proofs.Words.{ap, arith, refl, subst, sym, ◌∙◌, eqb-true, le-leb, leb-true, lt-ltb, ltb-true, filter, flat_map}
-use Rattle.policy_audit.proofs.Words.{list_all, list_any, Bool, List, None, [], cond, false}
-use Rattle.policy_audit.proofs.Words.{is_some, map, min, nat_le, nat_lt}
-use Rattle.policy_audit.proofs.Words.{true, ℕ, ◌++◌, ◌+◌, ◌<◌, ◌==◌, ◌∷◌, ◌≡◌, ◌≤◌, is_empty, how_many, listing, mentions, same_pid}
-use Rattle.policy_audit.proofs.Words.{pid_cmp, Row, Message, local_rows, row, heard, talk, told, History, Moment, first_of, past, present}
-use Rattle.policy_audit.proofs.Words.{is_open, is_opened_by, is_up, links, OutFrame, drops, frame_owes, if_told, if_visible, is_kept, owed}
-use Rattle.policy_audit.proofs.Words.{own_name_frame, refusal_owes, waiting, waiting_in, is_running}
-use Rattle.policy_audit.proofs.Words.{own, running_scopes, IsPlayed}
-use Rattle.policy_audit.proofs.Words.{IsPlayedIn, judgement, awaits, opened, start_of}
-use Rattle.policy_audit.proofs.Words.{started_where, Entry, Verdict, Accepted, Refused, Event}
-use Rattle.policy_audit.proofs.Words.{Opening, Reply, Rule}
-use Rattle.policy_audit.proofs.Accepted.{accepted, lie}
-use Rattle.policy_audit.proofs.UpLinks.{other}
-use Rattle.policy_audit.proofs.Walked.{but, frame_fits, open_opened, unborn}
-use Rattle.policy_audit.proofs.Heard.{has_sync, has_discover, heard_runs, told_talk_runs}
-use Rattle.policy_audit.proofs.Finished.{kept}
+use Rattle.policy_audit.proofs
+use proofs.Words.{Accepted, and_parts, ap, arith, awaits, Bool, cond, drops, entered, Entry}
+use proofs.Words.{eqb-true, Event, false, filter, first_of, flat_map, frame_owes, heard, History}
+use proofs.Words.{how_many, if_told, if_visible, is_empty, is_kept, is_open, is_opened_by}
+use proofs.Words.{is_running, is_some, is_up, is_whole, IsNumbered, IsPlayed, IsPlayedIn, judgement}
+use proofs.Words.{le-leb, leb-true, links, List, list_all, list_any, listing, local_rows, lt-ltb}
+use proofs.Words.{ltb-true, map, mentions, Message, min, Moment, nat_le, nat_lt, None, opened}
+use proofs.Words.{Opening, OutFrame, owed, own, own_name_frame, past, pid_cmp, present, refl}
+use proofs.Words.{refusal_owes, Refused, Reply, Row, row, Rule, running_scopes, same_pid, start_of}
+use proofs.Words.{started_where, subst, sym, talk, told, true, Verdict, waiting, waiting_in, ℕ, []}
+use proofs.Words.{◌&&◌, ◌++◌, ◌+◌, ◌<◌, ◌==◌, ◌∙◌, ◌∷◌, ◌≡◌, ◌≤◌}
+use proofs.Accepted.{accepted, lie}
+use proofs.UpLinks.{other}
+use proofs.Walked.{but, frame_fits, open_opened, unborn}
+use proofs.Heard.{has_discover, has_sync, heard_runs, told_talk_runs}
+use proofs.Finished.{kept}
 
 -- ---- what is owed to a link that isn't up: no message
 
@@ -47,7 +45,10 @@ module _ (o : Opening) (es : List Entry) (l : ℕ) (closed : is_open l es ≡ fa
       → Accepted r ≡ judgement (past o es) seat (Event.Frame k body) → (b : Bool) → (k == l) ≡ b
       → cond b (frame_owes (past o es) l body (awaits l es)) [] ≡ []
   accepted_frame seat k body r q false m = refl
-  accepted_frame seat k body r q true m = lie (sym (subst (λ j. is_open j es ≡ true) (eqb-true k l m) (frame_fits o es seat k body (accepted (past o es) seat (Event.Frame k body) r q).0).0) ∙ closed)
+  accepted_frame seat k body r q true m =
+      lie (sym (subst (λ j. is_open j es ≡ true) (eqb-true k l m)
+      (frame_fits o es seat k body (accepted (past o es) seat (Event.Frame k body) r q).0).0)
+      ∙ closed)
 
   refused_frame : (seat k : ℕ) (body : List ℕ) (r : Rule)
       → Refused r ≡ judgement (past o es) seat (Event.Frame k body) → (b : Bool) → (k == l) ≡ b
@@ -66,8 +67,10 @@ module _ (o : Opening) (es : List Entry) (l : ℕ) (closed : is_open l es ≡ fa
   unowed e (Event.Leave s g ps) (Accepted r) q other =
       untold o es l down s (Message.Leave s)
       (map (row g) (listing pid_cmp (λ p. min (mentions p ps) (own (past o es) s g p)) ps))
-  unowed e (Event.Dial n c) (Accepted r) q other = ap (λ b. cond b (own_name_frame (past o es) ∷ []) []) other
-  unowed e (Event.Frame k body) (Accepted r) q other = accepted_frame e.seat k body r q (k == l) refl
+  unowed e (Event.Dial n c) (Accepted r) q other =
+      ap (λ b. cond b (own_name_frame (past o es) ∷ []) []) other
+  unowed e (Event.Frame k body) (Accepted r) q other =
+      accepted_frame e.seat k body r q (k == l) refl
   unowed e (Event.Frame k body) (Refused r) q other = refused_frame e.seat k body r q (k == l) refl
   unowed e ev v q other = refl
 
@@ -89,7 +92,9 @@ unopened_waiting o (e ∷ es) legal l none =
     quiet : (ev : Event) (v : Verdict) → v ≡ judgement (past o es) e.seat ev
         → (opened l es ≡ None → waiting_in o l es ≡ []) → is_opened_by l (but e ev v) ≡ false
         → opened l es ≡ None → waiting_in o l (but e ev v ∷ es) ≡ []
-    quiet ev v q so_far other was = dropped (drops l es v ev) (waiting_in o l es) (owed (past o es) l e.number ev v) (so_far was) (unowed o es l (closed_if l es was) e ev v q other)
+    quiet ev v q so_far other was =
+        dropped (drops l es v ev) (waiting_in o l es) (owed (past o es) l e.number ev v)
+        (so_far was) (unowed o es l (closed_if l es was) e ev v q other)
 
     by_event : (ev : Event) (v : Verdict) → v ≡ judgement (past o es) e.seat ev
         → (opened l es ≡ None → waiting_in o l es ≡ []) → opened l (but e ev v ∷ es) ≡ None
@@ -99,12 +104,16 @@ unopened_waiting o (e ∷ es) legal l none =
 
 -- ---- the links of a history
 
-linked : (l : ℕ) (ms : List Moment) → is_some (first_of (λ m. started_where (m.number == l) m.before (start_of m.event)) ms) ≡ list_any (λ x. x == l) (flat_map (λ m. cond (is_some (start_of m.event)) (m.number ∷ []) []) ms)
+linked : (l : ℕ) (ms : List Moment)
+    → is_some (first_of (λ m. started_where (m.number == l) m.before (start_of m.event)) ms)
+    ≡ list_any (λ x. x == l)
+    (flat_map (λ m. cond (is_some (start_of m.event)) (m.number ∷ []) []) ms)
 linked l [] = refl
 linked l (m ∷ ms) = grind (arith, linked l ms)
 
 -- a link was opened exactly where it is one of the links
-pub opened_linked : (l : ℕ) (es : List Entry) → is_some (opened l es) ≡ list_any (λ x. x == l) (links es)
+pub opened_linked : (l : ℕ) (es : List Entry)
+    → is_some (opened l es) ≡ list_any (λ x. x == l) (links es)
 opened_linked l es = linked l (present es)
 
 module _ (h : History) (legal : IsPlayed h) (l : ℕ) where
@@ -128,7 +137,8 @@ module _ (h : History) (legal : IsPlayed h) (l : ℕ) where
 
 -- ---- the numbers of links
 
-all_below : (n m : ℕ) → n ≤ m → (xs : List ℕ) → list_all (λ x. nat_le x n) xs ≡ true → list_all (λ x. nat_le x m) xs ≡ true
+all_below : (n m : ℕ) → n ≤ m → (xs : List ℕ) → list_all (λ x. nat_le x n) xs ≡ true
+    → list_all (λ x. nat_le x m) xs ≡ true
 all_below n m le [] a = refl
 all_below n m le (x ∷ xs) a = grind (arith, le-leb, leb-true, all_below n m le xs)
 
@@ -137,16 +147,19 @@ abbrev pub Falls : List ℕ → Type 0
 Falls [] = Unit {0}
 Falls (x ∷ xs) = (list_all (λ y. nat_lt y x) xs ≡ true) × Falls xs
 
-all_less : (n x : ℕ) → x ≡ n + 1 → (xs : List ℕ) → list_all (λ y. nat_le y n) xs ≡ true → list_all (λ y. nat_lt y x) xs ≡ true
+all_less : (n x : ℕ) → x ≡ n + 1 → (xs : List ℕ) → list_all (λ y. nat_le y n) xs ≡ true
+    → list_all (λ y. nat_lt y x) xs ≡ true
 all_less n x q [] a = refl
 all_less n x q (y ∷ ys) a = grind (arith, lt-ltb, leb-true, all_less n x q ys)
 
 -- in what falls each number stands once
-absent : (l x : ℕ) → (x == l) ≡ true → (ys : List ℕ) → list_all (λ y. nat_lt y x) ys ≡ true → how_many (λ y. y == l) ys ≡ 0
+absent : (l x : ℕ) → (x == l) ≡ true → (ys : List ℕ) → list_all (λ y. nat_lt y x) ys ≡ true
+    → how_many (λ y. y == l) ys ≡ 0
 absent l x m [] a = refl
 absent l x m (y ∷ ys) a = grind (arith, absent l x m ys, ltb-true, eqb-true)
 
-pub falls_once : (xs : List ℕ) → Falls xs → (l : ℕ) → how_many (λ x. x == l) xs ≡ cond (list_any (λ x. x == l) xs) 1 0
+pub falls_once : (xs : List ℕ) → Falls xs → (l : ℕ)
+    → how_many (λ x. x == l) xs ≡ cond (list_any (λ x. x == l) xs) 1 0
 falls_once [] f l = refl
 falls_once (x ∷ xs) f l = grind (arith, falls_once xs f.1 l, absent l x)
 

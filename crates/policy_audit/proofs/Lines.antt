@@ -1,6 +1,8 @@
 -- Scripts as lines: who asks for what, and the verdict that is wanted.
-use Rattle.policy_audit.proofs.Words.{Bool, List, [], codes, cond, false, map, nat_le, suc, true, zero, ℕ, ◌*◌, ◌++◌, ◌+◌, ◌-◌, ◌∷◌, Pid}
-use Rattle.policy_audit.proofs.Words.{cookie, History, creation, past, OutFrame, Call, Verdict, Accepted, Refused, Event, Reply, Rule}
+use Rattle.policy_audit.proofs
+use proofs.Words.{Accepted, Bool, Call, codes, cond, cookie, creation, Event, false, History, List}
+use proofs.Words.{map, nat_le, OutFrame, past, Pid, Refused, Reply, Rule, suc, true, Verdict, zero}
+use proofs.Words.{ℕ, [], ◌*◌, ◌++◌, ◌+◌, ◌-◌, ◌∷◌}
 
 pub record Line : Type 0 where
   pub seat : ℕ
@@ -30,7 +32,15 @@ judged lines = map (λ line. line.verdict) lines
 
 -- a history without entries
 abbrev pub begun : List ℕ → List ℕ → Bool → ℕ → ℕ → History
-begun name cookie hidden creation entries = past (record { name = name; cookie = cookie; hidden = hidden; creation = creation; entries = entries; links = 1 }) []
+begun name cookie hidden creation entries =
+    past (record {
+      name = name;
+      cookie = cookie;
+      hidden = hidden;
+      creation = creation;
+      entries = entries;
+      links = 1;
+    }) []
 
 -- the node of most scripts
 abbrev pub node : History
@@ -38,7 +48,14 @@ node = begun (codes "b@h") (codes "password") false 4 1000000
 
 -- the same node where it knows version 2
 abbrev pub new_node : History
-new_node = past (record { name = codes "b@h"; cookie = codes "password"; hidden = false; creation = 4; entries = 1000000; links = 2 }) []
+new_node = past (record {
+  name = codes "b@h";
+  cookie = codes "password";
+  hidden = false;
+  creation = 4;
+  entries = 1000000;
+  links = 2;
+}) []
 
 -- the value of a digit of hex
 abbrev digit : ℕ → ℕ
@@ -69,12 +86,15 @@ openings (suc count) l = gives (Event.Opened 1) (Reply.Link l) ∷ openings coun
 
 -- link l is opened, and a@h names itself on it
 abbrev pub a_named : ℕ → List Line
-a_named l = gives (Event.Opened 123) (Reply.Link l) ∷ done (sent l (codes "4e0000000001000001000000050003614068")) ∷ []
+a_named l = gives (Event.Opened 123) (Reply.Link l)
+    ∷ done (sent l (codes "4e0000000001000001000000050003614068")) ∷ []
 
 -- link l to a@h is up, and its frames are taken
 abbrev pub a_up : ℕ → List Line
 a_up l =
     a_named l
-    ++ takes l (frame (codes "736f6b") ∷ frame (codes "4e00000000010000010000007b000000040003624068") ∷ [])
-    ∷ gives (sent l (codes "7200000001482c811da5d5b4bc6d497ffa98491e38")) (Reply.Up (codes "a@h") 5 true)
+    ++ takes l (frame (codes "736f6b")
+    ∷ frame (codes "4e00000000010000010000007b000000040003624068") ∷ [])
+    ∷ gives (sent l (codes "7200000001482c811da5d5b4bc6d497ffa98491e38"))
+    (Reply.Up (codes "a@h") 5 true)
     ∷ takes l (frame (codes "617c6a180b36896a0a8c02787eeafb0e4c") ∷ []) ∷ []

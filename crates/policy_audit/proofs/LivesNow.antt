@@ -1,15 +1,15 @@
 -- Which own processes live, after each Spawn, Exit and Restart.
-use Rattle.policy_audit.proofs.Words.{and_parts, ap, arith, refl, eq-eqb, eqb-false, eqb-true}
-use Rattle.policy_audit.proofs.Words.{le-leb, leb-true, list_any, Bool, List, [], cond, false}
-use Rattle.policy_audit.proofs.Words.{nat_eq, nat_le, not, suc, true, ℕ, ◌&&◌, ◌+◌, ◌<◌, ◌==◌, ◌∷◌, ◌≡◌, same_decides, same_pid_decides}
-use Rattle.policy_audit.proofs.Words.{how_many, same, Pid, checks, History, creation, events, is_accepted, past, is_exit, is_exit_of}
-use Rattle.policy_audit.proofs.Words.{is_local, lives, spawned, IsStep, IsPlayed, IsPlayedIn}
-use Rattle.policy_audit.proofs.Words.{judgement, just, Entry, Verdict}
-use Rattle.policy_audit.proofs.Words.{Accepted, Event, Opening}
-use Rattle.policy_audit.proofs.Accepted.{accepted, all_hold, unbroken}
-use Rattle.policy_audit.proofs.Walked.{but}
-use Rattle.policy_audit.proofs.UpLinks.{and_both}
-use Rattle.policy_audit.proofs.Effects.{breaks_none, by_accepted}
+use Rattle.policy_audit.proofs
+use proofs.Words.{Accepted, and_parts, ap, arith, Bool, checks, cond, creation, Entry, eq-eqb}
+use proofs.Words.{eqb-false, eqb-true, Event, events, false, History, how_many, is_accepted}
+use proofs.Words.{is_exit, is_exit_of, is_local, IsPlayed, IsPlayedIn, IsStep, judgement, just}
+use proofs.Words.{le-leb, leb-true, List, list_any, lives, nat_eq, nat_le, not, Opening, past, Pid}
+use proofs.Words.{refl, same, same_decides, same_pid_decides, spawned, suc, true, Verdict, ℕ, []}
+use proofs.Words.{◌&&◌, ◌+◌, ◌<◌, ◌==◌, ◌∷◌, ◌≡◌}
+use proofs.Accepted.{accepted, all_hold, unbroken}
+use proofs.Walked.{but}
+use proofs.UpLinks.{and_both}
+use proofs.Effects.{breaks_none, by_accepted}
 
 -- the own process of that number
 abbrev pub own_pid : History → ℕ → Pid
@@ -18,17 +18,22 @@ own_pid h n = record { node = h.opening.name; creation = creation h; number = n 
 -- an own process is known by its number
 pub is_own_pid : (h : History) (p : Pid) → is_local h p ≡ true → p ≡ own_pid h p.number
 is_own_pid h p local = λ i. record {
-  node = (same_decides p.node h.opening.name).0 (and_parts (same p.node h.opening.name) (p.creation == creation h) local).0 i;
-  creation = eqb-true p.creation (creation h) (and_parts (same p.node h.opening.name) (p.creation == creation h) local).1 i;
+  node = (same_decides p.node h.opening.name).0
+      (and_parts (same p.node h.opening.name) (p.creation == creation h) local).0 i;
+  creation = eqb-true p.creation (creation h)
+      (and_parts (same p.node h.opening.name) (p.creation == creation h) local).1 i;
   number = p.number;
 }
 
-pub lives_of : (h : History) (p : Pid) → is_local h p ≡ true → lives h p ≡ lives h (own_pid h p.number)
+pub lives_of : (h : History) (p : Pid) → is_local h p ≡ true
+    → lives h p ≡ lives h (own_pid h p.number)
 lives_of h p local = ap (lives h) (is_own_pid h p local)
 
 -- the node's own processes are local
 own_local : (h : History) (n : ℕ) → is_local h (own_pid h n) ≡ true
-own_local h n = and_both (same h.opening.name h.opening.name) (creation h == creation h) ((same_decides h.opening.name h.opening.name).1 refl) (eq-eqb (creation h) (creation h) refl)
+own_local h n =
+    and_both (same h.opening.name h.opening.name) (creation h == creation h)
+    ((same_decides h.opening.name h.opening.name).1 refl) (eq-eqb (creation h) (creation h) refl)
 
 -- only a process that was spawned has ended
 unended : (o : Opening) (es : List Entry) → IsPlayedIn o es → (p : Pid)
@@ -39,9 +44,12 @@ unended o (e ∷ es) legal p above =
   where
     by_event : (ev : Event) (v : Verdict) → v ≡ judgement (past o es) e.seat ev
         → (spawned (past o es) < p.number → list_any (is_exit_of p) (events es) ≡ false)
-        → spawned (past o (but e ev v ∷ es)) < p.number → list_any (is_exit_of p) (events (but e ev v ∷ es)) ≡ false
+        → spawned (past o (but e ev v ∷ es)) < p.number
+        → list_any (is_exit_of p) (events (but e ev v ∷ es)) ≡ false
     by_event (Event.Exit x) (Accepted r) q so_far b =
-        let lived = unbroken (lives (past o es) x) (all_hold (checks (past o es) e.seat (Event.Exit x)) (accepted (past o es) e.seat (Event.Exit x) r q).0).1.0 in
+        let lived = unbroken (lives (past o es) x)
+        (all_hold (checks (past o es) e.seat (Event.Exit x))
+        (accepted (past o es) e.seat (Event.Exit x) r q).0).1.0 in
         grind (arith, same_pid_decides x p, leb-true)
     by_event ev v _ so_far b = grind arith
 
@@ -50,8 +58,10 @@ abbrev alive : Bool → ℕ → ℕ → Bool → Bool
 alive local number born ended = local && nat_le 1 number && nat_le number born && not ended
 
 -- one process more
-born_more : (local ended : Bool) (n born : ℕ) → local ≡ true → (born < n → ended ≡ false) → alive local n (suc born) ended ≡ cond (nat_eq (born + 1) n) true (alive local n born ended)
-born_more local ended n born is never = grind (arith, is, never, eqb-true, eqb-false, le-leb, leb-true)
+born_more : (local ended : Bool) (n born : ℕ) → local ≡ true → (born < n → ended ≡ false)
+    → alive local n (suc born) ended ≡ cond (nat_eq (born + 1) n) true (alive local n born ended)
+born_more local ended n born is never =
+    grind (arith, is, never, eqb-true, eqb-false, le-leb, leb-true)
 
 module _ (h : History) (e : Entry) (made : IsStep h e) (yes : is_accepted e.verdict ≡ true) where
   abbrev k : History
@@ -65,13 +75,16 @@ module _ (h : History) (e : Entry) (made : IsStep h e) (yes : is_accepted e.verd
       by_accepted e Event.Spawn
       (λ x. lives (just h x) (own_pid h n)
       ≡ cond (nat_eq (spawned h + 1) n) true (lives h (own_pid h n))) is yes (λ r.
-      born_more (is_local h (own_pid h n)) (list_any (is_exit_of (own_pid h n)) (events h.entries)) n (spawned h) (own_local h n) (unended h.opening h.entries legal (own_pid h n)))
+      born_more (is_local h (own_pid h n)) (list_any (is_exit_of (own_pid h n)) (events h.entries))
+      n (spawned h) (own_local h n) (unended h.opening h.entries legal (own_pid h n)))
 
   -- ---- an Exit
 
   module _ (p : Pid) (is : e.event ≡ Event.Exit p) where
     pub exited_local : is_local h p ≡ true
-    exited_local = unbroken (is_local h p) (all_hold (checks h e.seat (Event.Exit p)) (breaks_none h e (Event.Exit p) made yes is)).0
+    exited_local =
+        unbroken (is_local h p)
+        (all_hold (checks h e.seat (Event.Exit p)) (breaks_none h e (Event.Exit p) made yes is)).0
 
     pub spawned_exited : spawned k ≡ spawned h
     spawned_exited = grind arith
@@ -79,7 +92,8 @@ module _ (h : History) (e : Entry) (made : IsStep h e) (yes : is_accepted e.verd
     pub exits_more : how_many is_exit (events k.entries) ≡ suc (how_many is_exit (events h.entries))
     exits_more = grind arith
 
-    pub lives_exited : (n : ℕ) → lives k (own_pid h n) ≡ cond (nat_eq p.number n) false (lives h (own_pid h n))
+    pub lives_exited : (n : ℕ)
+        → lives k (own_pid h n) ≡ cond (nat_eq p.number n) false (lives h (own_pid h n))
     lives_exited n = grind (arith, exited_local)
 
   -- ---- a Restart

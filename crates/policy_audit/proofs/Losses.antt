@@ -1,25 +1,21 @@
 -- The losses of slow links, which come with an entry.
-use Rattle.policy_audit.proofs.Words.{ap, arith, refl, subst, sym, ◌∙◌, append-nil, filter}
-use Rattle.policy_audit.proofs.Words.{and_parts, is_empty, list_all, option_map_or, Check}
-use Rattle.policy_audit.proofs.Words.{Bool, List, None, Option, Some, [], cond, false, length}
-use Rattle.policy_audit.proofs.Words.{nat_lt, not, true, ℕ, present_link, opened, taken, PartKind}
-use Rattle.policy_audit.proofs.Words.{◌&&◌, ◌==◌, ◌∷◌, ◌≡◌, ◌≤◌, ◌↔◌, eqb-true, lt-ltb, ltb-true}
-use Rattle.policy_audit.proofs.Words.{Pid, History, past, is_accepted, is_open, is_whole, links}
-use Rattle.policy_audit.proofs.Words.{waiting_in, listed, listed_by, own, is_running, is_local}
-use Rattle.policy_audit.proofs.Words.{audited, entered, is_entered, just, lose, loss, is_slow}
-use Rattle.policy_audit.proofs.Words.{max_waiting, slow_links, with_entry, IsStep, history, is_full, judgement}
-use Rattle.policy_audit.proofs.Words.{IsLegal, IsLegalIn, IsNext, IsNumbered, IsPlayed, IsPlayedIn}
-use Rattle.policy_audit.proofs.Words.{checks, first_broken, frame_checks, message_checks, always}
-use Rattle.policy_audit.proofs.Words.{refusal_owes, frame_taken, awaits, judged, waiting, Message2}
-use Rattle.policy_audit.proofs.Finished.{whole_awaits}
-use Rattle.policy_audit.proofs.Walked.{but}
-use Rattle.policy_audit.proofs.Words.{Rule, ◌<◌, Entry, Verdict, Accepted, Refused, Event, Opening}
-use Rattle.policy_audit.proofs.Accepted.{lie}
-use Rattle.policy_audit.proofs.KeptLinks.{Falls, links_fall, opened_linked}
-use Rattle.policy_audit.proofs.Walked.{open_opened}
-use Rattle.policy_audit.proofs.KeptNumbers.{falls_left}
-use Rattle.policy_audit.proofs.LostWords.{is_one, left_link, lost_audited, lost_listed, lost_open}
-use Rattle.policy_audit.proofs.LostWords.{lost_waiting}
+use Rattle.policy_audit.proofs
+use proofs.Words.{Accepted, always, and_parts, ap, append-nil, arith, audited, awaits, Bool, Check}
+use proofs.Words.{checks, cond, entered, Entry, eqb-true, Event, false, filter, first_broken}
+use proofs.Words.{frame_checks, frame_taken, History, history, is_accepted, is_empty, is_entered}
+use proofs.Words.{is_full, is_local, is_open, is_running, is_slow, is_whole, IsLegal, IsLegalIn}
+use proofs.Words.{IsNext, IsNumbered, IsPlayed, IsPlayedIn, IsStep, judged, judgement, just, length}
+use proofs.Words.{links, List, list_all, listed, listed_by, lose, loss, lt-ltb, ltb-true}
+use proofs.Words.{max_waiting, Message2, message_checks, nat_lt, None, not, opened, Opening, Option}
+use proofs.Words.{option_map_or, own, PartKind, past, Pid, present_link, refl, refusal_owes}
+use proofs.Words.{Refused, Rule, slow_links, Some, subst, sym, taken, true, Verdict, waiting}
+use proofs.Words.{waiting_in, with_entry, ℕ, [], ◌&&◌, ◌<◌, ◌==◌, ◌↔◌, ◌∙◌, ◌∷◌, ◌≡◌, ◌≤◌}
+use proofs.Finished.{whole_awaits}
+use proofs.Walked.{but, open_opened}
+use proofs.Accepted.{lie}
+use proofs.KeptLinks.{Falls, links_fall, opened_linked}
+use proofs.KeptNumbers.{falls_left}
+use proofs.LostWords.{is_one, left_link, lost_audited, lost_listed, lost_open, lost_waiting}
 
 -- ---- losses of different links are steps of a history
 

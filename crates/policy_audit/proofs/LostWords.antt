@@ -1,14 +1,11 @@
 -- What is said after some losses of links.
-use Rattle.policy_audit.proofs.Words.{ap, arith, refl, sym, ◌∙◌, append-nil, list_any}
-use Rattle.policy_audit.proofs.Words.{option_map_or}
-use Rattle.policy_audit.proofs.Words.{Bool, List, None, Option, Some, [], cond, false, not, true, ℕ}
-use Rattle.policy_audit.proofs.Words.{◌&&◌, ◌==◌, ◌∷◌, ◌≡◌}
-use Rattle.policy_audit.proofs.Words.{Pid, IsSameLink, History, past, is_open, is_up, present_link}
-use Rattle.policy_audit.proofs.Words.{heard, told, waiting_in, listed, listed_by, own, is_running}
-use Rattle.policy_audit.proofs.Words.{is_local}
-use Rattle.policy_audit.proofs.Words.{audited, entered, just, lose, slow_links, with_entry}
-use Rattle.policy_audit.proofs.Words.{Change, Entry, Verdict, Accepted, Refused, Opening}
-use Rattle.policy_audit.proofs.Walked.{but}
+use Rattle.policy_audit.proofs
+use proofs.Words.{Accepted, ap, append-nil, arith, audited, Bool, Change, cond, entered, Entry}
+use proofs.Words.{false, heard, History, is_local, is_open, is_running, is_up, IsSameLink, just}
+use proofs.Words.{List, list_any, listed, listed_by, lose, None, not, Opening, Option}
+use proofs.Words.{option_map_or, own, past, Pid, present_link, refl, Refused, slow_links, Some, sym}
+use proofs.Words.{told, true, Verdict, waiting_in, with_entry, ℕ, [], ◌&&◌, ◌==◌, ◌∙◌, ◌∷◌, ◌≡◌}
+use proofs.Walked.{but}
 
 -- one of these links
 abbrev pub is_one : ℕ → List ℕ → Bool

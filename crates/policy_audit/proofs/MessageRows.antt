@@ -1,39 +1,40 @@
 -- How often a process is listed after each message.
-use Rattle.policy_audit.proofs.Words.{and_parts, ap, arith, refl, subst, sym, ◌∙◌, eq-eqb, list_all}
-use Rattle.policy_audit.proofs.Words.{Bool, List, None, Some, cond}
-use Rattle.policy_audit.proofs.Words.{false, not, true, ℕ, ◌&&◌, ◌+◌, ◌-◌, ◌∷◌, ◌≡◌, same_decides, same_row_decides, same_sym, occurrences}
-use Rattle.policy_audit.proofs.Words.{same, same_row, Pid, Row, Message, first_broken}
-use Rattle.policy_audit.proofs.Words.{frame_checks, frame_taken, whole_checks, runs, row}
-use Rattle.policy_audit.proofs.Words.{Said, Talk, heard, hears, said_at, rows_of, stated_in, talk}
-use Rattle.policy_audit.proofs.Words.{History, is_accepted, is_open}
-use Rattle.policy_audit.proofs.Words.{is_up, is_from, listed, is_running, IsStep, IsPlayed, just}
-use Rattle.policy_audit.proofs.Words.{AwaitMessage, Taken, awaits}
-use Rattle.policy_audit.proofs.Words.{is_last, is_visible, is_whole, opened, peer_of, present_link}
-use Rattle.policy_audit.proofs.Words.{taken, Entry, Event}
-use Rattle.policy_audit.proofs.Effects.{breaks_none}
-use Rattle.policy_audit.proofs.Accepted.{Hold, all_hold, open_first, unbroken}
-use Rattle.policy_audit.proofs.UpLinks.{agrees, and_both, other}
-use Rattle.policy_audit.proofs.Walked.{open_opened}
-use Rattle.policy_audit.proofs.RowsAfter.{done_frame, inner_rows, not_local, uncounted}
-use Rattle.policy_audit.proofs.Finished.{given_kept, is_message, kept, message_whole, whole_kept}
-use Rattle.policy_audit.proofs.Heard.{has_sync}
-use Rattle.policy_audit.proofs.Begun.{said_holds}
+use Rattle.policy_audit.proofs
+use proofs.Words.{and_parts, ap, arith, AwaitMessage, awaits, Bool, cond, Entry, eq-eqb, Event}
+use proofs.Words.{false, first_broken, frame_checks, frame_taken, heard, hears, History}
+use proofs.Words.{is_accepted, is_from, is_last, is_open, is_running, is_up, is_visible, is_whole}
+use proofs.Words.{IsPlayed, IsStep, just, List, list_all, listed, Message, None, not, occurrences}
+use proofs.Words.{opened, peer_of, Pid, present_link, refl, Row, row, rows_of, runs, Said, said_at}
+use proofs.Words.{same, same_decides, same_row, same_row_decides, same_sym, Some, stated_in, subst}
+use proofs.Words.{sym, Taken, taken, Talk, talk, true, whole_checks, ℕ, ◌&&◌, ◌+◌, ◌-◌, ◌∙◌, ◌∷◌}
+use proofs.Words.{◌≡◌}
+use proofs.Effects.{breaks_none}
+use proofs.Accepted.{all_hold, Hold, open_first, unbroken}
+use proofs.UpLinks.{agrees, and_both, other}
+use proofs.Walked.{open_opened}
+use proofs.RowsAfter.{done_frame, inner_rows, not_local, uncounted}
+use proofs.Finished.{given_kept, is_message, kept, message_whole, whole_kept}
+use proofs.Heard.{has_sync}
+use proofs.Begun.{said_holds}
 
 -- how often a link that is up lists a process of its peer
 abbrev nest : Bool → Bool → Bool → Bool → ℕ → ℕ
 nest running shown from sync count = cond running (cond (shown && from) (cond sync count 0) 0) 0
 
-more : (r v f s : Bool) (c d : ℕ) → r ≡ true → v ≡ true → s ≡ true → (f ≡ false → d ≡ 0) → nest r v f s (c + d) ≡ nest r v f s c + d
+more : (r v f s : Bool) (c d : ℕ) → r ≡ true → v ≡ true → s ≡ true → (f ≡ false → d ≡ 0)
+    → nest r v f s (c + d) ≡ nest r v f s c + d
 more r v f s c d x y w z = grind arith
 
-less : (r v f s : Bool) (c d : ℕ) → r ≡ true → v ≡ true → s ≡ true → nest r v f s (c - d) ≡ nest r v f s c - d
+less : (r v f s : Bool) (c d : ℕ) → r ≡ true → v ≡ true → s ≡ true
+    → nest r v f s (c - d) ≡ nest r v f s c - d
 less r v f s c d x y w = grind arith
 
 -- ---- a message on a link
 
 module _ (h : History) (legal : IsPlayed h) (e : Entry) (made : IsStep h e)
     (yes : is_accepted e.verdict ≡ true) (l : ℕ) (body : List ℕ) (is : e.event ≡ Event.Frame l body)
-    (n : List ℕ) (awaited : awaits l h.entries ≡ AwaitMessage) (of : peer_of l h.entries ≡ Some n) (foreign : same n h.opening.name ≡ false) where
+    (n : List ℕ) (awaited : awaits l h.entries ≡ AwaitMessage) (of : peer_of l h.entries ≡ Some n)
+    (foreign : same n h.opening.name ≡ false) where
   abbrev es : List Entry
   es = h.entries
 
@@ -44,12 +45,14 @@ module _ (h : History) (legal : IsPlayed h) (e : Entry) (made : IsStep h e)
     -- the link is open, and the message breaks no rule
     met : (is_open l es ≡ true) × (first_broken (whole_checks h l m) ≡ None)
     met =
-        let found = open_first (is_open l es) (frame_checks h l body (awaits l es)) (breaks_none h e (Event.Frame l body) made yes is) in
+        let found = open_first (is_open l es) (frame_checks h l body (awaits l es))
+        (breaks_none h e (Event.Frame l body) made yes is) in
         let kind = subst (λ a. first_broken (frame_checks h l body a) ≡ None) awaited found.1 in
         (found.0, said_holds h legal l body (frame_taken h.opening l es body) m says kind)
 
     whole : is_whole l es ≡ true
-    whole = message_whole (opened l es) (taken l es) (open_opened l es met.0) (ap is_message awaited)
+    whole = message_whole (opened l es) (taken l es) (open_opened l es met.0)
+        (ap is_message awaited)
 
     up_link : is_up l es ≡ true
     up_link = and_both (is_open l es) (is_whole l es) met.0 whole
@@ -59,10 +62,12 @@ module _ (h : History) (legal : IsPlayed h) (e : Entry) (made : IsStep h e)
 
     -- how often the link lists p, with that said on it
     abbrev said_so : List ℕ → List ℕ → Pid → List Talk → ℕ
-    said_so t f p ts = nest (is_running h t) (is_visible h l) (is_from l es p) (has_sync t ts) (stated_in t f p ts)
+    said_so t f p ts =
+        nest (is_running h t) (is_visible h l) (is_from l es p) (has_sync t ts) (stated_in t f p ts)
 
     present : (p : Pid) → same p.node n ≡ true → present_link p.node es ≡ Some l
-    present p its = ap (λ v. present_link v es) ((same_decides p.node n).0 its) ∙ (agrees h.opening es legal n l).1 (up_link, of)
+    present p its = ap (λ v. present_link v es) ((same_decides p.node n).0 its)
+        ∙ (agrees h.opening es legal n l).1 (up_link, of)
 
     was_said : (t f : List ℕ) (p : Pid) → same p.node n ≡ true
         → listed h t f p ≡ said_so t f p (talk h.opening l es)
@@ -74,12 +79,22 @@ module _ (h : History) (legal : IsPlayed h) (e : Entry) (made : IsStep h e)
         done_frame h legal e made yes l body is inner
         (λ x. listed (just h x) t f p ≡ said_so t f p (Said m ∷ talk h.opening l es)) (λ q. (
         let moment : Taken = record { body = body; before = es } in
-        grind (arith, not_local h p n its foreign, present p its, up_link, given_kept moment (opened l es) (taken l es) whole, kept moment (opened l es) (taken l es) whole, whole_kept moment (opened l es) (taken l es) whole, eq-eqb l l)))
+        grind (
+          arith,
+          not_local h p n its foreign,
+          present p its,
+          up_link,
+          given_kept moment (opened l es) (taken l es) whole,
+          kept moment (opened l es) (taken l es) whole,
+          whole_kept moment (opened l es) (taken l es) whole,
+          eq-eqb l l,
+        )))
 
     -- a process of another node
     elsewhere : (t f : List ℕ) (p : Pid) → same p.node n ≡ false
         → listed (just h e) t f p ≡ listed h t f p
-    elsewhere t f p other = inner_rows h legal e made yes l body is inner t f p (grind (arith, of, same_sym n p.node))
+    elsewhere t f p other =
+        inner_rows h legal e made yes l body is inner t f p (grind (arith, of, same_sym n p.node))
 
     -- so each process is listed as the message says, where these hold of it
     changed : (s t f : List ℕ) (p : Pid) (now : ℕ)
@@ -89,7 +104,9 @@ module _ (h : History) (legal : IsPlayed h) (e : Entry) (made : IsStep h e)
         → said_so t f p (Said m ∷ talk h.opening l es) ≡ now)
         → (same p.node n ≡ false → same s t ≡ true → listed h t f p ≡ now)
         → listed (just h e) t f p ≡ cond (same t s) now (listed h t f p)
-    changed s t f p now apart its others = by (same p.node n) refl (same s t) refl ∙ ap (λ b. cond b now (listed h t f p)) (same_sym s t)
+    changed s t f p now apart its others =
+        by (same p.node n) refl (same s t) refl ∙ ap (λ b. cond b now (listed h t f p))
+        (same_sym s t)
       where
         by : (a : Bool) → same p.node n ≡ a → (b : Bool) → same s t ≡ b
             → listed (just h e) t f p ≡ cond b now (listed h t f p)
@@ -100,16 +117,20 @@ module _ (h : History) (legal : IsPlayed h) (e : Entry) (made : IsStep h e)
 
   pub discovered_rows : (s : List ℕ) → said_at h.opening l es body ≡ Some (Message.Discover s)
       → (t f : List ℕ) (p : Pid) → listed (just h e) t f p ≡ listed h t f p
-  discovered_rows s says t f p = inner_rows h legal e made yes l body is (ap is_last awaited) t f p (grind (arith, says))
+  discovered_rows s says t f p =
+      inner_rows h legal e made yes l body is (ap is_last awaited) t f p (grind (arith, says))
 
   -- a part that completes no message
   pub unsaid_rows : said_at h.opening l es body ≡ None
       → (t f : List ℕ) (p : Pid) → listed (just h e) t f p ≡ listed h t f p
-  unsaid_rows says t f p = inner_rows h legal e made yes l body is (ap is_last awaited) t f p (grind (arith, says))
+  unsaid_rows says t f p =
+      inner_rows h legal e made yes l body is (ap is_last awaited) t f p (grind (arith, says))
 
   -- what the link says of itself in a scope that runs
-  running_as : (s t : List ℕ) → same s t ≡ true → not (is_running h s) ≡ false → is_running h t ≡ true
-  running_as s t q runs = ap (is_running h) (sym ((same_decides s t).0 q)) ∙ unbroken (is_running h s) runs
+  running_as : (s t : List ℕ) → same s t ≡ true → not (is_running h s) ≡ false
+      → is_running h t ≡ true
+  running_as s t q runs = ap (is_running h) (sym ((same_decides s t).0 q))
+      ∙ unbroken (is_running h s) runs
 
   heard_as : (s t : List ℕ) → same s t ≡ true → not (heard h.opening l s es) ≡ false
       → has_sync t (talk h.opening l es) ≡ true
@@ -119,8 +140,11 @@ module _ (h : History) (legal : IsPlayed h) (e : Entry) (made : IsStep h e)
       (unbroken (heard h.opening l s es) hears)).1
 
   -- a message names no process that isn't from its link
-  none_from : (rows : List Row) → not (list_all (λ r. is_from l es r.pid) rows) ≡ false → (f : List ℕ) (p : Pid) → is_from l es p ≡ false → rows_of f p rows ≡ 0
-  none_from rows from f p out = uncounted same_row (λ a b. (same_row_decides a b).0) (λ r. is_from l es r.pid) (row f p) rows (unbroken (list_all (λ r. is_from l es r.pid) rows) from) out
+  none_from : (rows : List Row) → not (list_all (λ r. is_from l es r.pid) rows) ≡ false
+      → (f : List ℕ) (p : Pid) → is_from l es p ≡ false → rows_of f p rows ≡ 0
+  none_from rows from f p out =
+      uncounted same_row (λ a b. (same_row_decides a b).0) (λ r. is_from l es r.pid) (row f p) rows
+      (unbroken (list_all (λ r. is_from l es r.pid) rows) from) out
 
   foreign_from : (p : Pid) → same p.node n ≡ false → is_from l es p ≡ false
   foreign_from p other = grind (arith, of, same_sym n p.node)
@@ -132,11 +156,15 @@ module _ (h : History) (legal : IsPlayed h) (e : Entry) (made : IsStep h e)
       (cond (same p.node n) (occurrences same_row (row f p) rows) (listed h t f p)) (listed h t f p)
   synced_rows s rows says t f p =
       let k = holds (Message.Sync s rows) says in
-      changed (Message.Sync s rows) says s t f p (cond (same p.node n) (rows_of f p rows) (listed h t f p)) (λ q. grind arith)
-      (λ i q. said q (running_as s t q k.1.0) (unbroken (is_visible h l) k.0) (none_from rows k.1.1.0 f p) ∙ ap (λ b. cond b (rows_of f p rows) (listed h t f p)) (sym i))
+      changed (Message.Sync s rows) says s t f p
+      (cond (same p.node n) (rows_of f p rows) (listed h t f p)) (λ q. grind arith)
+      (λ i q. said q (running_as s t q k.1.0) (unbroken (is_visible h l) k.0)
+      (none_from rows k.1.1.0 f p) ∙ ap (λ b. cond b (rows_of f p rows) (listed h t f p))
+      (sym i))
       (λ i q. ap (λ b. cond b (rows_of f p rows) (listed h t f p)) (sym i))
     where
-      said : same s t ≡ true → is_running h t ≡ true → is_visible h l ≡ true → (is_from l es p ≡ false → rows_of f p rows ≡ 0)
+      said : same s t ≡ true → is_running h t ≡ true → is_visible h l ≡ true
+          → (is_from l es p ≡ false → rows_of f p rows ≡ 0)
           → nest (is_running h t) (is_visible h l) (is_from l es p)
           (has_sync t (Said (Message.Sync s rows) ∷ talk h.opening l es))
           (stated_in t f p (Said (Message.Sync s rows) ∷ talk h.opening l es)) ≡ rows_of f p rows
@@ -148,7 +176,8 @@ module _ (h : History) (legal : IsPlayed h) (e : Entry) (made : IsStep h e)
       ≡ cond (same t s) (listed h t f p + occurrences same_row (row f p) rows) (listed h t f p)
   added_rows s rows says t f p =
       let k = holds (Message.Join s rows) says in
-      changed (Message.Join s rows) says s t f p (listed h t f p + rows_of f p rows) (λ q. grind arith)
+      changed (Message.Join s rows) says s t f p (listed h t f p + rows_of f p rows)
+      (λ q. grind arith)
       (λ i q. ap (λ b. nest (is_running h t) (is_visible h l) (is_from l es p)
       (has_sync t (talk h.opening l es))
       (cond b (stated_in t f p (talk h.opening l es) + rows_of f p rows)
@@ -165,7 +194,8 @@ module _ (h : History) (legal : IsPlayed h) (e : Entry) (made : IsStep h e)
       ≡ cond (same t s) (listed h t f p - occurrences same_row (row f p) rows) (listed h t f p)
   taken_rows s rows says t f p =
       let k = holds (Message.Leave s rows) says in
-      changed (Message.Leave s rows) says s t f p (listed h t f p - rows_of f p rows) (λ q. grind arith)
+      changed (Message.Leave s rows) says s t f p (listed h t f p - rows_of f p rows)
+      (λ q. grind arith)
       (λ i q. ap (λ b. nest (is_running h t) (is_visible h l) (is_from l es p)
       (has_sync t (talk h.opening l es))
       (cond b (stated_in t f p (talk h.opening l es) - rows_of f p rows)
@@ -180,8 +210,11 @@ module _ (h : History) (legal : IsPlayed h) (e : Entry) (made : IsStep h e)
       → (t f : List ℕ) (p : Pid)
       → listed (just h e) t f p
       ≡ cond (same t s) (cond (same p.node n) 0 (listed h t f p)) (listed h t f p)
-  downed_rows s says t f p = changed (Message.Down s) says s t f p (cond (same p.node n) 0 (listed h t f p)) (λ q. grind arith)
-      (λ i q. said q ∙ ap (λ b. cond b 0 (listed h t f p)) (sym i)) (λ i q. ap (λ b. cond b 0 (listed h t f p)) (sym i))
+  downed_rows s says t f p =
+      changed (Message.Down s) says s t f p (cond (same p.node n) 0 (listed h t f p))
+      (λ q. grind arith)
+      (λ i q. said q ∙ ap (λ b. cond b 0 (listed h t f p)) (sym i))
+      (λ i q. ap (λ b. cond b 0 (listed h t f p)) (sym i))
     where
       said : same s t ≡ true
           → nest (is_running h t) (is_visible h l) (is_from l es p)

@@ -1,34 +1,35 @@
 -- Who is counted in a group was named by an event.
-use Rattle.policy_audit.proofs.Words.{arith, list_any-append, filter, flat_map, list_any, Bool}
-use Rattle.policy_audit.proofs.Words.{List, [], cond, false, map, true, ℕ, ◌++◌, ◌&&◌, ◌||◌, ◌==◌}
-use Rattle.policy_audit.proofs.Words.{refl, option_map_or, option_and_then, None, Option, Some}
-use Rattle.policy_audit.proofs.Words.{◌<◌, ◌∷◌, ◌≡◌, is_among, mentions, occurrences, same}
-use Rattle.policy_audit.proofs.Words.{same_decides, same_pid, same_row, stands_in, Pid, Row}
-use Rattle.policy_audit.proofs.Words.{Message2, PartKind, Begun, completed, rows_before}
-use Rattle.policy_audit.proofs.Words.{rows_so_far}
-use Rattle.policy_audit.proofs.Words.{groups_named, pids_named, row, rows_in_part, rows_named}
-use Rattle.policy_audit.proofs.Words.{message_taken, rows_of, stated_in, talk, talk_of, Talk, begun}
-use Rattle.policy_audit.proofs.Words.{frame_taken, kept_after, link_version}
-use Rattle.policy_audit.proofs.Words.{History, events, listed, is_running, joined, own, is_whole}
-use Rattle.policy_audit.proofs.Words.{Event, Entry, Verdict, Accepted, Refused, Reply, Opening}
-use Rattle.std.specs.Prelude.{zero, suc}
-use Rattle.policy_audit.proofs.Walked.{but}
+use Rattle.policy_audit.proofs
+use proofs.Words.{Accepted, arith, Begun, begun, Bool, completed, cond, Entry, Event, events, false}
+use proofs.Words.{filter, flat_map, frame_taken, groups_named, History, is_among, is_running}
+use proofs.Words.{is_whole, joined, kept_after, link_version, List, list_any, list_any-append}
+use proofs.Words.{listed, map, mentions, Message2, message_taken, None, occurrences, Opening}
+use proofs.Words.{Option, option_and_then, option_map_or, own, PartKind, Pid, pids_named, refl}
+use proofs.Words.{Refused, Reply, Row, row, rows_before, rows_in_part, rows_named, rows_of}
+use proofs.Words.{rows_so_far, same, same_decides, same_pid, same_row, Some, stands_in, stated_in}
+use proofs.Words.{Talk, talk, talk_of, true, Verdict, ℕ, [], ◌&&◌, ◌++◌, ◌<◌, ◌==◌, ◌||◌, ◌∷◌, ◌≡◌}
+use Rattle.std.specs.Prelude.{suc, zero}
+use proofs.Walked.{but}
 
 -- ---- lists
 
-pub any_behind : {A : Type 0} (test : A → Bool) (xs ys : List A) → list_any test ys ≡ true → list_any test (xs ++ ys) ≡ true
+pub any_behind : {A : Type 0} (test : A → Bool) (xs ys : List A) → list_any test ys ≡ true
+    → list_any test (xs ++ ys) ≡ true
 any_behind test xs ys q = grind (arith, list_any-append test xs ys)
 
-pub any_before : {A : Type 0} (test : A → Bool) (xs ys : List A) → list_any test xs ≡ true → list_any test (xs ++ ys) ≡ true
+pub any_before : {A : Type 0} (test : A → Bool) (xs ys : List A) → list_any test xs ≡ true
+    → list_any test (xs ++ ys) ≡ true
 any_before test xs ys q = grind (arith, list_any-append test xs ys)
 
 -- what occurs stands in the list
-pub occurs_stands : {A : Type 0} (alike : A → A → Bool) (x : A) (xs : List A) → 0 < occurrences alike x xs → stands_in alike x xs ≡ true
+pub occurs_stands : {A : Type 0} (alike : A → A → Bool) (x : A) (xs : List A)
+    → 0 < occurrences alike x xs → stands_in alike x xs ≡ true
 occurs_stands alike x [] h = absurd (omega arith)
 occurs_stands alike x (y ∷ ys) h = grind (arith, occurs_stands alike x ys)
 
 -- and the other way round
-pub stands_occurs : {A : Type 0} (alike : A → A → Bool) (x : A) (xs : List A) → stands_in alike x xs ≡ true → 0 < occurrences alike x xs
+pub stands_occurs : {A : Type 0} (alike : A → A → Bool) (x : A) (xs : List A)
+    → stands_in alike x xs ≡ true → 0 < occurrences alike x xs
 stands_occurs alike x [] h = absurd (let f : false ≡ true = h in cc)
 stands_occurs alike x (y ∷ ys) h = grind (arith, stands_occurs alike x ys)
 
@@ -46,13 +47,15 @@ module _ (s g : List ℕ) (p : Pid) where
   named_in es = has (flat_map (rows_named s) es)
 
   -- a process that is mentioned has its row
-  mentioned : (f : List ℕ) → same f g ≡ true → (ps : List Pid) → 0 < mentions p ps → has (map (row f) ps) ≡ true
+  mentioned : (f : List ℕ) → same f g ≡ true → (ps : List Pid) → 0 < mentions p ps
+      → has (map (row f) ps) ≡ true
   mentioned f q [] h = absurd (omega arith)
   mentioned f q (x ∷ ps) h = grind (arith, mentioned f q ps)
 
   pub joined_named : (es : List Event) → 0 < joined s g p es → named_in es ≡ true
   joined_named [] h = absurd (omega arith)
-  joined_named (Event.Join t f ps ∷ es) h = grind (arith, joined_named es, list_any-append, mentioned)
+  joined_named (Event.Join t f ps ∷ es) h =
+      grind (arith, joined_named es, list_any-append, mentioned)
   joined_named (Event.Frame l body ∷ es) h =
       any_behind (λ r. same_row r (row g p)) (rows_named s (Event.Frame l body))
       (flat_map (rows_named s) es) (joined_named es h)
@@ -223,7 +226,9 @@ module _ (s g : List ℕ) (p : Pid) where
           record { kept_is = IsAllNamed.kept_is all; stated_is = IsAllNamed.stated_is all }
 
   pub own_named : (h : History) → 0 < own h s g p → named_in (events h.entries) ≡ true
-  own_named h q = joined_named (events h.entries) (some_where (is_running h s) (joined s g p (events h.entries)) q)
+  own_named h q =
+      joined_named (events h.entries)
+      (some_where (is_running h s) (joined s g p (events h.entries)) q)
 
   pub listed_named : (h : History) → 0 < listed h s g p → named_in (events h.entries) ≡ true
   listed_named h q = grind (arith, own_named h, spoken)
@@ -238,12 +243,14 @@ module _ (s g : List ℕ) (p : Pid) where
   group_of [] q = q
   group_of (r ∷ rows) q = grind (arith, group_of rows)
 
-  pid_of : (rows : List Row) → has rows ≡ true → stands_in same_pid p (map (λ r. r.pid) (filter (λ r. same r.group g) rows)) ≡ true
+  pid_of : (rows : List Row) → has rows ≡ true
+      → stands_in same_pid p (map (λ r. r.pid) (filter (λ r. same r.group g) rows)) ≡ true
   pid_of [] q = q
   pid_of (r ∷ rows) q = grind (arith, pid_of rows)
 
   pub group_named : (es : List Event) → named_in es ≡ true → is_among g (groups_named s es) ≡ true
   group_named es q = group_of (flat_map (rows_named s) es) q
 
-  pub pid_named : (es : List Event) → named_in es ≡ true → stands_in same_pid p (pids_named s g es) ≡ true
+  pub pid_named : (es : List Event) → named_in es ≡ true
+      → stands_in same_pid p (pids_named s g es) ≡ true
   pid_named es q = pid_of (flat_map (rows_named s) es) q

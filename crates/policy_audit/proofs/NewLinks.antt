@@ -1,10 +1,9 @@
 -- What an accepted Opened or Dial makes of links.
-use Rattle.policy_audit.proofs.Words.{arith, List, None, Some, [], false, true, ℕ, ◌==◌, ◌||◌, ◌∷◌}
-use Rattle.policy_audit.proofs.Words.{◌≡◌, IsSameLink}
-use Rattle.policy_audit.proofs.Words.{is_accepted, is_open, IsPlayedIn, Start, awaited_in, awaits}
-use Rattle.policy_audit.proofs.Words.{given, is_whole, opened, peer_in, peer_of}
-use Rattle.policy_audit.proofs.Words.{start_of, taken, Entry, Opening}
-use Rattle.policy_audit.proofs.UpLinks.{none_taken}
+use Rattle.policy_audit.proofs
+use proofs.Words.{arith, awaited_in, awaits, Entry, false, given, is_accepted, is_open, is_whole}
+use proofs.Words.{IsPlayedIn, IsSameLink, List, None, opened, Opening, peer_in, peer_of, Some}
+use proofs.Words.{Start, start_of, taken, true, ℕ, [], ◌==◌, ◌||◌, ◌∷◌, ◌≡◌}
+use proofs.UpLinks.{none_taken}
 
 -- link l was opened after these entries: it has no frames yet
 pub record IsNewLink (l : ℕ) (old new : List Entry) (st : Start) : Type 0 where

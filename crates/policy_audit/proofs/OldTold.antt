@@ -1,35 +1,26 @@
 -- Where a peer is told on a link of version 1, the scope has few own rows.
-use Rattle.policy_audit.proofs.Words.{arith, refl, subst, sym, eqb-true, leb-true, list_any}
-use Rattle.policy_audit.proofs.Words.{option_map_or}
-use Rattle.policy_audit.proofs.Words.{option_and_then, Bool, List, None, Option, Some, []}
-use Rattle.policy_audit.proofs.Words.{cond, false}
-use Rattle.policy_audit.proofs.Words.{length, not, true, ℕ, ◌&&◌, ◌++◌, ◌==◌, ◌||◌, ◌∷◌, ◌≡◌}
-use Rattle.policy_audit.proofs.Words.{◌≤◌, ◌∙◌}
-use Rattle.policy_audit.proofs.Words.{same, same_decides, max_rows, Message2, PartKind}
-use Rattle.policy_audit.proofs.Words.{Begun, completed}
-use Rattle.policy_audit.proofs.Words.{always, first_broken, frame_checks, message_checks}
-use Rattle.policy_audit.proofs.Words.{local_rows}
-use Rattle.policy_audit.proofs.Words.{begun, frame_taken, link_version, said_at, talk, talk_of}
-use Rattle.policy_audit.proofs.Words.{told, Talk}
-use Rattle.policy_audit.proofs.Words.{and_frame, and_parts, is_accepted, is_peer, is_some, ByDial}
-use Rattle.policy_audit.proofs.Words.{ByPeer, Start, start_of}
-use Rattle.policy_audit.proofs.Words.{ap, ends, Name, past, is_open, is_up, links, IsPlayedIn}
-use Rattle.policy_audit.proofs.Words.{IsStep, judgement, own_limit, is_old_told}
-use Rattle.policy_audit.proofs.Words.{IsPlayed, History}
-use Rattle.policy_audit.proofs.Words.{awaits, given, is_whole, opened, taken, Taken, Entry, Verdict}
-use Rattle.policy_audit.proofs.Words.{Accepted, Refused}
-use Rattle.policy_audit.proofs.Words.{Event, Opening, Rule, tells}
+use Rattle.policy_audit.proofs
+use proofs.Words.{Accepted, always, and_frame, and_parts, ap, arith, awaits, Begun, begun, Bool}
+use proofs.Words.{ByDial, ByPeer, completed, cond, ends, Entry, eqb-true, Event, false}
+use proofs.Words.{first_broken, frame_checks, frame_taken, given, History, is_accepted, is_old_told}
+use proofs.Words.{is_open, is_peer, is_some, is_up, is_whole, IsPlayed, IsPlayedIn, IsStep}
+use proofs.Words.{judgement, leb-true, length, link_version, links, List, list_any, local_rows}
+use proofs.Words.{max_rows, Message2, message_checks, Name, None, not, opened, Opening, Option}
+use proofs.Words.{option_and_then, option_map_or, own_limit, PartKind, past, refl, Refused, Rule}
+use proofs.Words.{said_at, same, same_decides, Some, Start, start_of, subst, sym, Taken, taken}
+use proofs.Words.{Talk, talk, talk_of, tells, told, true, Verdict, ℕ, [], ◌&&◌, ◌++◌, ◌==◌, ◌||◌}
+use proofs.Words.{◌∙◌, ◌∷◌, ◌≡◌, ◌≤◌}
 use Rattle.std.specs.Prelude.{◌⊎◌}
 use Rattle.std.proofs.Common.{inl, inr}
-use Rattle.policy_audit.proofs.Accepted.{accepted, lie, open_first}
-use Rattle.policy_audit.proofs.Walked.{but, fresh, open_opened}
-use Rattle.policy_audit.proofs.Finished.{given_by, given_kept, whole_awaits}
-use Rattle.policy_audit.proofs.Effects.{entry_link}
-use Rattle.policy_audit.proofs.Heard.{has_discover}
-use Rattle.policy_audit.proofs.HeardNow.{only_stops, opening_heard, silent, stopped_heard}
-use Rattle.policy_audit.proofs.NewLinks.{opened_apart}
-use Rattle.policy_audit.proofs.KeptLinks.{opened_linked}
-use Rattle.policy_audit.proofs.FewRows.{fewer, Grows, step}
+use proofs.Accepted.{accepted, lie, open_first}
+use proofs.Walked.{but, fresh, open_opened}
+use proofs.Finished.{given_by, given_kept, whole_awaits}
+use proofs.Effects.{entry_link}
+use proofs.Heard.{has_discover}
+use proofs.HeardNow.{only_stops, opening_heard, silent, stopped_heard}
+use proofs.NewLinks.{opened_apart}
+use proofs.KeptLinks.{opened_linked}
+use proofs.FewRows.{fewer, Grows, step}
 
 -- the peer of link l is told in s, and the link is of version 1
 abbrev pub old_told : Opening → ℕ → List ℕ → List Entry → Bool

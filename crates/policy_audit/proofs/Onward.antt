@@ -1,19 +1,24 @@
 -- What an accepted frame makes of its own link.
-use Rattle.policy_audit.proofs.Words.{ap, arith, refl, subst, sym, ◌∙◌, eq-eqb, Bool, List, None, Option, Some, [], cond, false, get_or}
-use Rattle.policy_audit.proofs.Words.{is_some, length, true, ℕ, ◌++◌, ◌↔◌, ◌∷◌, ◌≡◌, Challenge, Name, challenge_frame, name_frame, History}
-use Rattle.policy_audit.proofs.Words.{is_accepted, ends, is_open, IsStep, AwaitAck, AwaitAnswer}
-use Rattle.policy_audit.proofs.Words.{AwaitChallenge, AwaitMessage}
-use Rattle.policy_audit.proofs.Words.{AwaitName, AwaitReply, AwaitStatus, Awaited, ByDial, ByPeer, Opened, Start, Taken, awaited_in, awaits}
-use Rattle.policy_audit.proofs.Words.{given, is_name_up, is_whole, opened, peer_of, taken, was_up, whole_side, Entry, Event}
-use Rattle.policy_audit.proofs.Accepted.{accepted, lie, peer_by}
-use Rattle.policy_audit.proofs.Finished.{awaited_by, given_by, is_message, message_whole, three_of, two_of, whole_awaits, whole_by}
-use Rattle.policy_audit.proofs.Effects.{by_made}
-use Rattle.policy_audit.proofs.Walked.{frame_fits, open_opened}
+use Rattle.policy_audit.proofs
+use proofs.Words.{ap, arith, AwaitAck, AwaitAnswer, AwaitChallenge, Awaited, awaited_in}
+use proofs.Words.{AwaitMessage, AwaitName, AwaitReply, awaits, AwaitStatus, Bool, ByDial, ByPeer}
+use proofs.Words.{Challenge, challenge_frame, cond, ends, Entry, eq-eqb, Event, false, get_or}
+use proofs.Words.{given, History, is_accepted, is_name_up, is_open, is_some, is_whole, IsStep}
+use proofs.Words.{length, List, Name, name_frame, None, Opened, opened, Option, peer_of, refl, Some}
+use proofs.Words.{Start, subst, sym, Taken, taken, true, was_up, whole_side, ℕ, [], ◌++◌, ◌↔◌, ◌∙◌}
+use proofs.Words.{◌∷◌, ◌≡◌}
+use proofs.Accepted.{accepted, lie, peer_by}
+use proofs.Finished.{awaited_by, given_by, is_message, message_whole, three_of, two_of}
+use proofs.Finished.{whole_awaits, whole_by}
+use proofs.Effects.{by_made}
+use proofs.Walked.{frame_fits, open_opened}
 
 -- ---- over plain frames
 
--- after one frame more these are what was given, the peer, what is awaited and whether the side is whole
-record Made (m : Taken) (oe : Option Opened) (ts : List Taken) (gave : Option Name) (of : Option (List ℕ)) (next : Awaited) (ends : Bool) : Type 0 where
+-- after one frame more these are what was given, the peer, what is awaited and whether the side is
+-- whole
+record Made (m : Taken) (oe : Option Opened) (ts : List Taken) (gave : Option Name)
+    (of : Option (List ℕ)) (next : Awaited) (ends : Bool) : Type 0 where
   given : given_by oe (ts ++ m ∷ []) ≡ gave
   peer : peer_by oe (ts ++ m ∷ []) ≡ of
   awaits : awaited_by oe (ts ++ m ∷ []) ≡ next
@@ -26,11 +31,14 @@ hello_of f = record { flags = f.flags; creation = f.creation; name = f.name; ver
 module _ (m : Taken) where
   -- what one frame more makes, by what was awaited
   abbrev Next : Option Opened → List Taken → Awaited → Type 0
-  Next oe ts AwaitName = (f : Name) → name_frame m.body ≡ Some f → Made m oe ts (Some f) (Some f.name) (cond (is_name_up f.name m.before) AwaitAnswer AwaitReply) false
+  Next oe ts AwaitName = (f : Name) → name_frame m.body ≡ Some f
+      → Made m oe ts (Some f) (Some f.name)
+      (cond (is_name_up f.name m.before) AwaitAnswer AwaitReply) false
   Next oe ts AwaitAnswer = Made m oe ts (given_by oe ts) (peer_by oe ts) AwaitReply false
   Next oe ts AwaitReply = Made m oe ts (given_by oe ts) (peer_by oe ts) AwaitMessage true
   Next oe ts AwaitStatus = Made m oe ts (given_by oe ts) (peer_by oe ts) AwaitChallenge false
-  Next oe ts AwaitChallenge = (f : Challenge) → challenge_frame m.body ≡ Some f → Made m oe ts (Some (hello_of f)) (peer_by oe ts) AwaitAck false
+  Next oe ts AwaitChallenge = (f : Challenge) → challenge_frame m.body ≡ Some f
+      → Made m oe ts (Some (hello_of f)) (peer_by oe ts) AwaitAck false
   Next oe ts AwaitAck = Made m oe ts (given_by oe ts) (peer_by oe ts) AwaitMessage true
   Next oe ts AwaitMessage = Made m oe ts (given_by oe ts) (peer_by oe ts) AwaitMessage true
 
@@ -41,12 +49,16 @@ module _ (m : Taken) where
   named : (bo : List Entry) (c : ℕ) → Next (from_peer bo c) [] AwaitName
   named bo c f q = grind arith
 
-  follows : (bo : List Entry) (c : ℕ) (a : Taken) (up : Bool) → was_up (a ∷ []) ≡ up → (ts : List Taken) → Next (from_peer bo c) (a ∷ ts) (get_or (whole_side (ByPeer c) up) (length (a ∷ ts)) AwaitMessage)
+  follows : (bo : List Entry) (c : ℕ) (a : Taken) (up : Bool) → was_up (a ∷ []) ≡ up
+      → (ts : List Taken)
+      → Next (from_peer bo c) (a ∷ ts)
+      (get_or (whole_side (ByPeer c) up) (length (a ∷ ts)) AwaitMessage)
   follows bo c a true u (b ∷ r ∷ ts) = grind (arith, three_of)
   follows bo c a false u (b ∷ ts) = grind (arith, two_of)
   follows bo c a up u ts = grind arith
 
-  next_in : (bo : List Entry) (s : Start) (ts : List Taken) → Next (Some (record { start = s; before = bo })) ts (awaited_in s ts)
+  next_in : (bo : List Entry) (s : Start) (ts : List Taken)
+      → Next (Some (record { start = s; before = bo })) ts (awaited_in s ts)
   next_in bo (ByPeer c) [] = named bo c
   next_in bo (ByPeer c) (a ∷ ts) = follows bo c a (was_up (a ∷ [])) refl ts
   next_in bo (ByDial n c) (a ∷ b ∷ r ∷ ts) = grind (arith, three_of)
@@ -59,7 +71,8 @@ module _ (m : Taken) where
 -- ---- of a link
 
 -- after an entry link l was opened as before, and the rest of it is this
-pub record IsOnward (l : ℕ) (es : List Entry) (e : Entry) (gave : Option Name) (of : Option (List ℕ)) (next : Awaited) (ends : Bool) : Type 0 where
+pub record IsOnward (l : ℕ) (es : List Entry) (e : Entry) (gave : Option Name)
+    (of : Option (List ℕ)) (next : Awaited) (ends : Bool) : Type 0 where
   pub opened : opened l (e ∷ es) ≡ opened l es
   pub given : given l (e ∷ es) ≡ gave
   pub peer : peer_of l (e ∷ es) ≡ of
@@ -76,7 +89,9 @@ module _ (h : History) (e : Entry) (made : IsStep h e) (yes : is_accepted e.verd
 
   -- its link is open
   pub frame_open : is_open l es ≡ true
-  frame_open = by_made h e (Event.Frame l body) (λ x. is_open l es ≡ true) made yes is (λ r q. (frame_fits h.opening es e.seat l body (accepted h e.seat (Event.Frame l body) r q).0).0)
+  frame_open = by_made h e (Event.Frame l body) (λ x. is_open l es ≡ true) made yes is
+      (λ r q. (frame_fits h.opening es e.seat l body
+      (accepted h e.seat (Event.Frame l body) r q).0).0)
 
   -- it is the newest of the link's frames
   same_opening : opened l (e ∷ es) ≡ opened l es
@@ -85,42 +100,61 @@ module _ (h : History) (e : Entry) (made : IsStep h e) (yes : is_accepted e.verd
   pub newest : taken l (e ∷ es) ≡ taken l es ++ moment ∷ []
   newest = grind (arith, eq-eqb l l)
 
-  onward : (gave : Option Name) (of : Option (List ℕ)) (next : Awaited) (ends : Bool) → Made moment (opened l es) (taken l es) gave of next ends → IsOnward l es e gave of next ends
+  onward : (gave : Option Name) (of : Option (List ℕ)) (next : Awaited) (ends : Bool)
+      → Made moment (opened l es) (taken l es) gave of next ends → IsOnward l es e gave of next ends
   onward gave of next ends m = grind (arith, same_opening, newest, m)
 
   it_makes : (a : Awaited) → awaits l es ≡ a → Next moment (opened l es) (taken l es) a
-  it_makes a q = subst (Next moment (opened l es) (taken l es)) q (next moment (opened l es) (taken l es) (open_opened l es frame_open))
+  it_makes a q = subst (Next moment (opened l es) (taken l es)) q
+      (next moment (opened l es) (taken l es) (open_opened l es frame_open))
 
-  pub name_taken : (f : Name) → awaits l es ≡ AwaitName → name_frame body ≡ Some f → IsOnward l es e (Some f) (Some f.name) (cond (is_name_up f.name es) AwaitAnswer AwaitReply) false
-  name_taken f q named = onward (Some f) (Some f.name) (cond (is_name_up f.name es) AwaitAnswer AwaitReply) false (it_makes AwaitName q f named)
+  pub name_taken : (f : Name) → awaits l es ≡ AwaitName → name_frame body ≡ Some f
+      → IsOnward l es e (Some f) (Some f.name) (cond (is_name_up f.name es) AwaitAnswer AwaitReply)
+      false
+  name_taken f q named =
+      onward (Some f) (Some f.name) (cond (is_name_up f.name es) AwaitAnswer AwaitReply) false
+      (it_makes AwaitName q f named)
 
-  pub answer_taken : awaits l es ≡ AwaitAnswer → IsOnward l es e (given l es) (peer_of l es) AwaitReply false
+  pub answer_taken : awaits l es ≡ AwaitAnswer
+      → IsOnward l es e (given l es) (peer_of l es) AwaitReply false
   answer_taken q = onward (given l es) (peer_of l es) AwaitReply false (it_makes AwaitAnswer q)
 
-  pub reply_taken : awaits l es ≡ AwaitReply → IsOnward l es e (given l es) (peer_of l es) AwaitMessage true
+  pub reply_taken : awaits l es ≡ AwaitReply
+      → IsOnward l es e (given l es) (peer_of l es) AwaitMessage true
   reply_taken q = onward (given l es) (peer_of l es) AwaitMessage true (it_makes AwaitReply q)
 
-  pub status_taken : awaits l es ≡ AwaitStatus → IsOnward l es e (given l es) (peer_of l es) AwaitChallenge false
+  pub status_taken : awaits l es ≡ AwaitStatus
+      → IsOnward l es e (given l es) (peer_of l es) AwaitChallenge false
   status_taken q = onward (given l es) (peer_of l es) AwaitChallenge false (it_makes AwaitStatus q)
 
-  pub challenge_taken : (f : Challenge) → awaits l es ≡ AwaitChallenge → challenge_frame body ≡ Some f → IsOnward l es e (Some (hello_of f)) (peer_of l es) AwaitAck false
-  challenge_taken f q asked = onward (Some (hello_of f)) (peer_of l es) AwaitAck false (it_makes AwaitChallenge q f asked)
+  pub challenge_taken : (f : Challenge) → awaits l es ≡ AwaitChallenge
+      → challenge_frame body ≡ Some f
+      → IsOnward l es e (Some (hello_of f)) (peer_of l es) AwaitAck false
+  challenge_taken f q asked =
+      onward (Some (hello_of f)) (peer_of l es) AwaitAck false (it_makes AwaitChallenge q f asked)
 
-  pub ack_taken : awaits l es ≡ AwaitAck → IsOnward l es e (given l es) (peer_of l es) AwaitMessage true
+  pub ack_taken : awaits l es ≡ AwaitAck
+      → IsOnward l es e (given l es) (peer_of l es) AwaitMessage true
   ack_taken q = onward (given l es) (peer_of l es) AwaitMessage true (it_makes AwaitAck q)
 
-  pub message_taken_on : awaits l es ≡ AwaitMessage → IsOnward l es e (given l es) (peer_of l es) AwaitMessage true
-  message_taken_on q = onward (given l es) (peer_of l es) AwaitMessage true (it_makes AwaitMessage q)
+  pub message_taken_on : awaits l es ≡ AwaitMessage
+      → IsOnward l es e (given l es) (peer_of l es) AwaitMessage true
+  message_taken_on q =
+      onward (given l es) (peer_of l es) AwaitMessage true (it_makes AwaitMessage q)
 
 -- ---- what an open link awaits
 
 module _ (l : ℕ) (es : List Entry) (opens : is_open l es ≡ true) where
   -- a message, exactly where its side is whole
   pub whole_is_message : (is_whole l es ≡ true) ↔ (awaits l es ≡ AwaitMessage)
-  whole_is_message = (λ w. whole_awaits (opened l es) (taken l es) w, λ q. message_whole (opened l es) (taken l es) (open_opened l es opens) (ap is_message q))
+  whole_is_message = (
+    λ w. whole_awaits (opened l es) (taken l es) w,
+    λ q. message_whole (opened l es) (taken l es) (open_opened l es opens) (ap is_message q),
+  )
 
   pub unwhole_awaits : is_whole l es ≡ false → is_message (awaits l es) ≡ false
-  unwhole_awaits w = grind (arith, message_whole (opened l es) (taken l es) (open_opened l es opens))
+  unwhole_awaits w =
+      grind (arith, message_whole (opened l es) (taken l es) (open_opened l es opens))
 
 -- link l was opened by its peer
 pub record IsByPeer (l : ℕ) (es : List Entry) : Type 0 where
@@ -149,7 +183,8 @@ is_diallers AwaitChallenge = true
 is_diallers AwaitAck = true
 is_diallers a = false
 
-peers : (c : ℕ) (up : Bool) (a : Taken) (ts : List Taken) → is_diallers (get_or (whole_side (ByPeer c) up) (length (a ∷ ts)) AwaitMessage) ≡ false
+peers : (c : ℕ) (up : Bool) (a : Taken) (ts : List Taken)
+    → is_diallers (get_or (whole_side (ByPeer c) up) (length (a ∷ ts)) AwaitMessage) ≡ false
 peers c true a (b ∷ r ∷ ts) = refl
 peers c false a (b ∷ ts) = refl
 peers c up a ts = refl
@@ -158,7 +193,8 @@ peers_in : (c : ℕ) (ts : List Taken) → is_diallers (awaited_in (ByPeer c) ts
 peers_in c [] = refl
 peers_in c (a ∷ ts) = peers c (was_up (a ∷ [])) a ts
 
-dials_in : (n : List ℕ) (c : ℕ) (ts : List Taken) → is_acceptors (awaited_in (ByDial n c) ts) ≡ false
+dials_in : (n : List ℕ) (c : ℕ) (ts : List Taken)
+    → is_acceptors (awaited_in (ByDial n c) ts) ≡ false
 dials_in n c (a ∷ b ∷ r ∷ ts) = refl
 dials_in n c ts = refl
 
@@ -170,9 +206,12 @@ module _ (l : ℕ) (es : List Entry) (opens : is_open l es ≡ true) where
       by None o = lie (sym (open_opened l es opens) ∙ ap is_some o)
       by (Some x) o = kind x.start o
         where
-          kind : (s : Start) → opened l es ≡ Some (record { start = s; before = x.before }) → IsByPeer l es
+          kind : (s : Start) → opened l es ≡ Some (record { start = s; before = x.before })
+              → IsByPeer l es
           kind (ByPeer c) o = record { challenge = c; before = x.before; opened = o }
-          kind (ByDial n c) o = lie (sym q ∙ ap (λ y. is_acceptors (awaited_by y (taken l es))) o ∙ dials_in n c (taken l es))
+          kind (ByDial n c) o =
+              lie (sym q ∙ ap (λ y. is_acceptors (awaited_by y (taken l es))) o
+              ∙ dials_in n c (taken l es))
 
   pub by_dial : is_diallers (awaits l es) ≡ true → IsByDial l es
   by_dial q = by (opened l es) refl
@@ -181,6 +220,15 @@ module _ (l : ℕ) (es : List Entry) (opens : is_open l es ≡ true) where
       by None o = lie (sym (open_opened l es opens) ∙ ap is_some o)
       by (Some x) o = kind x.start o
         where
-          kind : (s : Start) → opened l es ≡ Some (record { start = s; before = x.before }) → IsByDial l es
-          kind (ByPeer c) o = lie (sym q ∙ ap (λ y. is_diallers (awaited_by y (taken l es))) o ∙ peers_in c (taken l es))
-          kind (ByDial n c) o = record { peer = n; challenge = c; before = x.before; opened = o; peer_is = ap (λ y. peer_by y (taken l es)) o }
+          kind : (s : Start) → opened l es ≡ Some (record { start = s; before = x.before })
+              → IsByDial l es
+          kind (ByPeer c) o =
+              lie (sym q ∙ ap (λ y. is_diallers (awaited_by y (taken l es))) o
+              ∙ peers_in c (taken l es))
+          kind (ByDial n c) o = record {
+            peer = n;
+            challenge = c;
+            before = x.before;
+            opened = o;
+            peer_is = ap (λ y. peer_by y (taken l es)) o;
+          }

@@ -1,26 +1,24 @@
 -- The parts of a message, accepted in their order, put that one message among the messages of their
 -- link.
-use Rattle.policy_audit.proofs.Words.{ap, arith, refl, subst, sym, ◌∙◌, option_map_or}
-use Rattle.policy_audit.proofs.Words.{option_and_then, Bool, List, None, Option, Some}
-use Rattle.policy_audit.proofs.Words.{[], cond, false, true, ℕ, ◌&&◌, ◌++◌, ◌==◌, ◌∷◌, ◌≡◌}
-use Rattle.policy_audit.proofs.Words.{same, Message, Message2, Begun}
-use Rattle.policy_audit.proofs.Words.{begun_after, completed, begun, frame_taken, kept_after, talk}
-use Rattle.policy_audit.proofs.Words.{talk_of, is_whole, is_accepted}
-use Rattle.policy_audit.proofs.Words.{Entry, Verdict, Accepted, Refused, Event, Opening, Reply}
-use Rattle.policy_audit.proofs.Words.{flat_map, said_at, same_sym}
-use Rattle.std.specs.Prelude.{◌⊎◌, reverse}
+use Rattle.policy_audit.proofs
+use Rattle.policy_audit.specs
+use proofs.Words.{Accepted, ap, arith, Begun, begun, begun_after, Bool, completed, cond, Entry}
+use proofs.Words.{Event, false, flat_map, frame_taken, is_accepted, is_whole, kept_after, List}
+use proofs.Words.{Message, Message2, None, Opening, Option, option_and_then, option_map_or, refl}
+use proofs.Words.{Refused, Reply, said_at, same, same_sym, Some, subst, sym, talk, talk_of, true}
+use proofs.Words.{Verdict, ℕ, [], ◌&&◌, ◌++◌, ◌==◌, ◌∙◌, ◌∷◌, ◌≡◌}
+use Rattle.std.specs.Prelude.{reverse, ◌⊎◌}
 use Rattle.std.specs.Option.{option_to_list}
-use Rattle.std.proofs.Common.{inl, inr, append-nil, append_assoc}
+use Rattle.std.proofs.Common.{append-nil, append_assoc, inl, inr}
 use Rattle.std.proofs.lemmas.List.{reverse-append}
-use Rattle.policy_audit.specs.Hearing.{Talk}
-use Rattle.policy_audit.specs.Parted.{scope_of, message_in, messages, takes, taken_behind, disturbs}
-use Rattle.policy_audit.specs.Parted.{AreUndisturbed}
-use Rattle.link_frames.specs.Parts.{completed_by, begun_by, comes_next, AreInOrder, parts}
-use Rattle.link_frames.proofs.PartOrders.{begins_in_order, begins_about, begun_by_more}
-use Rattle.link_frames.proofs.PartOrders.{completed_by_more, last_in_order, first_begins}
-use Rattle.link_frames.proofs.PartOrders.{first_completes, AreAbout, IsKeptOf, kept_about}
-use Rattle.link_frames.proofs.PartOrders.{scope_said, parts_about, parts_alone, alone_in_order}
-use Rattle.policy_audit.proofs.Walked.{but}
+use specs.Hearing.{Talk}
+use specs.Parted.{AreUndisturbed, disturbs, message_in, messages, scope_of, taken_behind, takes}
+use Rattle.link_frames.specs.Parts.{AreInOrder, begun_by, comes_next, completed_by, parts}
+use Rattle.link_frames.proofs.PartOrders.{alone_in_order, AreAbout, begins_about, begins_in_order}
+use Rattle.link_frames.proofs.PartOrders.{begun_by_more, completed_by_more, first_begins}
+use Rattle.link_frames.proofs.PartOrders.{first_completes, IsKeptOf, kept_about, last_in_order}
+use Rattle.link_frames.proofs.PartOrders.{parts_about, parts_alone, scope_said}
+use proofs.Walked.{but}
 
 reverse_more : {A : Type 0} (xs : List A) (o : Option A)
     → reverse (xs ++ option_to_list o) ≡ option_to_list o ++ reverse xs

@@ -1,19 +1,17 @@
--- Which frames the events of scopes and processes owe to links; and the links after an opening and a Restart.
-use Rattle.policy_audit.proofs.Walked.{fresh}
-use Rattle.policy_audit.proofs.KeptLinks.{unopened_waiting}
-use Rattle.policy_audit.proofs.Words.{arith, refl, sym, ◌∙◌, eq-eqb, append-nil, filter, flat_map}
-use Rattle.policy_audit.proofs.Words.{Bool, List, [], false, map, min}
-use Rattle.policy_audit.proofs.Words.{true, ℕ, ◌++◌, ◌∷◌, ◌≡◌, listing, mentions, same_pid, pid_cmp}
-use Rattle.policy_audit.proofs.Words.{Pid, Message, local_rows, row}
-use Rattle.policy_audit.proofs.Words.{tells, History, is_accepted, is_open, OutFrame, if_told, if_visible, is_kept, owed, own_name_frame}
-use Rattle.policy_audit.proofs.Words.{waiting, own, running_scopes, IsStep, IsPlayed, judgement}
-use Rattle.policy_audit.proofs.Words.{just, Entry, Accepted, Event, Reply}
-use Rattle.policy_audit.proofs.Walked.{but}
-use Rattle.policy_audit.proofs.Effects.{by_made}
-use Rattle.policy_audit.proofs.KeptLinks.{unowed}
-use Rattle.policy_audit.proofs.KeptNumbers.{kept_numbers}
-use Rattle.policy_audit.proofs.LinkFrames.{IsLinkNow}
-use Rattle.policy_audit.proofs.LinksLeft.{links_left, numbers_left}
+-- Which frames the events of scopes and processes owe to links; and the links after an opening and
+-- a Restart.
+use Rattle.policy_audit.proofs
+use proofs.Walked.{but, fresh}
+use proofs.KeptLinks.{unopened_waiting, unowed}
+use proofs.Words.{Accepted, append-nil, arith, Bool, Entry, eq-eqb, Event, false, filter, flat_map}
+use proofs.Words.{History, if_told, if_visible, is_accepted, is_kept, is_open, IsPlayed, IsStep}
+use proofs.Words.{judgement, just, List, listing, local_rows, map, mentions, Message, min, OutFrame}
+use proofs.Words.{owed, own, own_name_frame, Pid, pid_cmp, refl, Reply, row, running_scopes}
+use proofs.Words.{same_pid, sym, tells, true, waiting, ℕ, [], ◌++◌, ◌∙◌, ◌∷◌, ◌≡◌}
+use proofs.Effects.{by_made}
+use proofs.KeptNumbers.{kept_numbers}
+use proofs.LinkFrames.{IsLinkNow}
+use proofs.LinksLeft.{links_left, numbers_left}
 
 -- the event is of a scope or a process, and is told to links
 abbrev pub is_told : Event → Bool
@@ -26,14 +24,18 @@ is_told ev = false
 
 -- the rows of a process that ended, scope by scope
 abbrev pub exit_frames : History → Pid → ℕ → List OutFrame
-exit_frames h p l = flat_map (λ s. if_told h l s (Message.Leave s) (filter (λ w. same_pid w.pid p) (local_rows h s))) (running_scopes h)
+exit_frames h p l =
+    flat_map (λ s. if_told h l s (Message.Leave s)
+    (filter (λ w. same_pid w.pid p) (local_rows h s))) (running_scopes h)
 
 module _ (h : History) (e : Entry) (made : IsStep h e) (yes : is_accepted e.verdict ≡ true) where
   abbrev k : History
   k = just h e
 
-  -- it ends no link, and what it owes waits behind the rest; to a link that isn't open nothing is owed
-  told_links : (ev : Event) → e.event ≡ ev → is_told ev ≡ true → (more : ℕ → List OutFrame) → ((r : Reply) (l : ℕ) → owed h l e.number ev (Accepted r) ≡ more l) → (l : ℕ)
+  -- it ends no link, and what it owes waits behind the rest; to a link that isn't open nothing is
+  -- owed
+  told_links : (ev : Event) → e.event ≡ ev → is_told ev ≡ true → (more : ℕ → List OutFrame)
+      → ((r : Reply) (l : ℕ) → owed h l e.number ev (Accepted r) ≡ more l) → (l : ℕ)
       → IsLinkNow k l (is_open l h.entries) (waiting h l ++ more l) (is_kept h l)
   told_links ev is tells more owes l =
       by_made h e ev
@@ -45,28 +47,48 @@ module _ (h : History) (e : Entry) (made : IsStep h e) (yes : is_accepted e.verd
           → IsLinkNow (just h (but e ev (Accepted r))) l (is_open l h.entries)
           (waiting h l ++ more l) (is_kept h l)
       by ev t r q m =
-          let none : is_open l h.entries ≡ false → more l ≡ [] = λ o. sym m ∙ unowed h.opening h.entries l o e ev (Accepted r) q (grind arith) in
+          let none : is_open l h.entries ≡ false → more l ≡ [] =
+          λ o. sym m ∙ unowed h.opening h.entries l o e ev (Accepted r) q (grind arith) in
           grind (arith, append-nil, none, m)
 
-  pub started_links : (s : List ℕ) → e.event ≡ Event.StartScope s → (l : ℕ) → IsLinkNow k l (is_open l h.entries) (waiting h l ++ if_visible h l (Message.Discover s)) (is_kept h l)
-  started_links s is l = told_links (Event.StartScope s) is refl (λ j. if_visible h j (Message.Discover s)) (λ r j. refl) l
+  pub started_links : (s : List ℕ) → e.event ≡ Event.StartScope s → (l : ℕ)
+      → IsLinkNow k l (is_open l h.entries) (waiting h l ++ if_visible h l (Message.Discover s))
+      (is_kept h l)
+  started_links s is l =
+      told_links (Event.StartScope s) is refl (λ j. if_visible h j (Message.Discover s))
+      (λ r j. refl) l
 
-  pub stopped_links : (s : List ℕ) → e.event ≡ Event.StopScope s → (l : ℕ) → IsLinkNow k l (is_open l h.entries) (waiting h l ++ if_visible h l (Message.Down s)) (is_kept h l)
-  stopped_links s is l = told_links (Event.StopScope s) is refl (λ j. if_visible h j (Message.Down s)) (λ r j. refl) l
+  pub stopped_links : (s : List ℕ) → e.event ≡ Event.StopScope s → (l : ℕ)
+      → IsLinkNow k l (is_open l h.entries) (waiting h l ++ if_visible h l (Message.Down s))
+      (is_kept h l)
+  stopped_links s is l =
+      told_links (Event.StopScope s) is refl (λ j. if_visible h j (Message.Down s)) (λ r j. refl) l
 
-  pub exited_links : (p : Pid) → e.event ≡ Event.Exit p → (l : ℕ) → IsLinkNow k l (is_open l h.entries) (waiting h l ++ exit_frames h p l) (is_kept h l)
+  pub exited_links : (p : Pid) → e.event ≡ Event.Exit p → (l : ℕ)
+      → IsLinkNow k l (is_open l h.entries) (waiting h l ++ exit_frames h p l) (is_kept h l)
   exited_links p is l = told_links (Event.Exit p) is refl (λ j. exit_frames h p j) (λ r j. refl) l
 
   pub joined_links : (s g : List ℕ) (ps : List Pid) → e.event ≡ Event.Join s g ps → (l : ℕ)
-      → IsLinkNow k l (is_open l h.entries) (waiting h l ++ if_told h l s (Message.Join s) (map (row g) (listing pid_cmp (λ p. mentions p ps) ps))) (is_kept h l)
-  joined_links s g ps is l = told_links (Event.Join s g ps) is refl (λ j. if_told h j s (Message.Join s) (map (row g) (listing pid_cmp (λ p. mentions p ps) ps))) (λ r j. refl) l
+      → IsLinkNow k l (is_open l h.entries)
+      (waiting h l ++ if_told h l s (Message.Join s)
+      (map (row g) (listing pid_cmp (λ p. mentions p ps) ps))) (is_kept h l)
+  joined_links s g ps is l =
+      told_links (Event.Join s g ps) is refl
+      (λ j. if_told h j s (Message.Join s) (map (row g) (listing pid_cmp (λ p. mentions p ps) ps)))
+      (λ r j. refl) l
 
   pub left_links : (s g : List ℕ) (ps : List Pid) → e.event ≡ Event.Leave s g ps → (l : ℕ)
-      → IsLinkNow k l (is_open l h.entries) (waiting h l ++ if_told h l s (Message.Leave s) (map (row g) (listing pid_cmp (λ p. min (mentions p ps) (own h s g p)) ps))) (is_kept h l)
-  left_links s g ps is l = told_links (Event.Leave s g ps) is refl (λ j. if_told h j s (Message.Leave s) (map (row g) (listing pid_cmp (λ p. min (mentions p ps) (own h s g p)) ps))) (λ r j. refl) l
+      → IsLinkNow k l (is_open l h.entries)
+      (waiting h l ++ if_told h l s (Message.Leave s)
+      (map (row g) (listing pid_cmp (λ p. min (mentions p ps) (own h s g p)) ps))) (is_kept h l)
+  left_links s g ps is l =
+      told_links (Event.Leave s g ps) is refl
+      (λ j. if_told h j s (Message.Leave s)
+      (map (row g) (listing pid_cmp (λ p. min (mentions p ps) (own h s g p)) ps))) (λ r j. refl) l
 
   -- the same links are kept after all of these
-  pub told_numbers : is_told e.event ≡ true → ((l : ℕ) → is_kept k l ≡ is_kept h l) → kept_numbers k ≡ kept_numbers h
+  pub told_numbers : is_told e.event ≡ true → ((l : ℕ) → is_kept k l ≡ is_kept h l)
+      → kept_numbers k ≡ kept_numbers h
   told_numbers tells each = numbers_left h k (links_left h.entries e (grind arith)) each
 
   -- ---- a new link
@@ -80,5 +102,6 @@ module _ (h : History) (e : Entry) (made : IsStep h e) (yes : is_accepted e.verd
     opened_waiting c is = grind (arith, none_yet)
 
     -- to an own dial the own Name is owed
-    pub dialled_waiting : (n : List ℕ) (c : ℕ) → e.event ≡ Event.Dial n c → waiting k e.number ≡ own_name_frame h ∷ []
+    pub dialled_waiting : (n : List ℕ) (c : ℕ) → e.event ≡ Event.Dial n c
+        → waiting k e.number ≡ own_name_frame h ∷ []
     dialled_waiting n c is = grind (arith, none_yet, eq-eqb e.number e.number)

@@ -1,18 +1,23 @@
 -- Which scopes run, after each start and each stop.
-use Rattle.policy_audit.proofs.Words.{ap, arith, refl, sym, ◌∙◌, exact_bytes, filter, flat_map, Bool, List, [], not, true, ℕ, ◌&&◌, ◌||◌}
-use Rattle.policy_audit.proofs.Words.{◌∷◌, ◌≡◌, ascending_rises, ascending_stands, same_rising, same_decides, same_sym, texts_total, Rises}
-use Rattle.policy_audit.proofs.Words.{ascending, is_among, placed, same, text_cmp, History, events, is_accepted, is_running, running_scopes}
-use Rattle.policy_audit.proofs.Words.{scopes_started, just, Entry, Event}
-use Rattle.policy_audit.proofs.Lists.{filter_rises}
-use Rattle.policy_audit.proofs.ChangeLemmas.{was_started}
+use Rattle.policy_audit.proofs
+use proofs.Words.{ap, arith, ascending, ascending_rises, ascending_stands, Bool, Entry, Event}
+use proofs.Words.{events, exact_bytes, filter, flat_map, History, is_accepted, is_among, is_running}
+use proofs.Words.{just, List, not, placed, refl, Rises, running_scopes, same, same_decides}
+use proofs.Words.{same_rising, same_sym, scopes_started, sym, text_cmp, texts_total, true, ℕ, []}
+use proofs.Words.{◌&&◌, ◌||◌, ◌∙◌, ◌∷◌, ◌≡◌}
+use proofs.Lists.{filter_rises}
+use proofs.ChangeLemmas.{was_started}
 
 -- ---- rising lists of texts
 
 -- those in which the same stand are the same
-pub one_rising : (xs ys : List (List ℕ)) → Rises text_cmp xs → Rises text_cmp ys → ((s : List ℕ) → is_among s xs ≡ is_among s ys) → xs ≡ ys
-one_rising xs ys rx ry m = same_rising text_cmp same texts_total exact_bytes same_decides xs ys rx ry m
+pub one_rising : (xs ys : List (List ℕ)) → Rises text_cmp xs → Rises text_cmp ys
+    → ((s : List ℕ) → is_among s xs ≡ is_among s ys) → xs ≡ ys
+one_rising xs ys rx ry m =
+    same_rising text_cmp same texts_total exact_bytes same_decides xs ys rx ry m
 
-pub rising_stands : (s : List ℕ) (xs : List (List ℕ)) → is_among s (ascending text_cmp xs) ≡ is_among s xs
+pub rising_stands : (s : List ℕ) (xs : List (List ℕ))
+    → is_among s (ascending text_cmp xs) ≡ is_among s xs
 rising_stands s xs = ascending_stands text_cmp same texts_total exact_bytes same_decides s xs
 
 pub rising : (xs : List (List ℕ)) → Rises text_cmp (ascending text_cmp xs)
@@ -23,19 +28,28 @@ pub rising_is : (xs : List (List ℕ)) → Rises text_cmp xs → ascending text_
 rising_is xs r = one_rising (ascending text_cmp xs) xs (rising xs) r (λ s. rising_stands s xs)
 
 -- who stands in what a filter leaves
-pub among_left : (test : List ℕ → Bool) (s : List ℕ) (xs : List (List ℕ)) → is_among s (filter test xs) ≡ (is_among s xs && test s)
+pub among_left : (test : List ℕ → Bool) (s : List ℕ) (xs : List (List ℕ))
+    → is_among s (filter test xs) ≡ (is_among s xs && test s)
 among_left test s [] = refl
 among_left test s (x ∷ xs) = grind (arith, among_left test s xs, same_decides x s)
 
 -- ---- the scopes that run
 
 pub running_rises : (h : History) → Rises text_cmp (running_scopes h)
-running_rises h = filter_rises text_cmp (is_running h) (ascending text_cmp (flat_map scopes_started (events h.entries))) (rising (flat_map scopes_started (events h.entries)))
+running_rises h =
+    filter_rises text_cmp (is_running h)
+    (ascending text_cmp (flat_map scopes_started (events h.entries)))
+    (rising (flat_map scopes_started (events h.entries)))
 
 pub running_among : (h : History) (s : List ℕ) → is_among s (running_scopes h) ≡ is_running h s
 running_among h s =
     let all : List (List ℕ) = flat_map scopes_started (events h.entries) in
-    grind (arith, among_left (is_running h) s (ascending text_cmp all), rising_stands s all, was_started s (events h.entries))
+    grind (
+      arith,
+      among_left (is_running h) s (ascending text_cmp all),
+      rising_stands s all,
+      was_started s (events h.entries),
+    )
 
 module _ (h : History) (e : Entry) (yes : is_accepted e.verdict ≡ true) (s : List ℕ) where
   -- whether a scope runs, after a start or a stop of s

@@ -1,28 +1,22 @@
 -- How few frames wait in a history that the policy makes, and which entries have no losses there.
-use Rattle.policy_audit.proofs.Words.{ap, arith, refl, subst, sym, ◌∙◌, append-nil, length-append}
-use Rattle.policy_audit.proofs.Words.{eqb-true, ltb-true, filter}
-use Rattle.policy_audit.proofs.Words.{option_map_or, Bool, List, None, Option, Some, [], cond}
-use Rattle.policy_audit.proofs.Words.{false, length, map, nat_lt}
-use Rattle.policy_audit.proofs.Words.{same, not, true, ℕ, ◌&&◌, ◌++◌, ◌+◌, ◌==◌, ◌∷◌, ◌≡◌, ◌≤◌}
-use Rattle.policy_audit.proofs.Words.{placed, text_cmp, History, past}
-use Rattle.policy_audit.proofs.Words.{is_accepted, is_open, is_whole, links, opened, awaits}
-use Rattle.policy_audit.proofs.Words.{frame_taken, running_scopes, checks}
-use Rattle.policy_audit.proofs.Words.{waiting, waiting_in, frame_owes, message_owes, discovers}
-use Rattle.policy_audit.proofs.Words.{asks, may_tell, lose, just}
-use Rattle.policy_audit.proofs.Words.{is_slow, max_waiting, slow_links, with_entry, IsLegal}
-use Rattle.policy_audit.proofs.Words.{IsPlayed, IsPlayedIn, IsStep}
-use Rattle.policy_audit.proofs.Words.{Awaited, AwaitName, AwaitAnswer, AwaitReply, AwaitStatus}
-use Rattle.policy_audit.proofs.Words.{AwaitChallenge}
-use Rattle.policy_audit.proofs.Words.{AwaitAck, AwaitMessage, Entry, Verdict, Accepted, Refused}
-use Rattle.policy_audit.proofs.Words.{Event, Message2, Opening}
-use Rattle.policy_audit.proofs.Accepted.{lie, accepted, all_hold, unbroken}
-use Rattle.policy_audit.proofs.Walked.{but, fresh}
-use Rattle.policy_audit.proofs.Finished.{is_message}
-use Rattle.policy_audit.proofs.KeptLinks.{unopened_waiting}
-use Rattle.policy_audit.proofs.Onward.{frame_open, whole_is_message, unwhole_awaits}
-use Rattle.policy_audit.proofs.ScopesNow.{running_started, running_stopped}
-use Rattle.policy_audit.proofs.Losses.{few_wait, legal_few, legal_played}
-use Rattle.policy_audit.proofs.Early.{closed_few, early, own_open}
+use Rattle.policy_audit.proofs
+use proofs.Words.{Accepted, ap, append-nil, arith, asks, AwaitAck, AwaitAnswer, AwaitChallenge}
+use proofs.Words.{Awaited, AwaitMessage, AwaitName, AwaitReply, awaits, AwaitStatus, Bool, checks}
+use proofs.Words.{cond, discovers, Entry, eqb-true, Event, false, filter, frame_owes, frame_taken}
+use proofs.Words.{History, is_accepted, is_open, is_slow, is_whole, IsLegal, IsPlayed, IsPlayedIn}
+use proofs.Words.{IsStep, just, length, length-append, links, List, lose, ltb-true, map}
+use proofs.Words.{max_waiting, may_tell, Message2, message_owes, nat_lt, None, not, opened, Opening}
+use proofs.Words.{Option, option_map_or, past, placed, refl, Refused, running_scopes, same}
+use proofs.Words.{slow_links, Some, subst, sym, text_cmp, true, Verdict, waiting, waiting_in}
+use proofs.Words.{with_entry, ℕ, [], ◌&&◌, ◌++◌, ◌+◌, ◌==◌, ◌∙◌, ◌∷◌, ◌≡◌, ◌≤◌}
+use proofs.Accepted.{accepted, all_hold, lie, unbroken}
+use proofs.Walked.{but, fresh}
+use proofs.Finished.{is_message}
+use proofs.KeptLinks.{unopened_waiting}
+use proofs.Onward.{frame_open, unwhole_awaits, whole_is_message}
+use proofs.ScopesNow.{running_started, running_stopped}
+use proofs.Losses.{few_wait, legal_few, legal_played}
+use proofs.Early.{closed_few, early, own_open}
 
 -- ---- how few wait
 

@@ -1,15 +1,15 @@
 -- A refused entry leaves all as it was.
-use Rattle.policy_audit.proofs.Words.{with_entry}
-use Rattle.policy_audit.proofs.Words.{ap, arith, refl, sym, ◌∙◌, append-nil, flat_map, option_map_or, List, None, [], cond, false, ℕ, ◌++◌}
-use Rattle.policy_audit.proofs.Words.{◌≡◌, GroupChange, IsChange, groups_in, IsAsOpen, IsUntouched, History, is_accepted, listed, Target}
-use Rattle.policy_audit.proofs.Words.{group_updates, is_watched, monitor, updates_since, IsNext}
-use Rattle.policy_audit.proofs.Words.{just, frame_of, Entry, Verdict}
-use Rattle.policy_audit.proofs.Words.{Accepted, Refused, Event, Rule}
-use Rattle.policy_audit.proofs.Accepted.{lie}
-use Rattle.policy_audit.proofs.Walked.{but}
-use Rattle.policy_audit.proofs.Effects.{rows_left}
-use Rattle.policy_audit.proofs.ChangeLemmas.{no_change}
-use Rattle.policy_audit.proofs.OneDifference.{one_group_difference}
+use Rattle.policy_audit.proofs
+use proofs.Words.{Accepted, ap, append-nil, arith, cond, Entry, Event, false, flat_map, frame_of}
+use proofs.Words.{group_updates, GroupChange, groups_in, History, is_accepted, is_watched, IsAsOpen}
+use proofs.Words.{IsChange, IsNext, IsUntouched, just, List, listed, monitor, None, option_map_or}
+use proofs.Words.{refl, Refused, Rule, sym, Target, updates_since, Verdict, with_entry, ℕ, [], ◌++◌}
+use proofs.Words.{◌∙◌, ◌≡◌}
+use proofs.Accepted.{lie}
+use proofs.Walked.{but}
+use proofs.Effects.{rows_left}
+use proofs.ChangeLemmas.{no_change}
+use proofs.OneDifference.{one_group_difference}
 
 module _ (h : History) (e : Entry) (r : Rule) where
   abbrev fr : Event → Entry
@@ -19,10 +19,16 @@ module _ (h : History) (e : Entry) (r : Rule) where
   kk ev = just h (fr ev)
 
   none_moved : (ev : Event) → IsChange h (kk ev) e.change → (s : List ℕ) → groups_in s e.change ≡ []
-  none_moved ev c s = one_group_difference (listed h s) (listed (kk ev) s) (groups_in s e.change) [] (c.groups s) ((no_change h (kk ev) (λ t g p. sym (rows_left h e ev (Refused r) refl t g p))).groups s)
+  none_moved ev c s =
+      one_group_difference (listed h s) (listed (kk ev) s) (groups_in s e.change) [] (c.groups s)
+      ((no_change h (kk ev) (λ t g p. sym (rows_left h e ev (Refused r) refl t g p))).groups s)
 
-  nothing_told : (ev : Event) → IsChange h (kk ev) e.change → (seat n : ℕ) (t : Target) → updates_since seat n t (kk ev).entries ≡ updates_since seat n t h.entries
-  nothing_told ev c seat n t = ap (λ (cs : List GroupChange). updates_since seat n t h.entries ++ flat_map (λ d. cond (is_watched t.group d) (group_updates d) []) cs) (none_moved ev c t.scope) ∙ append-nil (updates_since seat n t h.entries)
+  nothing_told : (ev : Event) → IsChange h (kk ev) e.change → (seat n : ℕ) (t : Target)
+      → updates_since seat n t (kk ev).entries ≡ updates_since seat n t h.entries
+  nothing_told ev c seat n t =
+      ap (λ (cs : List GroupChange). updates_since seat n t h.entries
+      ++ flat_map (λ d. cond (is_watched t.group d) (group_updates d) []) cs)
+      (none_moved ev c t.scope) ∙ append-nil (updates_since seat n t h.entries)
 
   refused_leaves : (ev : Event) → IsChange h (kk ev) e.change → IsUntouched h (kk ev)
   refused_leaves ev c = record {
@@ -54,13 +60,17 @@ module _ (h : History) (e : Entry) (r : Rule) where
     own = λ s g p. refl;
     listed = λ s g p. rows_left h e ev (Refused r) refl s g p;
     monitors = λ seat n. refl;
-    updates = λ seat n. ap (λ f. option_map_or f (monitor h seat n) []) (λ i t. nothing_told ev c seat n t i);
+    updates = λ seat n. ap (λ f. option_map_or f (monitor h seat n) [])
+        (λ i t. nothing_told ev c seat n t i);
   }
 
-pub entry_leaves : (h : History) (e : Entry) → IsNext h e → is_accepted e.verdict ≡ false → IsUntouched h (with_entry h e)
+pub entry_leaves : (h : History) (e : Entry) → IsNext h e → is_accepted e.verdict ≡ false
+    → IsUntouched h (with_entry h e)
 entry_leaves h e next q = by e.verdict q next.change
   where
-    by : (v : Verdict) → is_accepted v ≡ false → IsChange h (with_entry h (but e e.event v)) e.change → IsUntouched h (with_entry h (but e e.event v))
+    by : (v : Verdict) → is_accepted v ≡ false
+        → IsChange h (with_entry h (but e e.event v)) e.change
+        → IsUntouched h (with_entry h (but e e.event v))
     by (Accepted r) q c = lie q
     by (Refused r) q c = refused_leaves h e r e.event c
 

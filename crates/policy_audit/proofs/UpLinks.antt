@@ -1,15 +1,14 @@
 -- The present link of a peer is the one link of it that is up.
-use Rattle.policy_audit.proofs.Words.{ap, arith, refl, subst, sym, ◌∙◌, eq-eqb, eqb-true, option_map_or, unwrap_or, Bool, List, None}
-use Rattle.policy_audit.proofs.Words.{Option, Some, [], cond, false, not, true, ℕ, ◌&&◌, ◌==◌, ◌||◌}
-use Rattle.policy_audit.proofs.Words.{◌↔◌, ◌∷◌, ◌≡◌}
-use Rattle.policy_audit.proofs.Words.{same_decides, same_sym, same, past, frame_ends, gives_up}
-use Rattle.policy_audit.proofs.Words.{is_open, is_up, IsPlayedIn, up_answer}
-use Rattle.policy_audit.proofs.Words.{judgement, ByDial, ByPeer, Opened, Start, Taken, awaits}
-use Rattle.policy_audit.proofs.Words.{is_last, is_peer, is_visible, is_whole, opened}
-use Rattle.policy_audit.proofs.Words.{peer_of, present_link, taken, Entry, Verdict, Accepted, Refused, Event, Opening, Reply}
-use Rattle.policy_audit.proofs.Accepted.{lie, no_value, accepted, peer_by}
-use Rattle.policy_audit.proofs.Walked.{but, fresh, Far, far, frame_fits}
-use Rattle.policy_audit.proofs.Finished.{whole_by, stays, kept, Completed, completed}
+use Rattle.policy_audit.proofs
+use proofs.Words.{Accepted, ap, arith, awaits, Bool, ByDial, ByPeer, cond, Entry, eq-eqb, eqb-true}
+use proofs.Words.{Event, false, frame_ends, gives_up, is_last, is_open, is_peer, is_up, is_visible}
+use proofs.Words.{is_whole, IsPlayedIn, judgement, List, None, not, Opened, opened, Opening, Option}
+use proofs.Words.{option_map_or, past, peer_of, present_link, refl, Refused, Reply, same}
+use proofs.Words.{same_decides, same_sym, Some, Start, subst, sym, Taken, taken, true, unwrap_or}
+use proofs.Words.{up_answer, Verdict, ℕ, [], ◌&&◌, ◌==◌, ◌||◌, ◌↔◌, ◌∙◌, ◌∷◌, ◌≡◌}
+use proofs.Accepted.{accepted, lie, no_value, peer_by}
+use proofs.Walked.{but, Far, far, frame_fits, fresh}
+use proofs.Finished.{Completed, completed, kept, stays, whole_by}
 
 -- ---- Booleans
 
@@ -36,23 +35,32 @@ was_before e o p q = grind arith
 
 -- of a name: its present link is each link of it that is up
 abbrev pub Agrees : List Entry → List ℕ → Type 0
-Agrees es n = (l : ℕ) → (present_link n es ≡ Some l) ↔ ((is_up l es ≡ true) × (peer_of l es ≡ Some n))
+Agrees es n = (l : ℕ)
+    → (present_link n es ≡ Some l) ↔ ((is_up l es ≡ true) × (peer_of l es ≡ Some n))
 
 module _ (es : List Entry) (n : List ℕ) where
   -- an entry that leaves the links that are up
-  pub unchanged : (x : Entry) → present_link n (x ∷ es) ≡ present_link n es → ((l : ℕ) → is_up l (x ∷ es) ≡ is_up l es)
-      → ((l : ℕ) → is_up l es ≡ true → peer_of l (x ∷ es) ≡ peer_of l es) → Agrees es n → Agrees (x ∷ es) n
-  unchanged x a b c p l = (λ q. grind (arith, a, b l, c l, p l), λ w. grind (arith, a, b l, c l, p l))
+  pub unchanged : (x : Entry) → present_link n (x ∷ es) ≡ present_link n es
+      → ((l : ℕ) → is_up l (x ∷ es) ≡ is_up l es)
+      → ((l : ℕ) → is_up l es ≡ true → peer_of l (x ∷ es) ≡ peer_of l es) → Agrees es n
+      → Agrees (x ∷ es) n
+  unchanged x a b c p l =
+      (λ q. grind (arith, a, b l, c l, p l), λ w. grind (arith, a, b l, c l, p l))
 
   -- an entry that ends some links, and takes away the present one of n where `gone`
-  pub fewer : (x : Entry) (ended : ℕ → Bool) (gone : Bool) → present_link n (x ∷ es) ≡ cond gone None (present_link n es)
-      → ((l : ℕ) → is_up l (x ∷ es) ≡ ((not (ended l) && is_open l es) && is_whole l es)) → ((l : ℕ) → peer_of l (x ∷ es) ≡ peer_of l es)
-      → ((l : ℕ) → present_link n es ≡ Some l → peer_of l es ≡ Some n → is_whole l es ≡ true → ended l ≡ gone)
+  pub fewer : (x : Entry) (ended : ℕ → Bool) (gone : Bool)
+      → present_link n (x ∷ es) ≡ cond gone None (present_link n es)
+      → ((l : ℕ) → is_up l (x ∷ es) ≡ ((not (ended l) && is_open l es) && is_whole l es))
+      → ((l : ℕ) → peer_of l (x ∷ es) ≡ peer_of l es)
+      → ((l : ℕ) → present_link n es ≡ Some l → peer_of l es ≡ Some n → is_whole l es ≡ true
+      → ended l ≡ gone)
       → Agrees es n → Agrees (x ∷ es) n
-  fewer x ended gone a b c both p l = (λ q. grind (arith, a, b l, c l, both l, p l), λ w. grind (arith, a, b l, c l, both l, p l))
+  fewer x ended gone a b c both p l =
+      (λ q. grind (arith, a, b l, c l, both l, p l), λ w. grind (arith, a, b l, c l, both l, p l))
 
 -- a refused frame ends no link that is up
-pub refused_up : (es : List Entry) (k l : ℕ) → ((not (k == l && not (is_whole l es)) && is_open l es) && is_whole l es) ≡ is_up l es
+pub refused_up : (es : List Entry) (k l : ℕ)
+    → ((not (k == l && not (is_whole l es)) && is_open l es) && is_whole l es) ≡ is_up l es
 refused_up es k l = grind arith
 
 module _ (o : Opening) (es : List Entry) (legal : IsPlayedIn o es) (n : List ℕ) (e : Entry)
@@ -63,20 +71,28 @@ module _ (o : Opening) (es : List Entry) (legal : IsPlayedIn o es) (n : List ℕ
   none_opened l q = subst (λ x. opened x es ≡ None) (eqb-true e.number l q) fresh_is
 
   pub none_taken : (l : ℕ) → (e.number == l) ≡ true → taken l es ≡ []
-  none_taken l q = subst (λ x. (elim x as (λ _. Type 0) [ None ↦ taken l es ≡ [] | Some y ↦ Unit {0} ])) (none_opened l q) (weaken (opened l es) (far o es legal l))
+  none_taken l q =
+      subst (λ x. (elim x as (λ _. Type 0) [ None ↦ taken l es ≡ [] | Some y ↦ Unit {0} ]))
+      (none_opened l q) (weaken (opened l es) (far o es legal l))
     where
-      weaken : (x : Option Opened) → Far o x (taken l es) → elim x as (λ _. Type 0) [ None ↦ taken l es ≡ [] | Some y ↦ Unit {0} ]
+      weaken : (x : Option Opened) → Far o x (taken l es)
+          → elim x as (λ _. Type 0) [ None ↦ taken l es ≡ [] | Some y ↦ Unit {0} ]
       weaken None p = p
       weaken (Some y) p = tt
 
   abbrev pub with_start : ℕ → Start → Bool → Option Opened
-  with_start l s b = elim (cond {A = Option Opened} b (Some (record { start = s; before = es })) None) as (λ _. Option Opened) [ Some y ↦ Some y | None ↦ opened l es ]
+  with_start l s b =
+      elim (cond {A = Option Opened} b (Some (record { start = s; before = es })) None) as (λ _.
+      Option Opened) [ Some y ↦ Some y | None ↦ opened l es ]
 
-  pub opened_up : (s : Start) → whole_by (Some (record { start = s; before = es })) [] ≡ false → (l : ℕ)
-      → (((e.number == l) || is_open l es) && whole_by (with_start l s (e.number == l)) (taken l es)) ≡ is_up l es
+  pub opened_up : (s : Start) → whole_by (Some (record { start = s; before = es })) [] ≡ false
+      → (l : ℕ)
+      → (((e.number == l) || is_open l es) && whole_by (with_start l s (e.number == l))
+      (taken l es)) ≡ is_up l es
   opened_up s empty l = grind (arith, none_taken l, none_opened l)
 
-  pub opened_peer : (s : Start) (l : ℕ) → is_up l es ≡ true → peer_by (with_start l s (e.number == l)) (taken l es) ≡ peer_of l es
+  pub opened_peer : (s : Start) (l : ℕ) → is_up l es ≡ true
+      → peer_by (with_start l s (e.number == l)) (taken l es) ≡ peer_of l es
   opened_peer s l u = grind (arith, none_opened l)
 
   -- ---- frames
@@ -95,7 +111,8 @@ module _ (o : Opening) (es : List Entry) (legal : IsPlayedIn o es) (n : List ℕ
     -- a frame that is not the last of a side
     pub not_last : is_last (awaits k es) ≡ false → Agrees es n → Agrees (fr Reply.Done ∷ es) n
     not_last q p = unchanged es n (fr Reply.Done) refl
-        (λ l. grind (arith, stays moment (opened l es) (taken l es), eqb-true k l, given_up l)) (λ l u. grind (arith, kept moment (opened l es) (taken l es))) p
+        (λ l. grind (arith, stays moment (opened l es) (taken l es), eqb-true k l, given_up l))
+        (λ l u. grind (arith, kept moment (opened l es) (taken l es))) p
 
     -- the last frame of a side
     module _ (opens : is_open k es ≡ true) (last : is_last (awaits k es) ≡ true) where
@@ -105,7 +122,8 @@ module _ (o : Opening) (es : List Entry) (legal : IsPlayedIn o es) (n : List ℕ
       abbrev up_reply : Completed moment (opened k es) (taken k es) → Reply
       up_reply c = Reply.Up c.peer c.gave.creation (is_visible (past o es) k)
 
-      pub answered : (c : Completed moment (opened k es) (taken k es)) → cond (is_last (awaits k es)) (up_answer (past o es) k) Reply.Done ≡ up_reply c
+      pub answered : (c : Completed moment (opened k es) (taken k es))
+          → cond (is_last (awaits k es)) (up_answer (past o es) k) Reply.Done ≡ up_reply c
       answered c = grind (arith, c.was_given, c.was_of)
 
       module _ (c : Completed moment (opened k es) (taken k es)) where
@@ -119,31 +137,64 @@ module _ (o : Opening) (es : List Entry) (legal : IsPlayedIn o es) (n : List ℕ
 
         last_frame : Agrees es n → Agrees (fr (up_reply c) ∷ es) n
         last_frame p l = (
-          λ q. grind (arith, other l, ends_by l, c.is_whole, c.is_of, same_decides c.peer n, same_sym n c.peer, p l, eq-eqb k k),
-          λ w. grind (arith, other l, ends_by l, c.is_of, same_decides c.peer n, same_sym n c.peer, p l, eqb-true k l),
+          λ q. grind (
+            arith,
+            other l,
+            ends_by l,
+            c.is_whole,
+            c.is_of,
+            same_decides c.peer n,
+            same_sym n c.peer,
+            p l,
+            eq-eqb k k,
+          ),
+          λ w. grind (
+            arith,
+            other l,
+            ends_by l,
+            c.is_of,
+            same_decides c.peer n,
+            same_sym n c.peer,
+            p l,
+            eqb-true k l,
+          ),
         )
 
     -- an accepted frame
-    frame_step : (r : Reply) → is_open k es ≡ true → r ≡ cond (is_last (awaits k es)) (up_answer (past o es) k) Reply.Done → Agrees es n → Agrees (fr r ∷ es) n
+    frame_step : (r : Reply) → is_open k es ≡ true
+        → r ≡ cond (is_last (awaits k es)) (up_answer (past o es) k) Reply.Done → Agrees es n
+        → Agrees (fr r ∷ es) n
     frame_step r opens q p = by_last (is_last (awaits k es)) refl
       where
         by_last : (b : Bool) → is_last (awaits k es) ≡ b → Agrees (fr r ∷ es) n
-        by_last true s = (let c = done_now opens s in subst (λ x. Agrees (fr x ∷ es) n) (sym (q ∙ answered opens s c)) (last_frame opens s c p))
-        by_last false s = subst (λ x. Agrees (fr x ∷ es) n) (sym (q ∙ ap (λ b. cond b (up_answer (past o es) k) Reply.Done) s)) (not_last s p)
+        by_last true s = (let c = done_now opens s in
+            subst (λ x. Agrees (fr x ∷ es) n) (sym (q ∙ answered opens s c))
+            (last_frame opens s c p))
+        by_last false s =
+            subst (λ x. Agrees (fr x ∷ es) n)
+            (sym (q ∙ ap (λ b. cond b (up_answer (past o es) k) Reply.Done) s)) (not_last s p)
 
   -- ---- each event
 
   lost_step : (j : ℕ) (r : Reply) → Agrees es n → Agrees (but e (Event.Lost j) (Accepted r) ∷ es) n
-  lost_step j r p = fewer es n (but e (Event.Lost j) (Accepted r)) (λ l. j == l) (option_map_or (λ k. k == j) (present_link n es) false) refl (λ l. refl) (λ l. refl)
+  lost_step j r p =
+      fewer es n (but e (Event.Lost j) (Accepted r)) (λ l. j == l)
+      (option_map_or (λ k. k == j) (present_link n es) false) refl (λ l. refl) (λ l. refl)
       (λ l q of whole. flip j l ∙ sym (ap (λ x. option_map_or (λ k. k == j) x false) q)) p
 
-  disconnect_step : (m : List ℕ) (r : Reply) → Agrees es n → Agrees (but e (Event.Disconnect m) (Accepted r) ∷ es) n
-  disconnect_step m r p = fewer es n (but e (Event.Disconnect m) (Accepted r)) (λ l. is_whole l es && is_peer m l es) (same m n) refl (λ l. refl) (λ l. refl)
-      (λ l q of whole. ap (λ b. b && is_peer m l es) whole ∙ ap (λ x. option_map_or (λ y. same y m) x false) of ∙ same_sym n m) p
+  disconnect_step : (m : List ℕ) (r : Reply) → Agrees es n
+      → Agrees (but e (Event.Disconnect m) (Accepted r) ∷ es) n
+  disconnect_step m r p =
+      fewer es n (but e (Event.Disconnect m) (Accepted r)) (λ l. is_whole l es && is_peer m l es)
+      (same m n) refl (λ l. refl) (λ l. refl)
+      (λ l q of whole. ap (λ b. b && is_peer m l es) whole
+      ∙ ap (λ x. option_map_or (λ y. same y m) x false) of ∙ same_sym n m) p
 
   pub step : (ev : Event) (v : Verdict) → v ≡ judgement (past o es) e.seat ev → Agrees es n
       → Agrees (but e ev v ∷ es) n
-  step (Event.Frame k body) (Refused r) q p = unchanged es n (but e (Event.Frame k body) (Refused r)) refl (λ l. refused_up es k l) (λ l u. refl) p
+  step (Event.Frame k body) (Refused r) q p =
+      unchanged es n (but e (Event.Frame k body) (Refused r)) refl (λ l. refused_up es k l)
+      (λ l u. refl) p
   step ev (Refused r) q p = unchanged es n (but e ev (Refused r)) refl (λ l. refl) (λ l u. refl) p
   step (Event.Frame k body) (Accepted r) q p =
       let met = accepted (past o es) e.seat (Event.Frame k body) r q in
@@ -151,8 +202,12 @@ module _ (o : Opening) (es : List Entry) (legal : IsPlayedIn o es) (n : List ℕ
   step Event.Restart (Accepted r) q p = λ l. (λ w. no_value (sym w), λ w. lie (sym w.0))
   step (Event.Lost j) (Accepted r) q p = lost_step j r p
   step (Event.Disconnect m) (Accepted r) q p = disconnect_step m r p
-  step (Event.Opened c) (Accepted r) q p = unchanged es n (but e (Event.Opened c) (Accepted r)) refl (opened_up (ByPeer c) refl) (opened_peer (ByPeer c)) p
-  step (Event.Dial m c) (Accepted r) q p = unchanged es n (but e (Event.Dial m c) (Accepted r)) refl (opened_up (ByDial m c) refl) (opened_peer (ByDial m c)) p
+  step (Event.Opened c) (Accepted r) q p =
+      unchanged es n (but e (Event.Opened c) (Accepted r)) refl (opened_up (ByPeer c) refl)
+      (opened_peer (ByPeer c)) p
+  step (Event.Dial m c) (Accepted r) q p =
+      unchanged es n (but e (Event.Dial m c) (Accepted r)) refl (opened_up (ByDial m c) refl)
+      (opened_peer (ByDial m c)) p
   step ev (Accepted r) q p = unchanged es n (but e ev (Accepted r)) refl (λ l. refl) (λ l u. refl) p
 
 -- in a history that the policy makes, the present link of a peer is the one link of it that is up

@@ -1,18 +1,15 @@
 -- How far the handshake of a link is, in a history that the policy makes.
-use Rattle.policy_audit.proofs.Words.{next_number}
-use Rattle.policy_audit.proofs.Words.{start_of}
-use Rattle.policy_audit.proofs.Words.{ap}
-use Rattle.policy_audit.proofs.Words.{History}
-use Rattle.policy_audit.proofs.Words.{arith, refl, subst, sym, and_parts, eqb-true, option_and_then, option_map_or, Bool, List, None}
-use Rattle.policy_audit.proofs.Words.{Option, Some, [], bytes_eq, cond, false, get_or, is_some, length, not, true, ℕ, ◌++◌, ◌+◌, ◌<◌, ◌==◌}
-use Rattle.policy_audit.proofs.Words.{◌∷◌, ◌≡◌, same, Challenge, Name, ack_frame, challenge_frame, name_frame, reply_frame, status_of}
-use Rattle.policy_audit.proofs.Words.{AckFrame, ReplyFrame, StatusWord, digest_of, allowed, cookie, goes_on, checks, dial_checks}
-use Rattle.policy_audit.proofs.Words.{first_broken, frame_checks, past, ends, is_open, IsNumbered}
-use Rattle.policy_audit.proofs.Words.{IsPlayedIn, IsStep, entered, judgement, AwaitMessage, ByDial}
-use Rattle.policy_audit.proofs.Words.{ByPeer}
-use Rattle.policy_audit.proofs.Words.{Opened, Start, Taken, and_frame, awaited_in, awaits, opened, taken, was_up, whole_side, Entry}
-use Rattle.policy_audit.proofs.Words.{Verdict, Accepted, Refused, Event, Opening}
-use Rattle.policy_audit.proofs.Accepted.{lie, accepted, all_hold, unbroken, open_first, Fits, fits}
+use Rattle.policy_audit.proofs
+use proofs.Words.{Accepted, ack_frame, AckFrame, allowed, and_frame, and_parts, ap, arith}
+use proofs.Words.{awaited_in, AwaitMessage, awaits, Bool, ByDial, ByPeer, bytes_eq, Challenge}
+use proofs.Words.{challenge_frame, checks, cond, cookie, dial_checks, digest_of, ends, entered}
+use proofs.Words.{Entry, eqb-true, Event, false, first_broken, frame_checks, get_or, goes_on}
+use proofs.Words.{History, is_open, is_some, IsNumbered, IsPlayedIn, IsStep, judgement, length}
+use proofs.Words.{List, Name, name_frame, next_number, None, not, Opened, opened, Opening, Option}
+use proofs.Words.{option_and_then, option_map_or, past, refl, Refused, reply_frame, ReplyFrame}
+use proofs.Words.{same, Some, Start, start_of, status_of, StatusWord, subst, sym, Taken, taken}
+use proofs.Words.{true, Verdict, was_up, whole_side, ℕ, [], ◌++◌, ◌+◌, ◌<◌, ◌==◌, ◌∷◌, ◌≡◌}
+use proofs.Accepted.{accepted, all_hold, Fits, fits, lie, open_first, unbroken}
 
 -- an entry with another event and verdict
 abbrev pub but : Entry → Event → Verdict → Entry
@@ -25,7 +22,10 @@ IsNamed o a = (f : Name) × (name_frame a.body ≡ Some f) × (allowed (past o a
 
 -- a Reply to the challenge c, by the cookie for the peer that the Name a gave
 abbrev pub IsReplied : Opening → ℕ → Taken → Taken → Type 0
-IsReplied o c a r = (g : ReplyFrame) × (reply_frame r.body ≡ Some g) × (bytes_eq g.digest (digest_of (option_map_or (cookie (past o r.before)) (option_and_then (λ f. Some f.name) (name_frame a.body)) []) c) ≡ true)
+IsReplied o c a r = (g : ReplyFrame) × (reply_frame r.body ≡ Some g)
+    × (bytes_eq g.digest
+    (digest_of (option_map_or (cookie (past o r.before))
+    (option_and_then (λ f. Some f.name) (name_frame a.body)) []) c) ≡ true)
 
 abbrev pub IsTrueWord : Taken → Type 0
 IsTrueWord b = status_of b.body ≡ Some StatusWord.True
@@ -37,7 +37,8 @@ abbrev pub IsAsked : List ℕ → Taken → Type 0
 IsAsked n b = (f : Challenge) × (challenge_frame b.body ≡ Some f) × (same n f.name ≡ true)
 
 abbrev pub IsAcked : Opening → List ℕ → ℕ → Taken → Type 0
-IsAcked o n c r = (g : AckFrame) × (ack_frame r.body ≡ Some g) × (bytes_eq g.digest (digest_of (cookie (past o r.before) n) c) ≡ true)
+IsAcked o n c r = (g : AckFrame) × (ack_frame r.body ≡ Some g)
+    × (bytes_eq g.digest (digest_of (cookie (past o r.before) n) c) ≡ true)
 
 -- what follows the Name a, where a link of that name was up or not
 abbrev pub Follow : Opening → ℕ → Taken → Bool → List Taken → Type 0
@@ -73,25 +74,33 @@ module _ (o : Opening) (es : List Entry) (legal : IsPlayedIn o es) (body : List 
   moment = record { body = body; before = es }
 
   follow : (bo : List Entry) (c : ℕ) (a : Taken) (up : Bool) (ts : List Taken) → Follow o c a up ts
-      → Fits (past o es) (Some (record { start = ByPeer c; before = bo })) (a ∷ ts) body (get_or (whole_side (ByPeer c) up) (length (a ∷ ts)) AwaitMessage) → Follow o c a up (ts ++ moment ∷ [])
+      → Fits (past o es) (Some (record { start = ByPeer c; before = bo })) (a ∷ ts) body
+      (get_or (whole_side (ByPeer c) up) (length (a ∷ ts)) AwaitMessage)
+      → Follow o c a up (ts ++ moment ∷ [])
   follow bo c a false [] p fit = fit
   follow bo c a true [] p fit = fit
   follow bo c a false (b ∷ ts) p fit = p
   follow bo c a true (b ∷ []) p fit = (p, fit)
   follow bo c a true (b ∷ r ∷ ts) p fit = p
 
-  reach : (bo : List Entry) (n : List ℕ) (c : ℕ) (ts : List Taken) → Reach o n c ts → Fits (past o es) (Some (record { start = ByDial n c; before = bo })) ts body (awaited_in (ByDial n c) ts) → Reach o n c (ts ++ moment ∷ [])
+  reach : (bo : List Entry) (n : List ℕ) (c : ℕ) (ts : List Taken) → Reach o n c ts
+      → Fits (past o es) (Some (record { start = ByDial n c; before = bo })) ts body
+      (awaited_in (ByDial n c) ts) → Reach o n c (ts ++ moment ∷ [])
   reach bo n c [] p fit = fit
   reach bo n c (a ∷ []) p fit = (p, fit)
   reach bo n c (a ∷ b ∷ []) p fit = (p.0, p.1, fit)
   reach bo n c (a ∷ b ∷ r ∷ ts) p fit = p
 
-  walk : (bo : List Entry) (s : Start) (ts : List Taken) → Walk o bo s ts → Fits (past o es) (Some (record { start = s; before = bo })) ts body (awaited_in s ts) → Walk o bo s (ts ++ moment ∷ [])
+  walk : (bo : List Entry) (s : Start) (ts : List Taken) → Walk o bo s ts
+      → Fits (past o es) (Some (record { start = s; before = bo })) ts body (awaited_in s ts)
+      → Walk o bo s (ts ++ moment ∷ [])
   walk bo (ByPeer c) [] p fit = ((fit.0, fit.1, fit.2, legal), tt)
   walk bo (ByPeer c) (a ∷ ts) p fit = (p.0, follow bo c a (was_up (a ∷ [])) ts p.1 fit)
   walk bo (ByDial n c) ts p fit = (p.0, reach bo n c ts p.1 fit)
 
-  pub farther : (oe : Option Opened) (ts : List Taken) → is_some oe ≡ true → Far o oe ts → Fits (past o es) oe ts body (option_map_or (λ x. awaited_in x.start ts) oe AwaitMessage) → Far o oe (ts ++ moment ∷ [])
+  pub farther : (oe : Option Opened) (ts : List Taken) → is_some oe ≡ true → Far o oe ts
+      → Fits (past o es) oe ts body (option_map_or (λ x. awaited_in x.start ts) oe AwaitMessage)
+      → Far o oe (ts ++ moment ∷ [])
   farther None ts s p fit = lie (sym s)
   farther (Some x) ts s p fit = walk x.before x.start ts p fit
 
@@ -157,15 +166,20 @@ pub open_opened : (l : ℕ) (es : List Entry) → is_open l es ≡ true → is_s
 open_opened l [] q = lie (sym q)
 open_opened l (e ∷ es) q = by_event e.event e.verdict (open_opened l es) q
   where
-    by_event : (ev : Event) (v : Verdict) → (is_open l es ≡ true → is_some (opened l es) ≡ true) → is_open l (but e ev v ∷ es) ≡ true → is_some (opened l (but e ev v ∷ es)) ≡ true
+    by_event : (ev : Event) (v : Verdict) → (is_open l es ≡ true → is_some (opened l es) ≡ true)
+        → is_open l (but e ev v ∷ es) ≡ true → is_some (opened l (but e ev v ∷ es)) ≡ true
     by_event (Event.Opened c) (Accepted r) so_far q = grind arith
     by_event (Event.Dial n c) (Accepted r) so_far q = grind arith
     by_event Event.Restart (Accepted r) so_far q = lie (sym q)
-    by_event ev (Accepted r) so_far q = so_far (and_parts (not (ends l es (Accepted r) ev)) (is_open l es) q).1
-    by_event ev (Refused r) so_far q = so_far (and_parts (not (ends l es (Refused r) ev)) (is_open l es) q).1
+    by_event ev (Accepted r) so_far q =
+        so_far (and_parts (not (ends l es (Accepted r) ev)) (is_open l es) q).1
+    by_event ev (Refused r) so_far q =
+        so_far (and_parts (not (ends l es (Refused r) ev)) (is_open l es) q).1
 
 -- an accepted frame of link k: k is open, and the frame is of the kind that it awaits
-pub frame_fits : (o : Opening) (es : List Entry) (seat k : ℕ) (body : List ℕ) → first_broken (checks (past o es) seat (Event.Frame k body)) ≡ None → (is_open k es ≡ true) × Fits (past o es) (opened k es) (taken k es) body (awaits k es)
+pub frame_fits : (o : Opening) (es : List Entry) (seat k : ℕ) (body : List ℕ)
+    → first_broken (checks (past o es) seat (Event.Frame k body)) ≡ None
+    → (is_open k es ≡ true) × Fits (past o es) (opened k es) (taken k es) body (awaits k es)
 frame_fits o es seat k body q =
     let found = open_first (is_open k es) (frame_checks (past o es) k body (awaits k es)) q in
     (found.0, fits (past o es) k body (awaits k es) found.1)
@@ -177,19 +191,27 @@ far o (e ∷ es) legal l = by_event e.event e.verdict legal.0.judged (far o es l
     new : (e.number == l) ≡ true → opened l es ≡ None
     new q = subst (λ x. opened x es ≡ None) (eqb-true e.number l q) (fresh o es legal.1 e legal.0)
 
-    by_frame : (k : ℕ) (body : List ℕ) → first_broken (checks (past o es) e.seat (Event.Frame k body)) ≡ None → FarIn o l es
-        → (b : Bool) → (k == l) ≡ b → Far o (opened l es) (and_frame (taken l es) (cond b (Some (record { body = body; before = es })) None))
+    by_frame : (k : ℕ) (body : List ℕ)
+        → first_broken (checks (past o es) e.seat (Event.Frame k body)) ≡ None → FarIn o l es
+        → (b : Bool) → (k == l) ≡ b
+        → Far o (opened l es)
+        (and_frame (taken l es) (cond b (Some (record { body = body; before = es })) None))
     by_frame k body q p true same_link =
-        let met = subst (λ x. (is_open x es ≡ true) × Fits (past o es) (opened x es) (taken x es) body (awaits x es)) (eqb-true k l same_link) (frame_fits o es e.seat k body q) in
+        let met = subst (λ x. (is_open x es ≡ true)
+        × Fits (past o es) (opened x es) (taken x es) body (awaits x es))
+        (eqb-true k l same_link) (frame_fits o es e.seat k body q) in
         farther o es legal.1 body (opened l es) (taken l es) (open_opened l es met.0) p met.1
     by_frame k body q p false same_link = p
 
     by_event : (ev : Event) (v : Verdict) → v ≡ judgement (past o es) e.seat ev → FarIn o l es
         → FarIn o l (but e ev v ∷ es)
     by_event (Event.Dial n c) (Accepted r) q p =
-        let may = unbroken (allowed (past o es) n) (all_hold (dial_checks (past o es) n) (accepted (past o es) e.seat (Event.Dial n c) r q).0).1.0 in
+        let may = unbroken (allowed (past o es) n)
+        (all_hold (dial_checks (past o es) n)
+        (accepted (past o es) e.seat (Event.Dial n c) r q).0).1.0 in
         grind (arith, p, may, new)
-    by_event (Event.Frame k body) (Accepted r) q p = by_frame k body (accepted (past o es) e.seat (Event.Frame k body) r q).0 p (k == l) refl
+    by_event (Event.Frame k body) (Accepted r) q p =
+        by_frame k body (accepted (past o es) e.seat (Event.Frame k body) r q).0 p (k == l) refl
     by_event (Event.Opened c) (Accepted r) _ p = grind (arith, p, new)
     by_event Event.Restart (Accepted r) q p = refl
     by_event ev (Accepted r) q p = p

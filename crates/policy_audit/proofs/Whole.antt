@@ -1,28 +1,44 @@
 -- A link with a whole side of accepted frames was admitted, and the other way round.
-use Rattle.policy_audit.proofs.Words.{ap, refl, subst, sym, ◌∙◌, bytes_eq-Decides, option_and_then, option_map_or, Bool, IsTrue, List}
-use Rattle.policy_audit.proofs.Words.{MatchBool, None, Option, Some, [], bytes_eq, false, is_some, length, nat_le, not, true, ℕ, ◌&&◌, ◌++◌}
-use Rattle.policy_audit.proofs.Words.{◌↔◌, ◌∷◌, ◌≡◌, same_decides, has_bit, Challenge, Name, name_frame, digest_of, cookie, IsAdmitted}
-use Rattle.policy_audit.proofs.Words.{IsLetIn, IsReached, IsTrueStatus, LetIn, Reached, History}
-use Rattle.policy_audit.proofs.Words.{past, is_open, is_up, IsPlayed, IsPlayedIn}
-use Rattle.policy_audit.proofs.Words.{ByDial, ByPeer, Opened, Start, Taken, given, given_in, is_name_up, is_visible, is_whole, opened}
-use Rattle.policy_audit.proofs.Words.{and_parts, peer_in, peer_of, present_link, taken, was_up, name_up, Entry, Opening}
-use Rattle.policy_audit.proofs.Accepted.{lie, peer_by}
-use Rattle.policy_audit.proofs.Walked.{IsNamed, Follow, Walk, Far, far}
-use Rattle.policy_audit.proofs.Finished.{whole_by, given_by, whole_after, two_of, three_of}
-use Rattle.policy_audit.proofs.UpLinks.{and_both, agrees}
-use Rattle.policy_audit.proofs.Staged.{names_up}
+use Rattle.policy_audit.proofs
+use proofs.Words.{and_parts, ap, Bool, ByDial, ByPeer, bytes_eq, bytes_eq-Decides, Challenge}
+use proofs.Words.{cookie, digest_of, Entry, false, given, given_in, has_bit, History, is_name_up}
+use proofs.Words.{is_open, is_some, is_up, is_visible, is_whole, IsAdmitted, IsLetIn, IsPlayed}
+use proofs.Words.{IsPlayedIn, IsReached, IsTrue, IsTrueStatus, length, LetIn, List, MatchBool, Name}
+use proofs.Words.{name_frame, name_up, nat_le, None, not, Opened, opened, Opening, Option}
+use proofs.Words.{option_and_then, option_map_or, past, peer_in, peer_of, present_link, Reached}
+use proofs.Words.{refl, same_decides, Some, Start, subst, sym, Taken, taken, true, was_up, ℕ, []}
+use proofs.Words.{◌&&◌, ◌++◌, ◌↔◌, ◌∙◌, ◌∷◌, ◌≡◌}
+use proofs.Accepted.{lie, peer_by}
+use proofs.Walked.{Far, far, Follow, IsNamed, Walk}
+use proofs.Finished.{given_by, three_of, two_of, whole_after, whole_by}
+use proofs.UpLinks.{agrees, and_both}
+use proofs.Staged.{names_up}
 
 module _ (o : Opening) (l : ℕ) (es : List Entry) where
   -- the digest of the cookie for the peer that the Name gave
   replied_with : (c : ℕ) (a r : Taken) (f : Name) (digest : List ℕ) → name_frame a.body ≡ Some f
-      → bytes_eq digest (digest_of (option_map_or (cookie (past o r.before)) (option_and_then (λ g. Some g.name) (name_frame a.body)) []) c) ≡ true → digest ≡ digest_of (cookie (past o r.before) f.name) c
-  replied_with c a r f digest named q = (bytes_eq-Decides digest (digest_of (cookie (past o r.before) f.name) c)).0 (subst (λ x. bytes_eq digest (digest_of (option_map_or (cookie (past o r.before)) (option_and_then (λ g. Some g.name) x) []) c) ≡ true) named q)
+      → bytes_eq digest
+      (digest_of (option_map_or (cookie (past o r.before))
+      (option_and_then (λ g. Some g.name) (name_frame a.body)) []) c) ≡ true
+      → digest ≡ digest_of (cookie (past o r.before) f.name) c
+  replied_with c a r f digest named q =
+      (bytes_eq-Decides digest (digest_of (cookie (past o r.before) f.name) c)).0
+      (subst (λ x. bytes_eq digest
+      (digest_of (option_map_or (cookie (past o r.before)) (option_and_then (λ g. Some g.name) x)
+      []) c) ≡ true) named q)
 
   -- whether a link of that name was up, in either reading
-  agreed : (a : Taken) (up : Bool) (P Q : Type 0) (n : IsNamed o a) → was_up (a ∷ []) ≡ up → MatchBool up P Q → MatchBool (name_up n.0.name a.before) P Q
-  agreed a up P Q n u m = subst (λ b. MatchBool b P Q) (sym (names_up o a.before n.3 n.0.name ∙ sym (ap (λ x. option_map_or {T = Name} {U = Bool} (λ f. is_name_up f.name a.before) x false) n.1) ∙ u)) m
+  agreed : (a : Taken) (up : Bool) (P Q : Type 0) (n : IsNamed o a) → was_up (a ∷ []) ≡ up
+      → MatchBool up P Q → MatchBool (name_up n.0.name a.before) P Q
+  agreed a up P Q n u m =
+      subst (λ b. MatchBool b P Q)
+      (sym (names_up o a.before n.3 n.0.name
+      ∙ sym (ap (λ x. option_map_or {T = Name} {U = Bool} (λ f. is_name_up f.name a.before) x false)
+      n.1) ∙ u)) m
 
-  whole_let : (c : ℕ) (bo : List Entry) (a : Taken) (ts : List Taken) (up : Bool) → opened l es ≡ Some (record { start = ByPeer c; before = bo }) → taken l es ≡ a ∷ ts → (n : IsNamed o a) → was_up (a ∷ []) ≡ up
+  whole_let : (c : ℕ) (bo : List Entry) (a : Taken) (ts : List Taken) (up : Bool)
+      → opened l es ≡ Some (record { start = ByPeer c; before = bo }) → taken l es ≡ a ∷ ts
+      → (n : IsNamed o a) → was_up (a ∷ []) ≡ up
       → Follow o c a up ts → whole_after c up a ts ≡ true → IsLetIn (past o es) l c
   whole_let c bo a [] false op fr n u p q = lie (sym q)
   whole_let c bo a (r ∷ ts) false op fr n u p q = record {
@@ -59,7 +75,9 @@ module _ (o : Opening) (l : ℕ) (es : List Entry) where
   }
   whole_let c bo a ts up op fr n u p q = lie (sym q)
 
-  whole_reach : (n : List ℕ) (c : ℕ) (bo : List Entry) (ts : List Taken) → opened l es ≡ Some (record { start = ByDial n c; before = bo }) → taken l es ≡ ts → Walk o bo (ByDial n c) ts → nat_le 3 (length ts) ≡ true → IsReached (past o es) l n c
+  whole_reach : (n : List ℕ) (c : ℕ) (bo : List Entry) (ts : List Taken)
+      → opened l es ≡ Some (record { start = ByDial n c; before = bo }) → taken l es ≡ ts
+      → Walk o bo (ByDial n c) ts → nat_le 3 (length ts) ≡ true → IsReached (past o es) l n c
   whole_reach n c bo (a ∷ b ∷ r ∷ ts) op fr p q = record {
     status = a;
     asked = b;
@@ -76,23 +94,30 @@ module _ (o : Opening) (l : ℕ) (es : List Entry) where
     is_challenge = p.1.1.1;
     is_named = sym ((same_decides n p.1.1.0.name).0 p.1.1.2);
     is_ack = p.1.2.1;
-    is_digest = (bytes_eq-Decides p.1.2.0.digest (digest_of (cookie (past o r.before) n) c)).0 p.1.2.2;
+    is_digest = (bytes_eq-Decides p.1.2.0.digest (digest_of (cookie (past o r.before) n) c)).0
+        p.1.2.2;
     is_allowed = p.0;
   }
   whole_reach n c bo ts op fr p q = lie (sym q)
 
-  whole_from : (s : Start) (bo : List Entry) (ts : List Taken) → opened l es ≡ Some (record { start = s; before = bo }) → taken l es ≡ ts → Walk o bo s ts → whole_by (Some (record { start = s; before = bo })) ts ≡ true → IsAdmitted (past o es) l
+  whole_from : (s : Start) (bo : List Entry) (ts : List Taken)
+      → opened l es ≡ Some (record { start = s; before = bo }) → taken l es ≡ ts → Walk o bo s ts
+      → whole_by (Some (record { start = s; before = bo })) ts ≡ true → IsAdmitted (past o es) l
   whole_from (ByPeer c) bo [] op fr p q = lie (sym q)
-  whole_from (ByPeer c) bo (a ∷ ts) op fr p q = LetIn c (whole_let c bo a ts (was_up (a ∷ [])) op fr p.0 refl p.1 q)
+  whole_from (ByPeer c) bo (a ∷ ts) op fr p q =
+      LetIn c (whole_let c bo a ts (was_up (a ∷ [])) op fr p.0 refl p.1 q)
   whole_from (ByDial n c) bo ts op fr p q = Reached n c (whole_reach n c bo ts op fr p q)
 
-  whole : (oe : Option Opened) → opened l es ≡ oe → Far o oe (taken l es) → whole_by oe (taken l es) ≡ true → IsAdmitted (past o es) l
+  whole : (oe : Option Opened) → opened l es ≡ oe → Far o oe (taken l es)
+      → whole_by oe (taken l es) ≡ true → IsAdmitted (past o es) l
   whole None op p q = lie (sym q)
   whole (Some x) op p q = whole_from x.start x.before (taken l es) op refl p q
 
 -- a link that is up was admitted
 pub up-admitted : (h : History) → IsPlayed h → (l : ℕ) → IsTrue (is_up l h.entries) → IsAdmitted h l
-up-admitted h legal l up = whole h.opening l h.entries (opened l h.entries) refl (far h.opening h.entries legal l) (and_parts (is_open l h.entries) (is_whole l h.entries) up).1
+up-admitted h legal l up =
+    whole h.opening l h.entries (opened l h.entries) refl (far h.opening h.entries legal l)
+    (and_parts (is_open l h.entries) (is_whole l h.entries) up).1
 
 -- ---- and back: an open link that was admitted is up
 
@@ -103,54 +128,100 @@ module _ (o : Opening) (l : ℕ) (es : List Entry) (legal : IsPlayedIn o es) whe
   let_whole c w past_legal = by (name_up w.peer.name w.name.before) refl w.is_confirmed
     where
       up_is : was_up (w.name ∷ []) ≡ name_up w.peer.name w.name.before
-      up_is = ap (λ x. option_map_or {T = Name} {U = Bool} (λ f. is_name_up f.name w.name.before) x false) w.is_name ∙ sym (names_up o w.name.before past_legal w.peer.name)
+      up_is = ap (λ x. option_map_or {T = Name} {U = Bool} (λ f. is_name_up f.name w.name.before) x
+          false) w.is_name ∙ sym (names_up o w.name.before past_legal w.peer.name)
 
-      by : (b : Bool) → name_up w.peer.name w.name.before ≡ b → MatchBool b (IsTrueStatus w.between) (w.between ≡ []) → whole_after c (was_up (w.name ∷ [])) w.name (w.between ++ w.reply ∷ w.later) ≡ true
-      by true s m = ap (λ u. whole_after c u w.name (w.between ++ w.reply ∷ w.later)) (up_is ∙ s) ∙ ap (λ x. whole_after c true w.name (x ++ w.reply ∷ w.later)) m.1 ∙ three_of w.name m.0 w.reply w.later
-      by false s m = ap (λ u. whole_after c u w.name (w.between ++ w.reply ∷ w.later)) (up_is ∙ s) ∙ ap (λ x. whole_after c false w.name (x ++ w.reply ∷ w.later)) m ∙ two_of w.name w.reply w.later
+      by : (b : Bool) → name_up w.peer.name w.name.before ≡ b
+          → MatchBool b (IsTrueStatus w.between) (w.between ≡ [])
+          → whole_after c (was_up (w.name ∷ [])) w.name (w.between ++ w.reply ∷ w.later) ≡ true
+      by true s m = ap (λ u. whole_after c u w.name (w.between ++ w.reply ∷ w.later)) (up_is ∙ s)
+          ∙ ap (λ x. whole_after c true w.name (x ++ w.reply ∷ w.later)) m.1
+          ∙ three_of w.name m.0 w.reply w.later
+      by false s m = ap (λ u. whole_after c u w.name (w.between ++ w.reply ∷ w.later)) (up_is ∙ s)
+          ∙ ap (λ x. whole_after c false w.name (x ++ w.reply ∷ w.later)) m
+          ∙ two_of w.name w.reply w.later
 
   is_whole_link : IsAdmitted (past o es) l → whole_by (opened l es) (taken l es) ≡ true
   is_whole_link (LetIn c w) =
       let here = subst (λ x. Far o x (taken l es)) w.opened (far o es legal l) in
-      let seen = subst (λ x. Far o (Some (record { start = ByPeer c; before = w.before })) x) w.frames here in
-      ap (λ x. whole_by x (taken l es)) w.opened ∙ ap (λ x. whole_by (Some (record { start = ByPeer c; before = w.before })) x) w.frames ∙ let_whole c w seen.0.3
+      let seen = subst (λ x. Far o (Some (record { start = ByPeer c; before = w.before })) x)
+      w.frames here in
+      ap (λ x. whole_by x (taken l es)) w.opened
+      ∙ ap (λ x. whole_by (Some (record { start = ByPeer c; before = w.before })) x) w.frames
+      ∙ let_whole c w seen.0.3
   is_whole_link (Reached n c w) =
-      ap (λ x. whole_by x (taken l es)) w.opened ∙ ap (λ x. whole_by (Some (record { start = ByDial n c; before = w.before })) x) w.frames ∙ three_of w.status w.asked w.ack w.later
+      ap (λ x. whole_by x (taken l es)) w.opened
+      ∙ ap (λ x. whole_by (Some (record { start = ByDial n c; before = w.before })) x) w.frames
+      ∙ three_of w.status w.asked w.ack w.later
 
 pub admitted-up : (h : History) → IsPlayed h → (l : ℕ) → IsTrue (is_open l h.entries)
     → IsAdmitted h l → IsTrue (is_up l h.entries)
-admitted-up h legal l opens w = and_both (is_open l h.entries) (is_whole l h.entries) opens (is_whole_link h.opening l h.entries legal w)
+admitted-up h legal l opens w =
+    and_both (is_open l h.entries) (is_whole l h.entries) opens
+    (is_whole_link h.opening l h.entries legal w)
 
 -- a link is up exactly where it is open and was admitted
 pub up-is-admitted : (h : History) → IsPlayed h → (l : ℕ)
     → IsTrue (is_up l h.entries) ↔ (IsTrue (is_open l h.entries) × IsAdmitted h l)
-up-is-admitted h legal l = (λ up. ((and_parts (is_open l h.entries) (is_whole l h.entries) up).0, up-admitted h legal l up), λ w. admitted-up h legal l w.0 w.1)
+up-is-admitted h legal l = (
+  λ up. (
+    (and_parts (is_open l h.entries) (is_whole l h.entries) up).0,
+    up-admitted h legal l up,
+  ),
+  λ w. admitted-up h legal l w.0 w.1,
+)
 
 -- a link of this name is up exactly where an open link of that peer was admitted
 pub name-up-is-admitted : (h : History) → IsPlayed h → (n : List ℕ)
     → IsTrue (name_up n h.entries)
     ↔ ((l : ℕ) × IsTrue (is_open l h.entries) × (peer_of l h.entries ≡ Some n) × IsAdmitted h l)
-name-up-is-admitted h legal n = (λ up. by (present_link n h.entries) refl (sym (names_up h.opening h.entries legal n) ∙ up), λ w. back w.0 w.1 w.2 w.3)
+name-up-is-admitted h legal n = (
+  λ up. by (present_link n h.entries) refl (sym (names_up h.opening h.entries legal n) ∙ up),
+  λ w. back w.0 w.1 w.2 w.3,
+)
   where
-    by : (x : Option ℕ) → present_link n h.entries ≡ x → is_some x ≡ true → (l : ℕ) × IsTrue (is_open l h.entries) × (peer_of l h.entries ≡ Some n) × IsAdmitted h l
+    by : (x : Option ℕ) → present_link n h.entries ≡ x → is_some x ≡ true
+        → (l : ℕ) × IsTrue (is_open l h.entries) × (peer_of l h.entries ≡ Some n) × IsAdmitted h l
     by None q s = lie (sym s)
-    by (Some k) q s = (let found = (agrees h.opening h.entries legal n k).0 q in (k, (and_parts (is_open k h.entries) (is_whole k h.entries) found.0).0, found.1, up-admitted h legal k found.0))
+    by (Some k) q s = (let found = (agrees h.opening h.entries legal n k).0 q in (
+      k,
+      (and_parts (is_open k h.entries) (is_whole k h.entries) found.0).0,
+      found.1,
+      up-admitted h legal k found.0,
+    ))
 
-    back : (l : ℕ) → IsTrue (is_open l h.entries) → peer_of l h.entries ≡ Some n → IsAdmitted h l → IsTrue (name_up n h.entries)
-    back l opens of w = names_up h.opening h.entries legal n ∙ ap is_some ((agrees h.opening h.entries legal n l).1 (admitted-up h legal l opens w, of))
+    back : (l : ℕ) → IsTrue (is_open l h.entries) → peer_of l h.entries ≡ Some n → IsAdmitted h l
+        → IsTrue (name_up n h.entries)
+    back l opens of w = names_up h.opening h.entries legal n
+        ∙ ap is_some ((agrees h.opening h.entries legal n l).1 (admitted-up h legal l opens w, of))
 
 -- ---- what the peer of a link that is up gave on it
 
-gave_in : (o : Opening) (bo : List Entry) (s : Start) (ts : List Taken) → Walk o bo s ts → whole_by (Some (record { start = s; before = bo })) ts ≡ true → (f : Name) × (given_in s ts ≡ Some f) × (peer_in s ts ≡ Some f.name)
-gave_in o bo (ByPeer c) (a ∷ ts) p q = (p.0.0, p.0.1, ap (λ x. option_and_then {T = Name} {U = List ℕ} (λ f. Some f.name) x) p.0.1)
+gave_in : (o : Opening) (bo : List Entry) (s : Start) (ts : List Taken) → Walk o bo s ts
+    → whole_by (Some (record { start = s; before = bo })) ts ≡ true
+    → (f : Name) × (given_in s ts ≡ Some f) × (peer_in s ts ≡ Some f.name)
+gave_in o bo (ByPeer c) (a ∷ ts) p q =
+    (p.0.0, p.0.1, ap (λ x. option_and_then {T = Name} {U = List ℕ} (λ f. Some f.name) x) p.0.1)
 gave_in o bo (ByDial n c) (a ∷ b ∷ r ∷ ts) p q = (
-  record { flags = p.1.1.0.flags; creation = p.1.1.0.creation; name = p.1.1.0.name; version = p.1.1.0.version },
-  ap (λ x. option_and_then {T = Challenge} {U = Name} (λ f. Some (record { flags = f.flags; creation = f.creation; name = f.name; version = f.version })) x) p.1.1.1,
+  record {
+    flags = p.1.1.0.flags;
+    creation = p.1.1.0.creation;
+    name = p.1.1.0.name;
+    version = p.1.1.0.version;
+  },
+  ap (λ x. option_and_then {T = Challenge} {U =
+      Name} (λ f. Some (record {
+        flags = f.flags;
+        creation = f.creation;
+        name = f.name;
+        version = f.version;
+      })) x) p.1.1.1,
   ap Some ((same_decides n p.1.1.0.name).0 p.1.1.2),
 )
 gave_in o bo s ts p q = lie (sym q)
 
-gave_by : (o : Opening) (oe : Option Opened) (ts : List Taken) → Far o oe ts → whole_by oe ts ≡ true → (f : Name) × (given_by oe ts ≡ Some f) × (peer_by oe ts ≡ Some f.name)
+gave_by : (o : Opening) (oe : Option Opened) (ts : List Taken) → Far o oe ts → whole_by oe ts ≡ true
+    → (f : Name) × (given_by oe ts ≡ Some f) × (peer_by oe ts ≡ Some f.name)
 gave_by o None ts p q = lie (sym q)
 gave_by o (Some x) ts p q = gave_in o x.before x.start ts p q
 
@@ -158,5 +229,12 @@ pub up-gave : (h : History) → IsPlayed h → (l : ℕ) → IsTrue (is_up l h.e
     → (f : Name) × (given l h.entries ≡ Some f) × (peer_of l h.entries ≡ Some f.name)
     × (is_visible h l ≡ (not h.opening.hidden && has_bit 0 f.flags))
 up-gave h legal l up =
-    let gave = gave_by h.opening (opened l h.entries) (taken l h.entries) (far h.opening h.entries legal l) (and_parts (is_open l h.entries) (is_whole l h.entries) up).1 in
-    (gave.0, gave.1, gave.2, ap (λ x. not h.opening.hidden && option_map_or {T = Name} {U = Bool} (λ f. has_bit 0 f.flags) x false) gave.1)
+    let gave = gave_by h.opening (opened l h.entries) (taken l h.entries)
+    (far h.opening h.entries legal l)
+    (and_parts (is_open l h.entries) (is_whole l h.entries) up).1 in (
+      gave.0,
+      gave.1,
+      gave.2,
+      ap (λ x. not h.opening.hidden && option_map_or {T = Name} {U =
+          Bool} (λ f. has_bit 0 f.flags) x false) gave.1,
+    )

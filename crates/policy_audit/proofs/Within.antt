@@ -1,21 +1,21 @@
 -- Which rows an entry may change: no others change.
-use Rattle.policy_audit.proofs.Words.{ap, arith, refl, subst, sym, ◌∙◌, eqb-true, not-false, not-true, or_parts, option_map_or, Bool, List}
-use Rattle.policy_audit.proofs.Words.{None, Option, Some, [], cond, false, not, true, ℕ, ◌&&◌, ◌++◌}
-use Rattle.policy_audit.proofs.Words.{◌==◌, ◌||◌, ◌∷◌, ◌≡◌}
-use Rattle.policy_audit.proofs.Words.{same_decides, same_sym, mentions, same, same_pid, stands_in, Pid, Message, checks, is_about_rows}
-use Rattle.policy_audit.proofs.Words.{is_replaced, may_change, Talk, said_at, stated_in, talk}
-use Rattle.policy_audit.proofs.Words.{talk_of, History, past, is_open, is_up, is_from}
-use Rattle.policy_audit.proofs.Words.{listed, listed_by, is_local, is_running, own, IsPlayedIn}
-use Rattle.policy_audit.proofs.Words.{IsStep, up_answer, judgement, just}
-use Rattle.policy_audit.proofs.Words.{Taken, awaits, is_last, is_peer, is_visible, is_whole, opened, peer_of, present_link, taken, Entry}
-use Rattle.policy_audit.proofs.Words.{and_parts, Verdict, Accepted, Refused, Event, Opening, Reply}
-use Rattle.policy_audit.proofs.Accepted.{lie, accepted, all_hold}
-use Rattle.policy_audit.proofs.Walked.{but, fresh, frame_fits}
-use Rattle.policy_audit.proofs.Finished.{kept, given_kept, whole_kept, Completed}
-use Rattle.policy_audit.proofs.UpLinks.{flip, agrees, none_opened, given_up, done_now, answered, ends_by, other}
-use Rattle.policy_audit.proofs.ChangeLemmas.{stopped_lists}
-use Rattle.policy_audit.proofs.Effects.{rows_left}
-use Rattle.policy_audit.proofs.Heard.{has_sync, heard_runs, heard_whole}
+use Rattle.policy_audit.proofs
+use proofs.Words.{Accepted, and_parts, ap, arith, awaits, Bool, checks, cond, Entry, eqb-true}
+use proofs.Words.{Event, false, History, is_about_rows, is_from, is_last, is_local, is_open}
+use proofs.Words.{is_peer, is_replaced, is_running, is_up, is_visible, is_whole, IsPlayedIn, IsStep}
+use proofs.Words.{judgement, just, List, listed, listed_by, may_change, mentions, Message, None}
+use proofs.Words.{not, not-false, not-true, opened, Opening, Option, option_map_or, or_parts, own}
+use proofs.Words.{past, peer_of, Pid, present_link, refl, Refused, Reply, said_at, same}
+use proofs.Words.{same_decides, same_pid, same_sym, Some, stands_in, stated_in, subst, sym, Taken}
+use proofs.Words.{taken, Talk, talk, talk_of, true, up_answer, Verdict, ℕ, [], ◌&&◌, ◌++◌, ◌==◌}
+use proofs.Words.{◌||◌, ◌∙◌, ◌∷◌, ◌≡◌}
+use proofs.Accepted.{accepted, all_hold, lie}
+use proofs.Walked.{but, frame_fits, fresh}
+use proofs.Finished.{Completed, given_kept, kept, whole_kept}
+use proofs.UpLinks.{agrees, answered, done_now, ends_by, flip, given_up, none_opened, other}
+use proofs.ChangeLemmas.{stopped_lists}
+use proofs.Effects.{rows_left}
+use proofs.Heard.{has_sync, heard_runs, heard_whole}
 
 or_left : (a b : Bool) → (a || b) ≡ false → a ≡ false
 or_left a b q = (or_parts a b q).0
@@ -35,12 +35,17 @@ module _ (o : Opening) (es : List Entry) (x : Entry) (s g : List ℕ) (p : Pid) 
   remote now link = option_map_or (listed_by (past o now) s g p) link 0
 
   -- where the present link of p's node stays, and lists the same
-  pub remote_same : present_link p.node (x ∷ es) ≡ present_link p.node es → ((l : ℕ) → present_link p.node es ≡ Some l → listed_by (past o (x ∷ es)) s g p l ≡ listed_by (past o es) s g p l)
+  pub remote_same : present_link p.node (x ∷ es) ≡ present_link p.node es
+      → ((l : ℕ) → present_link p.node es ≡ Some l
+      → listed_by (past o (x ∷ es)) s g p l ≡ listed_by (past o es) s g p l)
       → remote (x ∷ es) (present_link p.node (x ∷ es)) ≡ remote es (present_link p.node es)
   remote_same a each = grind (arith, a, each)
 
-  pub all_same : is_local (past o (x ∷ es)) p ≡ is_local (past o es) p → own (past o (x ∷ es)) s g p ≡ own (past o es) s g p → is_running (past o (x ∷ es)) s ≡ is_running (past o es) s
-      → remote (x ∷ es) (present_link p.node (x ∷ es)) ≡ remote es (present_link p.node es) → listed (past o (x ∷ es)) s g p ≡ listed (past o es) s g p
+  pub all_same : is_local (past o (x ∷ es)) p ≡ is_local (past o es) p
+      → own (past o (x ∷ es)) s g p ≡ own (past o es) s g p
+      → is_running (past o (x ∷ es)) s ≡ is_running (past o es) s
+      → remote (x ∷ es) (present_link p.node (x ∷ es)) ≡ remote es (present_link p.node es)
+      → listed (past o (x ∷ es)) s g p ≡ listed (past o es) s g p
   all_same a b c d = λ i. cond (a i) (b i) (cond (c i) (d i) 0)
 
 module _ (o : Opening) (es : List Entry) (legal : IsPlayedIn o es) (e : Entry)
@@ -66,13 +71,16 @@ module _ (o : Opening) (es : List Entry) (legal : IsPlayedIn o es) (e : Entry)
   unheard : is_running (past o es) s ≡ false → (l : ℕ) → has_sync s (talk o l es) ≡ false
   unheard q l = grind (arith, heard_runs o es legal l s)
 
-  starts_scope : (t : List ℕ) (r : Reply) → is_running (past o es) t ≡ false → same_rows (but e (Event.StartScope t) (Accepted r))
+  starts_scope : (t : List ℕ) (r : Reply) → is_running (past o es) t ≡ false
+      → same_rows (but e (Event.StartScope t) (Accepted r))
   starts_scope t r stopped = by (same t s) refl
     where
       by : (b : Bool) → same t s ≡ b → same_rows (but e (Event.StartScope t) (Accepted r))
-      by false q = all_same o es (but e (Event.StartScope t) (Accepted r)) s g p refl (grind arith) (grind arith)
+      by false q = all_same o es (but e (Event.StartScope t) (Accepted r)) s g p refl (grind arith)
+          (grind arith)
           (remote_same o es (but e (Event.StartScope t) (Accepted r)) s g p refl (λ l here. refl))
-      by true q = (let here : is_running (past o es) s ≡ false = grind (arith, same_decides t s) in grind (arith, unheard here, stopped_lists (past o es) s g p here))
+      by true q = (let here : is_running (past o es) s ≡ false = grind (arith, same_decides t s) in
+          grind (arith, unheard here, stopped_lists (past o es) s g p here))
 
   -- ---- links
 
@@ -86,17 +94,21 @@ module _ (o : Opening) (es : List Entry) (legal : IsPlayedIn o es) (e : Entry)
     fr r = but e (Event.Frame k body) (Accepted r)
 
     -- a message about another scope
-    elsewhere_sync : (x : Option Message) (ts : List Talk) → is_about_rows s x ≡ false → has_sync s (talk_of x ++ ts) ≡ has_sync s ts
+    elsewhere_sync : (x : Option Message) (ts : List Talk) → is_about_rows s x ≡ false
+        → has_sync s (talk_of x ++ ts) ≡ has_sync s ts
     elsewhere_sync x ts q = grind arith
 
-    elsewhere_count : (x : Option Message) (ts : List Talk) → is_about_rows s x ≡ false → stated_in s g p (talk_of x ++ ts) ≡ stated_in s g p ts
+    elsewhere_count : (x : Option Message) (ts : List Talk) → is_about_rows s x ≡ false
+        → stated_in s g p (talk_of x ++ ts) ≡ stated_in s g p ts
     elsewhere_count x ts q = grind arith
 
     -- a frame that is not the last of a side
     not_last : is_last (awaits k es) ≡ false
         → (is_whole k es && is_peer n k es && is_about_rows s (said_at o k es body)) ≡ false
         → same_rows (fr Reply.Done)
-    not_last q within = all_same o es (fr Reply.Done) s g p refl refl refl (remote_same o es (fr Reply.Done) s g p refl (λ l here. each l here (k == l) refl))
+    not_last q within =
+        all_same o es (fr Reply.Done) s g p refl refl refl
+        (remote_same o es (fr Reply.Done) s g p refl (λ l here. each l here (k == l) refl))
       where
         -- what a link lists is read from these
         lists_as : (shown shown_now from from_now up up_now : Bool) (ts now : List Talk)
@@ -107,7 +119,8 @@ module _ (o : Opening) (es : List Entry) (legal : IsPlayedIn o es) (e : Entry)
         lists_as shown shown_now from from_now up up_now ts now a b c d e =
             λ i. cond (a i && b i) (cond (c i && d i) (e i) 0) 0
 
-        each : (l : ℕ) → present_link n es ≡ Some l → (b : Bool) → (k == l) ≡ b → listed_by (past o (fr Reply.Done ∷ es)) s g p l ≡ listed_by (past o es) s g p l
+        each : (l : ℕ) → present_link n es ≡ Some l → (b : Bool) → (k == l) ≡ b
+            → listed_by (past o (fr Reply.Done ∷ es)) s g p l ≡ listed_by (past o es) s g p l
         each l here false a = grind (arith, given_up o es legal n e fresh_is k body l)
         each l here true a =
             let moment : Taken = record { body = body; before = es } in
@@ -152,7 +165,8 @@ module _ (o : Opening) (es : List Entry) (legal : IsPlayedIn o es) (e : Entry)
             (ap (stated_in s g p) speech ∙ count)
 
     -- the last frame of a side: nobody is heard on the link yet
-    module _ (opens : is_open k es ≡ true) (last : is_last (awaits k es) ≡ true) (c : Completed (record { body = body; before = es }) (opened k es) (taken k es)) where
+    module _ (opens : is_open k es ≡ true) (last : is_last (awaits k es) ≡ true)
+        (c : Completed (record { body = body; before = es }) (opened k es) (taken k es)) where
       abbrev up_reply : Reply
       up_reply = Reply.Up c.peer c.gave.creation (is_visible (past o es) k)
 
@@ -164,10 +178,15 @@ module _ (o : Opening) (es : List Entry) (legal : IsPlayedIn o es) (e : Entry)
       new_lists = grind (arith, silent)
 
       last_rows : is_replaced n es (fr up_reply ∷ es) ≡ false → same_rows (fr up_reply)
-      last_rows stay = all_same o es (fr up_reply) s g p refl refl refl (by (present_link n es) refl (same c.peer n) refl stay)
+      last_rows stay =
+          all_same o es (fr up_reply) s g p refl refl refl
+          (by (present_link n es) refl (same c.peer n) refl stay)
         where
-          by : (y : Option ℕ) → present_link n es ≡ y → (b : Bool) → same c.peer n ≡ b → option_map_or (λ l. not (option_map_or (λ j. j == l) (cond b (Some k) y) false)) y false ≡ false
-              → remote o es (fr up_reply) s g p (fr up_reply ∷ es) (cond b (Some k) y) ≡ remote o es (fr up_reply) s g p es y
+          by : (y : Option ℕ) → present_link n es ≡ y → (b : Bool) → same c.peer n ≡ b
+              → option_map_or (λ l. not (option_map_or (λ j. j == l) (cond b (Some k) y) false)) y
+              false ≡ false
+              → remote o es (fr up_reply) s g p (fr up_reply ∷ es) (cond b (Some k) y)
+              ≡ remote o es (fr up_reply) s g p es y
           by None q b a m = grind (arith, new_lists)
           by (Some l) q b a m =
               grind (
@@ -199,18 +218,29 @@ module _ (o : Opening) (es : List Entry) (legal : IsPlayedIn o es) (e : Entry)
   pub rows_step : (ev : Event) (v : Verdict) → v ≡ judgement (past o es) e.seat ev
       → may_change o es (but e ev v) s g p ≡ false → same_rows (but e ev v)
   rows_step ev (Refused r) q within = rows_left (past o es) e ev (Refused r) refl s g p
-  rows_step (Event.StartScope t) (Accepted r) q within = starts_scope t r (not-true (is_running (past o es) t) (not-false (not (is_running (past o es) t)) (all_hold (checks (past o es) e.seat (Event.StartScope t)) (accepted (past o es) e.seat (Event.StartScope t) r q).0).0))
+  rows_step (Event.StartScope t) (Accepted r) q within =
+      starts_scope t r
+      (not-true (is_running (past o es) t)
+      (not-false (not (is_running (past o es) t))
+      (all_hold (checks (past o es) e.seat (Event.StartScope t))
+      (accepted (past o es) e.seat (Event.StartScope t) r q).0).0))
   rows_step (Event.Frame k body) (Accepted r) q within =
       let met = accepted (past o es) e.seat (Event.Frame k body) r q in
       frame_rows k body r (frame_fits o es e.seat k body met.0).0 met.1 within
   rows_step Event.Restart (Accepted r) q within = lie within
-  rows_step (Event.StopScope t) (Accepted r) _ within = all_same o es (but e (Event.StopScope t) (Accepted r)) s g p refl (grind arith) (grind arith)
+  rows_step (Event.StopScope t) (Accepted r) _ within =
+      all_same o es (but e (Event.StopScope t) (Accepted r)) s g p refl (grind arith) (grind arith)
       (remote_same o es (but e (Event.StopScope t) (Accepted r)) s g p refl (λ l here. grind arith))
-  rows_step (Event.Exit x) (Accepted r) _ within = all_same o es (but e (Event.Exit x) (Accepted r)) s g p refl (grind arith) refl
+  rows_step (Event.Exit x) (Accepted r) _ within =
+      all_same o es (but e (Event.Exit x) (Accepted r)) s g p refl (grind arith) refl
       (remote_same o es (but e (Event.Exit x) (Accepted r)) s g p refl (λ l here. refl))
-  rows_step (Event.Join t f ps) (Accepted r) _ within = all_same o es (but e (Event.Join t f ps) (Accepted r)) s g p refl (grind (arith, unmentioned p ps)) refl
+  rows_step (Event.Join t f ps) (Accepted r) _ within =
+      all_same o es (but e (Event.Join t f ps) (Accepted r)) s g p refl
+      (grind (arith, unmentioned p ps)) refl
       (remote_same o es (but e (Event.Join t f ps) (Accepted r)) s g p refl (λ l here. refl))
-  rows_step (Event.Leave t f ps) (Accepted r) _ within = all_same o es (but e (Event.Leave t f ps) (Accepted r)) s g p refl (grind (arith, unmentioned p ps)) refl
+  rows_step (Event.Leave t f ps) (Accepted r) _ within =
+      all_same o es (but e (Event.Leave t f ps) (Accepted r)) s g p refl
+      (grind (arith, unmentioned p ps)) refl
       (remote_same o es (but e (Event.Leave t f ps) (Accepted r)) s g p refl (λ l here. refl))
   rows_step (Event.Dial m c) (Accepted r) _ within = grind (arith, other_number)
   rows_step (Event.Opened c) (Accepted r) _ within = grind (arith, other_number)

@@ -1,17 +1,15 @@
 -- Which rows an entry and its losses may change: no others change.
-use Rattle.policy_audit.proofs.Words.{ap, arith, refl, sym, ◌∙◌, option_map_or, Bool, List, None}
-use Rattle.policy_audit.proofs.Words.{Option, Some, cond}
-use Rattle.policy_audit.proofs.Words.{false, not, or_parts, true, ℕ, ◌&&◌, ◌==◌, ◌||◌, ◌∷◌, ◌≡◌}
-use Rattle.policy_audit.proofs.Words.{Pid, History, past, just, lose}
-use Rattle.policy_audit.proofs.Words.{present_link, is_accepted, is_local, is_replaced, concerns}
-use Rattle.policy_audit.proofs.Words.{may_change_with, listed}
-use Rattle.policy_audit.proofs.Words.{slow_links, with_entry, IsPlayed, Entry, Verdict, Accepted}
-use Rattle.policy_audit.proofs.Words.{Refused, Event}
-use Rattle.policy_audit.proofs.Accepted.{lie}
-use Rattle.policy_audit.proofs.Walked.{but}
-use Rattle.policy_audit.proofs.LostWords.{is_one, left_link, lost_present}
-use Rattle.policy_audit.proofs.Losses.{lost_rows_gone}
-use Rattle.policy_audit.proofs.Within.{rows_within}
+use Rattle.policy_audit.proofs
+use proofs.Words.{Accepted, ap, arith, Bool, concerns, cond, Entry, Event, false, History}
+use proofs.Words.{is_accepted, is_local, is_replaced, IsPlayed, just, List, listed, lose}
+use proofs.Words.{may_change_with, None, not, Option, option_map_or, or_parts, past, Pid}
+use proofs.Words.{present_link, refl, Refused, slow_links, Some, sym, true, Verdict, with_entry, ℕ}
+use proofs.Words.{◌&&◌, ◌==◌, ◌||◌, ◌∙◌, ◌∷◌, ◌≡◌}
+use proofs.Accepted.{lie}
+use proofs.Walked.{but}
+use proofs.LostWords.{is_one, left_link, lost_present}
+use proofs.Losses.{lost_rows_gone}
+use proofs.Within.{rows_within}
 
 -- the link old is there no longer
 abbrev replaced : Option ℕ → Option ℕ → Bool

@@ -1,12 +1,12 @@
 -- The changes where some rows leave and others join, or take the place of others.
-use Rattle.scope_core.proofs.Words.{◌≡◌, ℕ, ◌+◌, ◌-◌, ◌<◌, Bool, true, false, cond, ◌&&◌, List, []}
-use Rattle.scope_core.proofs.Words.{◌∷◌, map, refl, ◌∙◌, arith, AllByRecursion, or_right, or_left}
-use Rattle.scope_core.proofs.Words.{exact_bytes, Pid, text_cmp, same, mentions, is_among, total}
-use Rattle.scope_core.proofs.Words.{Rises, IsGroupListing, is_empty, IsProper, texts_total}
-use Rattle.scope_core.proofs.Words.{same_decides, one_of_many, Counted, counted_cmp, Tells}
-use Rattle.scope_core.proofs.Words.{GroupChange, length, Less, Row, how_many, IsDifference, is_row}
-use Rattle.scope_core.proofs.Words.{tally, IsEmptied, Adds, times_beyond, picked, no_count}
-use Rattle.scope_core.proofs.Rising.{all_unmapped, once, row_is, tally_absent}
+use Rattle.scope_core.proofs
+use proofs.Words.{Adds, AllByRecursion, arith, Bool, cond, Counted, counted_cmp, exact_bytes, false}
+use proofs.Words.{GroupChange, how_many, is_among, is_empty, is_row, IsDifference, IsEmptied}
+use proofs.Words.{IsGroupListing, IsProper, length, Less, List, map, mentions, no_count}
+use proofs.Words.{one_of_many, or_left, or_right, picked, Pid, refl, Rises, Row, same, same_decides}
+use proofs.Words.{tally, Tells, text_cmp, texts_total, times_beyond, total, true, ℕ, [], ◌&&◌, ◌+◌}
+use proofs.Words.{◌-◌, ◌<◌, ◌∙◌, ◌∷◌, ◌≡◌}
+use proofs.Rising.{all_unmapped, once, row_is, tally_absent}
 
 -- the change where the processes that are hit leave all groups, and some are their rows
 pub part_told : (hit : Pid → Bool) (cs some : List Counted)

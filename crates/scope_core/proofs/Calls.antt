@@ -1,22 +1,19 @@
 -- What the calls of a table change, and when there is room: for rows of one node, and for own
 -- processes.
-use Rattle.scope_core.proofs.Words.{All, Bool, List, [], cond, false, length, map, min, true, ℕ}
-use Rattle.scope_core.proofs.Words.{◌+◌, ◌∷◌, ◌≡◌, ◌≤◌, arith, refl, not-false, not-true}
-use Rattle.scope_core.proofs.Words.{length-map, All-map, AllByRecursion, one_difference}
-use Rattle.scope_core.proofs.Words.{same_decides, same_pid_decides, same_sym, how_many_le}
-use Rattle.scope_core.proofs.Words.{IsDifference, change_unless_empty, IsPidListing, how_many}
-use Rattle.scope_core.proofs.Words.{mentions, same, same_pid, GroupChange, Pid, Row, Adds}
-use Rattle.scope_core.proofs.Words.{HasRoomFor, Joins, row_in, without_node, Counts, IsAddFault}
-use Rattle.scope_core.proofs.Words.{IsSyncFault, count_after_add, count_after_sync, Tells, IsKept}
-use Rattle.scope_core.proofs.Words.{Table, is_of_node, is_row, local_count, local_total, tally}
-use Rattle.scope_core.proofs.Words.{Counted, TableFault, NotJoined, NotListed, OutOfMemory}
-use Rattle.scope_core.proofs.Words.{RowsFull, max_rows, not, sym, Covers, IsNodeList, same_length}
-use Rattle.scope_core.proofs.Words.{recursion_from_All}
-use Rattle.scope_core.proofs.Rising.{row_is, all_map, none_pass, tally_none, tally_all, gone_counts}
-use Rattle.scope_core.proofs.Rising.{own_from_tally}
-use Rattle.scope_core.proofs.Shares.{fewer_rows}
-use Rattle.scope_core.proofs.Unnamed.{unnamed_same, same_members}
-use Rattle.scope_core.proofs.Runs.{all_at}
+use Rattle.scope_core.proofs
+use proofs.Words.{Adds, All, All-map, AllByRecursion, arith, Bool, change_unless_empty, cond}
+use proofs.Words.{count_after_add, count_after_sync, Counted, Counts, Covers, false, GroupChange}
+use proofs.Words.{HasRoomFor, how_many, how_many_le, is_of_node, is_row, IsAddFault, IsDifference}
+use proofs.Words.{IsKept, IsNodeList, IsPidListing, IsSyncFault, Joins, length, length-map, List}
+use proofs.Words.{local_count, local_total, map, max_rows, mentions, min, not, not-false, not-true}
+use proofs.Words.{NotJoined, NotListed, one_difference, OutOfMemory, Pid, recursion_from_All, refl}
+use proofs.Words.{Row, row_in, RowsFull, same, same_decides, same_length, same_pid}
+use proofs.Words.{same_pid_decides, same_sym, sym, Table, TableFault, tally, Tells, true}
+use proofs.Words.{without_node, ℕ, [], ◌+◌, ◌∷◌, ◌≡◌, ◌≤◌}
+use proofs.Rising.{all_map, gone_counts, none_pass, own_from_tally, row_is, tally_all, tally_none}
+use proofs.Shares.{fewer_rows}
+use proofs.Unnamed.{same_members, unnamed_same}
+use proofs.Runs.{all_at}
 
 -- no more rows than one node may have
 pub alone_fit : (rows : List Row) → length rows ≤ max_rows → HasRoomFor rows []

@@ -1,28 +1,28 @@
 -- The index of a node's processes, made of lists of their rows.
-use Rattle.scope_core.proofs.Words.{◌≡◌, ℕ, zero, suc, ◌+◌, ◌-◌, ◌<◌, ◌&&◌, ◌||◌, Bool, true, false}
-use Rattle.scope_core.proofs.Words.{cond, List, [], ◌∷◌, ◌++◌, length, slice_get, get_or, set}
-use Rattle.scope_core.proofs.Words.{Option, None, Some, refl, sym, ap, ◌∙◌, arith, subst}
-use Rattle.scope_core.proofs.Words.{Less, is_gt, AllByRecursion, Rises, Ascends, row_cmp, Row}
-use Rattle.scope_core.proofs.Words.{Counted, tied_itself, IsPermutation, same_row_decides, same_row}
-use Rattle.scope_core.proofs.Words.{◌==◌, and_parts, all_from, Ordering, is_lt, ◌≤◌}
+use Rattle.scope_core.proofs
+use Rattle.scope_core.specs
+use proofs.Words.{all_from, AllByRecursion, and_parts, ap, arith, Ascends, Bool, cond, Counted}
+use proofs.Words.{false, get_or, is_gt, is_lt, IsPermutation, length, Less, List, None, Option}
+use proofs.Words.{Ordering, refl, Rises, Row, row_cmp, same_row, same_row_decides, set, slice_get}
+use proofs.Words.{Some, subst, suc, sym, tied_itself, true, zero, ℕ, [], ◌&&◌, ◌++◌, ◌+◌, ◌-◌, ◌<◌}
+use proofs.Words.{◌==◌, ◌||◌, ◌∙◌, ◌∷◌, ◌≡◌, ◌≤◌}
 use Rattle.std.specs.Prelude.{IfSome}
 use Rattle.std.specs.Option.{is_some, option_to_list}
-use Rattle.std.specs.Ordering.{eq_by_cmp, is_eq}
-use Rattle.std.specs.Map.{lookup, keys_of}
+use Rattle.std.specs.Ordering.{eq_by_cmp, is_eq, ordering_reverse}
+use Rattle.std.specs.Map.{keys_of, lookup}
 use Rattle.std.specs.List.{IsDistinct}
-use Rattle.scope_core.specs.declared.process_key.ProcessKey.{ProcessKey}
-use Rattle.scope_core.specs.declared.small_map.SmallMap.{SmallMap}
-use Rattle.scope_core.specs.declared.small_map.SmallMap.TheVariants.{One}
-use Rattle.scope_core.specs.SmallMap.{find, found}
-use Rattle.scope_core.specs.HashedRows.{key_of, key_cmp, has_key, stands}
-use Rattle.scope_core.specs.Copies.{process_keys, keyed, keyed_maps, is_keyed, is_held, IsLastKey}
-use Rattle.scope_core.proofs.HashedRows.{keys_total, one_key, one_row, rows_equal}
-use Rattle.scope_core.proofs.Rising.{all_map, all_mapped}
-use Rattle.std.specs.Ordering.{ordering_reverse}
+use specs.declared.process_key.ProcessKey.{ProcessKey}
+use specs.declared.small_map.SmallMap.{SmallMap}
+use specs.declared.small_map.SmallMap.TheVariants.{One}
+use specs.SmallMap.{find, found}
+use specs.HashedRows.{has_key, key_cmp, key_of, stands}
+use specs.Copies.{is_held, is_keyed, IsLastKey, keyed, keyed_maps, process_keys}
+use proofs.HashedRows.{keys_total, one_key, one_row, rows_equal}
+use proofs.Rising.{all_map, all_mapped}
 use Rattle.std.specs.List.Sorted.{IsSortedByKey}
-use Rattle.std.proofs.lemmas.List.Sorted.{sorted_far, ranks_by, list_any-IsPermutation}
+use Rattle.std.proofs.lemmas.List.Sorted.{list_any-IsPermutation, ranks_by, sorted_far}
 use Rattle.std.proofs.lemmas.Map.Entries.{length-keys_of}
-use Rattle.std.proofs.lemmas.Bool.Decides.{same_from_decides, Decides-eqb}
+use Rattle.std.proofs.lemmas.Bool.Decides.{Decides-eqb, same_from_decides}
 
 abbrev pub Maps : Type 0
 Maps = List (ProcessKey × SmallMap Row (Unit {0}))

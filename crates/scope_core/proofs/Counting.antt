@@ -1,12 +1,12 @@
 -- Rows in order that are counted one by one.
-use Rattle.scope_core.proofs.Words.{IsPermutation, how_many_is, sum_by-IsPermutation, ◌≡◌, ℕ, zero}
-use Rattle.scope_core.proofs.Words.{refl, suc, ◌+◌, ◌<◌, ◌≤◌, Bool, cond, List, [], ◌∷◌, ◌++◌}
-use Rattle.scope_core.proofs.Words.{length, ap, sym, ◌∙◌, arith, subst, Less, AllByRecursion}
-use Rattle.scope_core.proofs.Words.{HoldsAt, get_or, set, drop, same_decides, Rises, row_cmp, Row}
-use Rattle.scope_core.proofs.Words.{Counted, counted_cmp, tally, is_of_node, max_rows, AreCounted}
-use Rattle.scope_core.proofs.Words.{IsKept, HasRoomFor, Adds, how_many}
-use Rattle.scope_core.proofs.Tallies.{tally_append}
-use Rattle.scope_core.proofs.Pushed.{rises_push}
+use Rattle.scope_core.proofs
+use proofs.Words.{Adds, AllByRecursion, ap, AreCounted, arith, Bool, cond, Counted, counted_cmp}
+use proofs.Words.{drop, get_or, HasRoomFor, HoldsAt, how_many, how_many_is, is_of_node, IsKept}
+use proofs.Words.{IsPermutation, length, Less, List, max_rows, refl, Rises, Row, row_cmp}
+use proofs.Words.{same_decides, set, subst, suc, sum_by-IsPermutation, sym, tally, zero, ℕ, []}
+use proofs.Words.{◌++◌, ◌+◌, ◌<◌, ◌∙◌, ◌∷◌, ◌≡◌, ◌≤◌}
+use proofs.Tallies.{tally_append}
+use proofs.Pushed.{rises_push}
 
 -- ---- one more of a row
 

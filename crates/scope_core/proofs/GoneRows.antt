@@ -1,19 +1,18 @@
 -- Rows that leave: how many they are, and what is counted once they are gone.
-use Rattle.scope_core.proofs.Words.{◌≡◌, ℕ, zero, suc, ◌+◌, ◌-◌, ◌<◌, ◌≤◌, true, false, cond, not}
-use Rattle.scope_core.proofs.Words.{min, nat_lt, nat_le, List, [], ◌∷◌, map, filter, take, get_or}
-use Rattle.scope_core.proofs.Words.{length, list_any, list_all, refl, arith, inl, inr, cases_lt}
-use Rattle.scope_core.proofs.Words.{AllByRecursion, All, length-filter, how_many_is, how_many_le}
-use Rattle.scope_core.proofs.Words.{Less, tied_itself, rows_total, Row, Pid, Counted, Rises}
-use Rattle.scope_core.proofs.Words.{counted_cmp, same, same_pid, same_row, same_sym, same_decides}
-use Rattle.scope_core.proofs.Words.{same_pid_decides, same_row_decides, how_many, mentions}
-use Rattle.scope_core.proofs.Words.{occurrences, is_row, is_of_node, tally, row_in, are_all_in}
-use Rattle.scope_core.proofs.Words.{Adds, Joins, HasRoomFor, IsPidListing, IsDifference}
-use Rattle.scope_core.proofs.Words.{change_unless_empty, one_difference, Table, count_of}
-use Rattle.scope_core.proofs.Words.{node_total, max_rows, without_node}
-use Rattle.scope_core.proofs.Calls.{alone_fit, mentions_in, no_others, all_or_none}
-use Rattle.scope_core.proofs.Rising.{gone_counts, row_is, tally_none, tally_all}
-use Rattle.scope_core.proofs.Runs.{all_at}
-use Rattle.scope_core.proofs.Shares.{fewer_rows}
+use Rattle.scope_core.proofs
+use proofs.Words.{Adds, All, AllByRecursion, are_all_in, arith, cases_lt, change_unless_empty, cond}
+use proofs.Words.{count_of, Counted, counted_cmp, false, filter, get_or, HasRoomFor, how_many}
+use proofs.Words.{how_many_is, how_many_le, inl, inr, is_of_node, is_row, IsDifference}
+use proofs.Words.{IsPidListing, Joins, length, length-filter, Less, List, list_all, list_any, map}
+use proofs.Words.{max_rows, mentions, min, nat_le, nat_lt, node_total, not, occurrences}
+use proofs.Words.{one_difference, Pid, refl, Rises, Row, row_in, rows_total, same, same_decides}
+use proofs.Words.{same_pid, same_pid_decides, same_row, same_row_decides, same_sym, suc, Table}
+use proofs.Words.{take, tally, tied_itself, true, without_node, zero, ℕ, [], ◌+◌, ◌-◌, ◌<◌, ◌∷◌}
+use proofs.Words.{◌≡◌, ◌≤◌}
+use proofs.Calls.{all_or_none, alone_fit, mentions_in, no_others}
+use proofs.Rising.{gone_counts, row_is, tally_all, tally_none}
+use proofs.Runs.{all_at}
+use proofs.Shares.{fewer_rows}
 
 -- each of the rows is counted no more often than the list has it
 pub within : (old cs : List Counted)

@@ -1,19 +1,18 @@
 -- What the index of groups counts: the rows of the node, and what changes where all leave.
-use Rattle.scope_core.proofs.Words.{◌≡◌, ℕ, ◌-◌, ◌==◌, true, false, cond, List, [], ◌∷◌, ◌++◌, map}
-use Rattle.scope_core.proofs.Words.{flat_map, length, refl, sym, ap, subst, ◌∙◌, arith, Less}
-use Rattle.scope_core.proofs.Words.{AllByRecursion, Rises, Ascends, text_cmp, pid_cmp, same}
-use Rattle.scope_core.proofs.Words.{same_decides, tied_itself, texts_total, pids_total, tally}
-use Rattle.scope_core.proofs.Words.{is_row, Row, Pid, row_in, how_many, how_many_append, mentions}
-use Rattle.scope_core.proofs.Words.{spread, spread_ascends, GroupChange, IsDifference, IsProper}
-use Rattle.scope_core.proofs.Words.{change_unless_empty, same_row, spread_counts, times_left}
-use Rattle.scope_core.proofs.Words.{times_joined, append-nil, keys_of, BTreeMap, ProcessKey}
-use Rattle.scope_core.proofs.Words.{SmallMap, entries_of, pid_of, key_of, key_cmp, group_rows}
-use Rattle.scope_core.proofs.Words.{counted_in, IsHashed}
+use Rattle.scope_core.proofs
+use proofs.Words.{AllByRecursion, ap, append-nil, arith, Ascends, BTreeMap, change_unless_empty}
+use proofs.Words.{cond, counted_in, entries_of, false, flat_map, group_rows, GroupChange, how_many}
+use proofs.Words.{how_many_append, is_row, IsDifference, IsHashed, IsProper, key_cmp, key_of}
+use proofs.Words.{keys_of, length, Less, List, map, mentions, Pid, pid_cmp, pid_of, pids_total}
+use proofs.Words.{ProcessKey, refl, Rises, Row, row_in, same, same_decides, same_row, SmallMap}
+use proofs.Words.{spread, spread_ascends, spread_counts, subst, sym, tally, text_cmp, texts_total}
+use proofs.Words.{tied_itself, times_joined, times_left, true, ℕ, [], ◌++◌, ◌-◌, ◌==◌, ◌∙◌, ◌∷◌}
+use proofs.Words.{◌≡◌}
 use Rattle.std.specs.List.Sorted.{IsStrictlySortedBy}
-use Rattle.scope_core.proofs.HashedWrites.{in_group_count}
-use Rattle.scope_core.proofs.Tallies.{none_mentioned, tally_append}
-use Rattle.scope_core.proofs.GroupRows.{SortedMembers, flat, flat_tally, flat_others}
-use Rattle.scope_core.proofs.GroupRows.{entries_others, group_total, member_counts, other_group}
+use proofs.HashedWrites.{in_group_count}
+use proofs.Tallies.{none_mentioned, tally_append}
+use proofs.GroupRows.{entries_others, flat, flat_others, flat_tally, group_total, member_counts}
+use proofs.GroupRows.{other_group, SortedMembers}
 
 abbrev Members : Type 0
 Members = List (ProcessKey × ℕ)

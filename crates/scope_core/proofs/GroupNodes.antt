@@ -1,16 +1,15 @@
 -- A node more in the list of a group, or one less.
-use Rattle.scope_core.proofs.Words.{◌≡◌, ℕ, ◌≤◌, ◌&&◌, ◌+◌, Bool, true, false, cond, List, [], ◌∷◌}
-use Rattle.scope_core.proofs.Words.{Option, None, Some, refl, sym, ap, arith, length, insert}
-use Rattle.scope_core.proofs.Words.{remove, same, same_decides, how_many, how_many_is}
-use Rattle.scope_core.proofs.Words.{sum_by-insert, sum_by-remove, ◌<◌, ◌∙◌, nat_lt, subst, same_sym}
-use Rattle.scope_core.proofs.Words.{is_gt, Less, AllByRecursion, HoldsAt, text_cmp, texts_total}
-use Rattle.scope_core.proofs.Words.{tied_itself, occurrences, is_among, Ascends, Rises, all_from}
-use Rattle.scope_core.proofs.Words.{ltb-true, named_groups, node_names, times_named, get_or}
-use Rattle.scope_core.proofs.Words.{exact_bytes, IsBinarySearchResult, IfOk, Result, Ok, Err}
-use Rattle.scope_core.proofs.Words.{IsListing, IsDistinct-head, IsDistinct-tail, lookup, keys_of}
-use Rattle.scope_core.proofs.Groups.{below, among_counts}
-use Rattle.scope_core.proofs.Rising.{none_pass}
-use Rattle.scope_core.proofs.Searches.{rises_with, rises_without}
+use Rattle.scope_core.proofs
+use proofs.Words.{all_from, AllByRecursion, ap, arith, Ascends, Bool, cond, Err, exact_bytes, false}
+use proofs.Words.{get_or, HoldsAt, how_many, how_many_is, IfOk, insert, is_among, is_gt}
+use proofs.Words.{IsBinarySearchResult, IsDistinct-head, IsDistinct-tail, IsListing, keys_of}
+use proofs.Words.{length, Less, List, lookup, ltb-true, named_groups, nat_lt, node_names, None}
+use proofs.Words.{occurrences, Ok, Option, refl, remove, Result, Rises, same, same_decides}
+use proofs.Words.{same_sym, Some, subst, sum_by-insert, sum_by-remove, sym, text_cmp, texts_total}
+use proofs.Words.{tied_itself, times_named, true, ℕ, [], ◌&&◌, ◌+◌, ◌<◌, ◌∙◌, ◌∷◌, ◌≡◌, ◌≤◌}
+use proofs.Groups.{among_counts, below}
+use proofs.Rising.{none_pass}
+use proofs.Searches.{rises_with, rises_without}
 use Rattle.scope_core.specs.GroupNodes.{AreInOrder, IsNameGap, nodes_of}
 use Rattle.std.specs.List.{IsDistinct}
 use Rattle.std.specs.Prelude.{Vec}
@@ -58,7 +57,8 @@ name_found ns m (Ok i) h = λ d. exact_bytes (get_or ns i d) m (h d)
 name_found ns m (Err i) h = tt
 
 -- it stands there already
-pub named_already : (m : List ℕ) (ns : List (List ℕ)) (i : ℕ) → i < length ns → HoldsAt (λ k. k ≡ m) ns i
+pub named_already : (m : List ℕ) (ns : List (List ℕ)) (i : ℕ) → i < length ns
+    → HoldsAt (λ k. k ≡ m) ns i
     → Rises text_cmp ns → (n : List ℕ) → times ns n ≡ cond (same m n) 1 (times ns n)
 named_already m ns i l at r n =
     grind (arith, times_remove ns i m n l at, times_once ns r n, same_decides m n)

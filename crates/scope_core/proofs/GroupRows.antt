@@ -1,16 +1,15 @@
 -- The rows of a node, as the index of groups has them in order.
-use Rattle.scope_core.proofs.Words.{◌≡◌, ℕ, ◌+◌, Bool, true, false, cond, List, [], ◌∷◌, ◌++◌}
-use Rattle.scope_core.proofs.Words.{flat_map, refl, sym, ap, ◌∙◌, arith, Less, AllByRecursion}
-use Rattle.scope_core.proofs.Words.{Rises, all_append, text_cmp, row_cmp, same, same_decides}
-use Rattle.scope_core.proofs.Words.{tied_itself, texts_total, tally, is_row, Row, Pid, Counted}
-use Rattle.scope_core.proofs.Words.{counted_cmp, row_in, same_sym, same_pid, mentions, spread}
-use Rattle.scope_core.proofs.Words.{spread_counts, total, replicate, append_assoc, unwrap_or}
-use Rattle.scope_core.proofs.Words.{lookup, keys_of, is_eq, ProcessKey, SmallMap, entries_of, found}
-use Rattle.scope_core.proofs.Words.{pid_of, key_of, key_cmp, group_rows, counted_in}
+use Rattle.scope_core.proofs
+use proofs.Words.{all_append, AllByRecursion, ap, append_assoc, arith, Bool, cond, Counted}
+use proofs.Words.{counted_cmp, counted_in, entries_of, false, flat_map, found, group_rows, is_eq}
+use proofs.Words.{is_row, key_cmp, key_of, keys_of, Less, List, lookup, mentions, Pid, pid_of}
+use proofs.Words.{ProcessKey, refl, replicate, Rises, Row, row_cmp, row_in, same, same_decides}
+use proofs.Words.{same_pid, same_sym, SmallMap, spread, spread_counts, sym, tally, text_cmp}
+use proofs.Words.{texts_total, tied_itself, total, true, unwrap_or, ℕ, [], ◌++◌, ◌+◌, ◌∙◌, ◌∷◌, ◌≡◌}
 use Rattle.std.proofs.lemmas.List.{replicate_more}
 use Rattle.std.specs.List.Sorted.{IsStrictlySortedBy}
-use Rattle.scope_core.proofs.HashedRows.{one_key, one_text}
-use Rattle.scope_core.proofs.Tallies.{tally_append}
+use proofs.HashedRows.{one_key, one_text}
+use proofs.Tallies.{tally_append}
 
 abbrev Groups : Type 0
 Groups = List (List ℕ × SmallMap ProcessKey ℕ)

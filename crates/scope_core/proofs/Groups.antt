@@ -1,13 +1,12 @@
 -- The groups of rows that rise, and those of two lists.
-use Rattle.scope_core.proofs.Words.{◌≡◌, ℕ, ◌<◌, Bool, true, false, cond, not, ◌&&◌, ◌||◌, nat_lt}
-use Rattle.scope_core.proofs.Words.{◌-◌, List, [], ◌∷◌, ◌++◌, length, slice_get, Option, Some, None}
-use Rattle.scope_core.proofs.Words.{refl, ap, ◌∙◌, sym, arith, inl, inr, append_assoc, Less, is_gt}
-use Rattle.scope_core.proofs.Words.{list_any, AllByRecursion, and_parts, or_cases, length_push}
-use Rattle.scope_core.proofs.Words.{exact_bytes, Pid, text_cmp, Counted, same, is_among, Rises}
-use Rattle.scope_core.proofs.Words.{IsGroupListing, is_row, tally, counted_cmp, is_in, heads}
-use Rattle.scope_core.proofs.Words.{differs, last_of, texts_total, same_decides, same_pid_decides}
-use Rattle.scope_core.proofs.Words.{lt-ltb, occurrences, append-nil}
-use Rattle.scope_core.proofs.Rising.{all_map, groups_above}
+use Rattle.scope_core.proofs
+use proofs.Words.{AllByRecursion, and_parts, ap, append-nil, append_assoc, arith, Bool, cond}
+use proofs.Words.{Counted, counted_cmp, differs, exact_bytes, false, heads, inl, inr, is_among}
+use proofs.Words.{is_gt, is_in, is_row, IsGroupListing, last_of, length, length_push, Less, List}
+use proofs.Words.{list_any, lt-ltb, nat_lt, None, not, occurrences, Option, or_cases, Pid, refl}
+use proofs.Words.{Rises, same, same_decides, same_pid_decides, slice_get, Some, sym, tally}
+use proofs.Words.{text_cmp, texts_total, true, ℕ, [], ◌&&◌, ◌++◌, ◌-◌, ◌<◌, ◌||◌, ◌∙◌, ◌∷◌, ◌≡◌}
+use proofs.Rising.{all_map, groups_above}
 
 -- a text that isn't above another, and isn't the same, is below it
 pub below : (g h : List ℕ) → is_gt (text_cmp g h) ≡ false → not (same g h) ≡ true

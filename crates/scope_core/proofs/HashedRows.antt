@@ -1,24 +1,22 @@
 -- One row more, or one less, in a map with two indexes; and what is counted there.
-use Rattle.scope_core.proofs.Words.{◌≡◌, ℕ, ◌+◌, ◌&&◌, ◌==◌, Bool, true, false, cond, List, [], ◌∷◌}
-use Rattle.scope_core.proofs.Words.{◌++◌, Option, None, refl, sym, ap, ◌∙◌, arith, Ordering}
-use Rattle.scope_core.proofs.Words.{AllByRecursion, exact_bytes, tied_itself, texts_total}
-use Rattle.scope_core.proofs.Words.{rows_total, exact_rows, same_decides, same_row_decides}
-use Rattle.scope_core.proofs.Words.{and_parts, same, same_row, text_cmp, row_cmp, Row, tally}
-use Rattle.scope_core.proofs.Words.{is_row, ◌<◌, bare_rows, AreCounted, eq_by_cmp, is_eq}
-use Rattle.scope_core.proofs.Words.{IsTotalOrder, is_some, unwrap_or, lookup, keys_of, remove_entry}
-use Rattle.scope_core.proofs.Words.{set_value, IsDistinct-tail, Decides-eqb, ProcessKey, key_of}
-use Rattle.scope_core.proofs.Words.{pid_of, key_cmp, has_key, has_row, stands, counted_in}
+use Rattle.scope_core.proofs
+use proofs.Words.{AllByRecursion, and_parts, ap, AreCounted, arith, bare_rows, Bool, cond}
+use proofs.Words.{counted_in, Decides-eqb, eq_by_cmp, exact_bytes, exact_rows, false, has_key}
+use proofs.Words.{has_row, is_eq, is_row, is_some, IsDistinct-tail, IsTotalOrder, key_cmp, key_of}
+use proofs.Words.{keys_of, List, lookup, None, Option, Ordering, pid_of, ProcessKey, refl}
+use proofs.Words.{remove_entry, Row, row_cmp, rows_total, same, same_decides, same_row}
+use proofs.Words.{same_row_decides, set_value, stands, sym, tally, text_cmp, texts_total}
+use proofs.Words.{tied_itself, true, unwrap_or, ℕ, [], ◌&&◌, ◌++◌, ◌+◌, ◌<◌, ◌==◌, ◌∙◌, ◌∷◌, ◌≡◌}
 use Rattle.std.specs.Ordering.{nat_cmp}
 use Rattle.std.specs.Bool.{Decides}
-use Rattle.std.proofs.lemmas.Map.Lookups.{CmpEqualImpliesEq}
+use Rattle.std.proofs.lemmas.Map.Lookups.{CmpEqualImpliesEq, exact_pairs, exact_unsigned}
 use Rattle.std.specs.Cmp.{IsEquivalence}
 use Rattle.std.specs.List.{IsDistinct}
-use Rattle.std.proofs.lemmas.Map.{NonePasses, lookup-none, lookup-remove_entry}
+use Rattle.std.proofs.lemmas.Map.{lookup-none, lookup-remove_entry, NonePasses}
 use Rattle.std.proofs.lemmas.Map.Views.{tells_apart}
 use Rattle.std.proofs.lemmas.Map.Entries.{none_past_head}
 use Rattle.std.proofs.lemmas.Bool.Decides.{same_from_decides}
 use Rattle.std.proofs.lemmas.Cmp.{nat_cmp_total, on_total, then_total}
-use Rattle.std.proofs.lemmas.Map.Lookups.{exact_pairs, exact_unsigned}
 
 -- what compares equal is the same
 one_by_order : {K : Type 0} {R : K → K → Ordering} {alike : K → K → Bool} → IsTotalOrder R

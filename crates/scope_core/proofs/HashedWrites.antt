@@ -1,15 +1,14 @@
 -- What a write does to the index of groups, and to the map alone.
-use Rattle.scope_core.proofs.Words.{◌≡◌, ℕ, ◌+◌, ◌&&◌, Bool, true, false, cond, List, [], ◌∷◌, ◌++◌}
-use Rattle.scope_core.proofs.Words.{Option, None, Some, refl, sym, ap, ◌∙◌, arith, same_decides}
-use Rattle.scope_core.proofs.Words.{same_row_decides, same_row, text_cmp, row_cmp, Pid, Row, tally}
-use Rattle.scope_core.proofs.Words.{is_row, ◌<◌, bare_rows, AreCounted, same_pid, is_there, Counted}
-use Rattle.scope_core.proofs.Words.{◌||◌, length, take, zero, suc, get_or, take_more, list_any}
-use Rattle.scope_core.proofs.Words.{append-nil, eq_by_cmp, is_some, unwrap_or, lookup, set_value}
-use Rattle.scope_core.proofs.Words.{ProcessKey, key_of, pid_of, key_cmp, has_key, has_row, stands}
-use Rattle.scope_core.proofs.Words.{counted_in, IsHashed, find_in, SmallMap, BTreeMap, drop}
-use Rattle.scope_core.proofs.Words.{take-append-drop, or_right}
-use Rattle.scope_core.proofs.HashedRows.{write_copy, one_place, some_cond, rows_equal, stands_is}
-use Rattle.scope_core.proofs.HashedRows.{count_is, Entries, Once, own_at, own_from, counted_from}
+use Rattle.scope_core.proofs
+use proofs.Words.{ap, append-nil, AreCounted, arith, bare_rows, Bool, BTreeMap, cond, Counted}
+use proofs.Words.{counted_in, drop, eq_by_cmp, false, find_in, get_or, has_key, has_row, is_row}
+use proofs.Words.{is_some, is_there, IsHashed, key_cmp, key_of, length, List, list_any, lookup}
+use proofs.Words.{None, Option, or_right, Pid, pid_of, ProcessKey, refl, Row, row_cmp, same_decides}
+use proofs.Words.{same_pid, same_row, same_row_decides, set_value, SmallMap, Some, stands, suc, sym}
+use proofs.Words.{take, take-append-drop, take_more, tally, text_cmp, true, unwrap_or, zero, ℕ, []}
+use proofs.Words.{◌&&◌, ◌++◌, ◌+◌, ◌<◌, ◌||◌, ◌∙◌, ◌∷◌, ◌≡◌}
+use proofs.HashedRows.{count_is, counted_from, Entries, Once, one_place, own_at, own_from}
+use proofs.HashedRows.{rows_equal, some_cond, stands_is, write_copy}
 
 -- ---- the index of groups
 

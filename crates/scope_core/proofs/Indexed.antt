@@ -1,17 +1,16 @@
 -- The nodes of each group, and the rows.
-use Rattle.scope_core.proofs.Words.{◌≡◌, ℕ, ◌≤◌, ◌<◌, ◌&&◌, ◌+◌, Bool, true, false, cond, not}
-use Rattle.scope_core.proofs.Words.{nat_lt, List, [], ◌∷◌, refl, sym, ap, ◌∙◌, arith, list_any}
-use Rattle.scope_core.proofs.Words.{length, same, same_decides, GroupChange, Joins, how_many}
-use Rattle.scope_core.proofs.Words.{Result, take, get_or, take_more, zero, suc, Row, Counted, tally}
-use Rattle.scope_core.proofs.Words.{AllByRecursion, is_of_node, of_node, is_there, has_members}
-use Rattle.scope_core.proofs.Words.{is_named, Covers, OnOk, Ok, Err, Pid, how_many_append, is_row}
-use Rattle.scope_core.proofs.Words.{same_sym, text_cmp, without_node, subst, IsDifference, Tells}
-use Rattle.scope_core.proofs.Words.{is_some, lookup, is_eq}
-use Rattle.scope_core.proofs.NodeLists.{node_tally, lone_row}
-use Rattle.scope_core.proofs.HashedRows.{one_text}
-use Rattle.scope_core.proofs.Unnamed.{named_moves, row_there, some_row}
+use Rattle.scope_core.proofs
+use proofs.Words.{AllByRecursion, ap, arith, Bool, cond, Counted, Covers, Err, false, get_or}
+use proofs.Words.{GroupChange, has_members, how_many, how_many_append, is_eq, is_named, is_of_node}
+use proofs.Words.{is_row, is_some, is_there, IsDifference, Joins, length, List, list_any, lookup}
+use proofs.Words.{nat_lt, not, of_node, Ok, OnOk, Pid, refl, Result, Row, same, same_decides}
+use proofs.Words.{same_sym, subst, suc, sym, take, take_more, tally, Tells, text_cmp, true}
+use proofs.Words.{without_node, zero, ℕ, [], ◌&&◌, ◌+◌, ◌<◌, ◌∙◌, ◌∷◌, ◌≡◌, ◌≤◌}
+use proofs.NodeLists.{lone_row, node_tally}
+use proofs.HashedRows.{one_text}
+use proofs.Unnamed.{named_moves, row_there, some_row}
 use Rattle.std.specs.Result.{OnErr}
-use Rattle.scope_core.proofs.Rising.{tally_none, tally_all}
+use proofs.Rising.{tally_all, tally_none}
 
 pub named_part : (g : List ℕ) (i : ℕ) (cs : List GroupChange) → is_named g (take i cs) ≡ true
     → is_named g cs ≡ true

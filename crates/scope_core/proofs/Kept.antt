@@ -1,14 +1,13 @@
 -- What is kept of groups that stay as they are.
-use Rattle.scope_core.proofs.Words.{◌≡◌, ◌∙◌, ◌||◌, ◌+◌, ◌<◌, ◌++◌, ℕ, Bool, true, false, cond}
-use Rattle.scope_core.proofs.Words.{List, [], ◌∷◌, Some, refl, sym, ap, arith, length, take, get_or}
-use Rattle.scope_core.proofs.Words.{take_more, GroupChange, IsDifference, IsPidListing}
-use Rattle.scope_core.proofs.Words.{IsGroupListing, Counted, Pid, list_any, same, same_decides}
-use Rattle.scope_core.proofs.Words.{same_pid, same_pid_decides, tally, is_row, is_named}
-use Rattle.scope_core.proofs.Words.{has_members, Joins, of_node, without_node, lookup, AreListings}
-use Rattle.scope_core.proofs.Words.{Forgets}
-use Rattle.scope_core.proofs.Rising.{gone_counts, kept_counts}
-use Rattle.scope_core.proofs.Unnamed.{unnamed_same, row_there}
-use Rattle.scope_core.specs.Kept.{KeptLists, kept_of}
+use Rattle.scope_core.proofs
+use proofs.Words.{ap, AreListings, arith, Bool, cond, Counted, false, Forgets, get_or, GroupChange}
+use proofs.Words.{has_members, is_named, is_row, IsDifference, IsGroupListing, IsPidListing, Joins}
+use proofs.Words.{length, List, list_any, lookup, of_node, Pid, refl, same, same_decides, same_pid}
+use proofs.Words.{same_pid_decides, Some, sym, take, take_more, tally, true, without_node, ℕ, []}
+use proofs.Words.{◌++◌, ◌+◌, ◌<◌, ◌||◌, ◌∙◌, ◌∷◌, ◌≡◌}
+use proofs.Rising.{gone_counts, kept_counts}
+use proofs.Unnamed.{row_there, unnamed_same}
+use Rattle.scope_core.specs.Kept.{kept_of, KeptLists}
 
 -- a listing is one of each count that is the same
 still_listing : (before after : Pid → ℕ) (ps : List Pid) → ((p : Pid) → before p ≡ after p)

@@ -1,17 +1,17 @@
 -- Counts that are lowered, one row after another, and raised again.
-use Rattle.scope_core.proofs.Words.{◌≡◌, ℕ, zero, suc, ◌+◌, ◌-◌, ◌<◌, ◌≤◌, ◌==◌, Bool, true, false}
-use Rattle.scope_core.proofs.Words.{cond, List, [], ◌∷◌, ◌++◌, Option, None, Some, refl, sym, ap}
-use Rattle.scope_core.proofs.Words.{subst, ◌∙◌, arith, Row, Pid, Counted, same_row, tally, is_row}
-use Rattle.scope_core.proofs.Words.{is_of_node, are_all_in, list_all, list_any, nat_lt, how_many}
-use Rattle.scope_core.proofs.Words.{how_many_append, take, drop, length, get_or, get_or_default}
-use Rattle.scope_core.proofs.Words.{take_more, take_all, HoldsAt, take-append-drop, max_rows}
-use Rattle.scope_core.proofs.Words.{le-leb, lt-leb, IfSome, unwrap_or, lookup, keys_of}
-use Rattle.scope_core.proofs.Words.{keys-set_value, counted_in, has_row, IsLowered}
+use Rattle.scope_core.proofs
+use proofs.Words.{ap, are_all_in, arith, Bool, cond, Counted, counted_in, drop, false, get_or}
+use proofs.Words.{get_or_default, has_row, HoldsAt, how_many, how_many_append, IfSome, is_of_node}
+use proofs.Words.{is_row, IsLowered, keys-set_value, keys_of, le-leb, length, List, list_all}
+use proofs.Words.{list_any, lookup, lt-leb, max_rows, nat_lt, None, Option, Pid, refl, Row}
+use proofs.Words.{same_row, Some, subst, suc, sym, take, take-append-drop, take_all, take_more}
+use proofs.Words.{tally, true, unwrap_or, zero, ℕ, [], ◌++◌, ◌+◌, ◌-◌, ◌<◌, ◌==◌, ◌∙◌, ◌∷◌, ◌≡◌}
+use proofs.Words.{◌≤◌}
 use Rattle.std.specs.List.{IsDistinct}
-use Rattle.std.proofs.lemmas.Bool.{eqb-true, eqb-false}
+use Rattle.std.proofs.lemmas.Bool.{eqb-false, eqb-true}
 use Rattle.scope_core.specs.LoweredRows.{once_more, raised}
-use Rattle.scope_core.proofs.HashedRows.{count_is, set_tally, rows_equal, stands_is}
-use Rattle.scope_core.proofs.HashedWrites.{tally_stands}
+use proofs.HashedRows.{count_is, rows_equal, set_tally, stands_is}
+use proofs.HashedWrites.{tally_stands}
 
 abbrev Entries : Type 0
 Entries = List (Row × ℕ)

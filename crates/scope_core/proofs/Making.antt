@@ -1,14 +1,14 @@
 -- The indexes of a node, made of rows in order.
-use Rattle.scope_core.proofs.Words.{◌≡◌, ℕ, Bool, true, false, cond, List, [], ◌∷◌, map, None, Some}
-use Rattle.scope_core.proofs.Words.{refl, sym, ap, ◌∙◌, arith, length, get_or, Less, AllByRecursion}
-use Rattle.scope_core.proofs.Words.{Rises, text_cmp, same, same_row, same_decides, tied_itself}
-use Rattle.scope_core.proofs.Words.{texts_total, Row, Counted, counted_cmp, ◌++◌, Pid, slice_get}
-use Rattle.scope_core.proofs.Words.{subst, eq_by_cmp, is_eq, lookup, keys_of, ProcessKey, SmallMap}
-use Rattle.scope_core.proofs.Words.{find, found, pid_of, key_of, key_cmp, entries_in}
+use Rattle.scope_core.proofs
+use proofs.Words.{AllByRecursion, ap, arith, Bool, cond, Counted, counted_cmp, entries_in}
+use proofs.Words.{eq_by_cmp, false, find, found, get_or, is_eq, key_cmp, key_of, keys_of, length}
+use proofs.Words.{Less, List, lookup, map, None, Pid, pid_of, ProcessKey, refl, Rises, Row, same}
+use proofs.Words.{same_decides, same_row, slice_get, SmallMap, Some, subst, sym, text_cmp}
+use proofs.Words.{texts_total, tied_itself, true, ℕ, [], ◌++◌, ◌∙◌, ◌∷◌, ◌≡◌}
 use Rattle.std.specs.List.{IsDistinct}
-use Rattle.scope_core.proofs.Told.{AreAbove, AreIn, Run, all_front, all_back}
-use Rattle.scope_core.proofs.Rising.{all_map}
-use Rattle.scope_core.proofs.HashedRows.{one_key, one_text}
+use proofs.Told.{all_back, all_front, AreAbove, AreIn, Run}
+use proofs.Rising.{all_map}
+use proofs.HashedRows.{one_key, one_text}
 
 -- a row's process and count, as the index of groups has them
 abbrev pub pairs : List Counted → List (ProcessKey × ℕ)

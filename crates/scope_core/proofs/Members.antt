@@ -1,17 +1,15 @@
 -- The rows that lists of members and of changes tell of.
-use Rattle.scope_core.proofs.Words.{◌≡◌, ℕ, ◌-◌, false, cond, List, [], ◌∷◌, ◌++◌, map, refl, ◌∙◌}
-use Rattle.scope_core.proofs.Words.{Less, is_gt, AllByRecursion, flat_map, Pid, Row, GroupChange}
-use Rattle.scope_core.proofs.Words.{text_cmp, pid_cmp, row_cmp, same, same_row, occurrences}
-use Rattle.scope_core.proofs.Words.{mentions, total, Rises, Ascends, IsRowListing, IsProper}
-use Rattle.scope_core.proofs.Words.{IsDifference, same_sym, in_one_group, how_many_append}
-use Rattle.scope_core.proofs.Words.{all_append, is_row, row_in, rows_left, rows_joined, arith, ◌≤◌}
-use Rattle.scope_core.proofs.Words.{length, length-append, filter, length-map, exact_bytes}
-use Rattle.scope_core.proofs.Words.{IsPidListing, IsGroupListing, texts_total, same_decides}
-use Rattle.scope_core.proofs.Words.{same_pid_decides, one_of_many, Table, count_of, node_total}
-use Rattle.scope_core.proofs.Words.{filter-append}
-use Rattle.scope_core.proofs.Calls.{mentions_in}
-use Rattle.scope_core.proofs.Rising.{all_map, all_unmapped}
-use Rattle.scope_core.proofs.Shares.{same_rows, fewer_rows}
+use Rattle.scope_core.proofs
+use proofs.Words.{all_append, AllByRecursion, arith, Ascends, cond, count_of, exact_bytes, false}
+use proofs.Words.{filter, filter-append, flat_map, GroupChange, how_many_append, in_one_group}
+use proofs.Words.{is_gt, is_row, IsDifference, IsGroupListing, IsPidListing, IsProper, IsRowListing}
+use proofs.Words.{length, length-append, length-map, Less, List, map, mentions, node_total}
+use proofs.Words.{occurrences, one_of_many, Pid, pid_cmp, refl, Rises, Row, row_cmp, row_in}
+use proofs.Words.{rows_joined, rows_left, same, same_decides, same_pid_decides, same_row, same_sym}
+use proofs.Words.{Table, text_cmp, texts_total, total, ℕ, [], ◌++◌, ◌-◌, ◌∙◌, ◌∷◌, ◌≡◌, ◌≤◌}
+use proofs.Calls.{mentions_in}
+use proofs.Rising.{all_map, all_unmapped}
+use proofs.Shares.{fewer_rows, same_rows}
 
 -- rows of one group ascend as their processes
 not_above_in : (g : List ℕ) (p : Pid) (ps : List Pid)

@@ -1,12 +1,12 @@
 -- Processes in order: those that are the same stand in a run.
-use Rattle.scope_core.proofs.Words.{◌≡◌, ℕ, zero, suc, ◌+◌, ◌≤◌, min, true, false, List, [], ◌∷◌}
-use Rattle.scope_core.proofs.Words.{◌++◌, take, drop, replicate, length, refl, ap, ◌∙◌, sym, subst}
-use Rattle.scope_core.proofs.Words.{arith, inl, inr, is_gt, AllByRecursion, AllWithin}
-use Rattle.scope_core.proofs.Words.{IsPartitionedBy, cases_lt, take-append-drop, append_assoc}
-use Rattle.scope_core.proofs.Words.{length-take-le, length-filter, Pid, pid_cmp, same_pid, mentions}
-use Rattle.scope_core.proofs.Words.{Ascends, pids_total, exact_pids, same_pid_decides, how_many_is}
-use Rattle.scope_core.proofs.Words.{how_many_append, how_many_replicate}
-use Rattle.scope_core.proofs.Runs.{all_at, filter_takes}
+use Rattle.scope_core.proofs
+use proofs.Words.{AllByRecursion, AllWithin, ap, append_assoc, arith, Ascends, cases_lt, drop}
+use proofs.Words.{exact_pids, false, how_many_append, how_many_is, how_many_replicate, inl, inr}
+use proofs.Words.{is_gt, IsPartitionedBy, length, length-filter, length-take-le, List, mentions}
+use proofs.Words.{min, Pid, pid_cmp, pids_total, refl, replicate, same_pid, same_pid_decides, subst}
+use proofs.Words.{suc, sym, take, take-append-drop, true, zero, ℕ, [], ◌++◌, ◌+◌, ◌∙◌, ◌∷◌, ◌≡◌}
+use proofs.Words.{◌≤◌}
+use proofs.Runs.{all_at, filter_takes}
 
 -- where neither comes after the other, they are the same
 neither_above : (p q : Pid) → is_gt (pid_cmp p q) ≡ false → is_gt (pid_cmp q p) ≡ false → p ≡ q

@@ -1,10 +1,10 @@
 -- Rows that come, counted, and what they are more than others.
-use Rattle.scope_core.proofs.Words.{append_assoc, picked, zero, suc, ◌≡◌, ℕ, ◌<◌, ◌≤◌, Bool, cond}
-use Rattle.scope_core.proofs.Words.{List, [], ◌∷◌, ◌++◌, drop, Some, slice_get, refl, ◌∙◌, arith}
-use Rattle.scope_core.proofs.Words.{Less, AllByRecursion, tied_itself, exact_rows, rows_total}
-use Rattle.scope_core.proofs.Words.{same_row_decides, same_row, Rises, row_cmp, Row, Counted}
-use Rattle.scope_core.proofs.Words.{counted_cmp, tally, is_row, ◌≢◌}
-use Rattle.scope_core.proofs.Rising.{once, tally_absent, all_map}
+use Rattle.scope_core.proofs
+use proofs.Words.{AllByRecursion, append_assoc, arith, Bool, cond, Counted, counted_cmp, drop}
+use proofs.Words.{exact_rows, is_row, Less, List, picked, refl, Rises, Row, row_cmp, rows_total}
+use proofs.Words.{same_row, same_row_decides, slice_get, Some, suc, tally, tied_itself, zero, ℕ, []}
+use proofs.Words.{◌++◌, ◌<◌, ◌∙◌, ◌∷◌, ◌≡◌, ◌≢◌, ◌≤◌}
+use proofs.Rising.{all_map, once, tally_absent}
 
 -- a row below all of these isn't among them
 pub below_none : (row : Row) (cs : List Counted) → AllByRecursion (λ c. row_cmp row c.row ≡ Less) cs

@@ -1,8 +1,8 @@
 -- One change of an ordered map of small maps, at both keys.
-use Rattle.scope_core.proofs.Words.{◌≡◌, ◌&&◌, Bool, true, cond, Option, Some, refl, sym, ap, arith}
-use Rattle.scope_core.proofs.Words.{Ordering, Equal, List, [], ◌∷◌, length, tied_itself, is_some}
-use Rattle.scope_core.proofs.Words.{eq_by_cmp, is_eq, IsTotalOrder, lookup, BTreeMap, get, SmallMap}
-use Rattle.scope_core.proofs.Words.{find, found, find_in}
+use Rattle.scope_core.proofs
+use proofs.Words.{ap, arith, Bool, BTreeMap, cond, eq_by_cmp, Equal, find, find_in, found, get}
+use proofs.Words.{is_eq, is_some, IsTotalOrder, length, List, lookup, Option, Ordering, refl}
+use proofs.Words.{SmallMap, Some, sym, tied_itself, true, [], ◌&&◌, ◌∷◌, ◌≡◌}
 
 equal_from : (o : Ordering) → is_eq o ≡ true → o ≡ Equal
 equal_from o e = grind arith

@@ -1,15 +1,14 @@
 -- The list of one node among those of all.
-use Rattle.scope_core.proofs.Words.{◌≡◌, ℕ, ◌+◌, ◌≤◌, Bool, true, false, not, List, [], ◌∷◌, ◌++◌}
-use Rattle.scope_core.proofs.Words.{None, Some, refl, sym, ap, subst, ◌∙◌, arith, filter}
-use Rattle.scope_core.proofs.Words.{AllByRecursion, Counted, Row, Pid, same, same_decides, same_sym}
-use Rattle.scope_core.proofs.Words.{tally, AreCounted, max_rows, is_of_node, without_node, Joins}
-use Rattle.scope_core.proofs.Words.{same_pid_decides, is_row, same_row, occurrences, nat_le}
-use Rattle.scope_core.proofs.Words.{list_all, ◌&&◌, are_all_in, All, length, ◌==◌, total, of_node}
-use Rattle.scope_core.proofs.Words.{IsNodeList, all_rows, IsDistinct-head, IsDistinct-tail, keys_of}
-use Rattle.scope_core.proofs.Words.{lookup, set_value, remove_entry, append-nil, filter-append}
-use Rattle.scope_core.proofs.Words.{insert_entry, recursion_from_All}
-use Rattle.scope_core.proofs.Rising.{all_unmapped, tally_all, own_from_tally}
-use Rattle.scope_core.proofs.Tallies.{tally_append}
+use Rattle.scope_core.proofs
+use proofs.Words.{All, all_rows, AllByRecursion, ap, append-nil, are_all_in, AreCounted, arith}
+use proofs.Words.{Bool, Counted, false, filter, filter-append, insert_entry, is_of_node, is_row}
+use proofs.Words.{IsDistinct-head, IsDistinct-tail, IsNodeList, Joins, keys_of, length, List}
+use proofs.Words.{list_all, lookup, max_rows, nat_le, None, not, occurrences, of_node, Pid}
+use proofs.Words.{recursion_from_All, refl, remove_entry, Row, same, same_decides, same_pid_decides}
+use proofs.Words.{same_row, same_sym, set_value, Some, subst, sym, tally, total, true, without_node}
+use proofs.Words.{ℕ, [], ◌&&◌, ◌++◌, ◌+◌, ◌==◌, ◌∙◌, ◌∷◌, ◌≡◌, ◌≤◌}
+use proofs.Rising.{all_unmapped, own_from_tally, tally_all}
+use proofs.Tallies.{tally_append}
 use Rattle.std.specs.List.{IsDistinct}
 use Rattle.std.proofs.lemmas.Map.{none_passes_from_lookup}
 

@@ -1,19 +1,19 @@
 -- The tables of all nodes, and what a call does to one of them.
-use Rattle.scope_core.proofs.Words.{◌≡◌, ℕ, ◌+◌, ◌≤◌, Bool, true, false, not, List, [], ◌∷◌, Option}
-use Rattle.scope_core.proofs.Words.{None, Some, refl, sym, ap, subst, ◌∙◌, arith, AllByRecursion}
-use Rattle.scope_core.proofs.Words.{Counted, Row, Pid, same, same_pid, same_decides, tally}
-use Rattle.scope_core.proofs.Words.{max_rows, is_of_node, without_node, Joins, is_row, cond, length}
-use Rattle.scope_core.proofs.Words.{total, is_there, length-append, has_members, nat_lt, of_node}
-use Rattle.scope_core.proofs.Words.{IsNodeList, all_rows, rows_by_node, NodeTable, IfSome, keys_of}
-use Rattle.scope_core.proofs.Words.{lookup, set_value, remove_entry, keys-set_value, insert_entry}
-use Rattle.scope_core.proofs.Rising.{kept_counts}
+use Rattle.scope_core.proofs
+use proofs.Words.{all_rows, AllByRecursion, ap, arith, Bool, cond, Counted, false, has_members}
+use proofs.Words.{IfSome, insert_entry, is_of_node, is_row, is_there, IsNodeList, Joins}
+use proofs.Words.{keys-set_value, keys_of, length, length-append, List, lookup, max_rows, nat_lt}
+use proofs.Words.{NodeTable, None, not, of_node, Option, Pid, refl, remove_entry, Row, rows_by_node}
+use proofs.Words.{same, same_decides, same_pid, set_value, Some, subst, sym, tally, total, true}
+use proofs.Words.{without_node, ℕ, [], ◌+◌, ◌∙◌, ◌∷◌, ◌≡◌, ◌≤◌}
+use proofs.Rising.{kept_counts}
 use Rattle.scope_core.specs.NodeLists.{AreNodeLists}
-use Rattle.std.specs.Option.{option_map, option_copied, IfNone}
+use Rattle.std.specs.Option.{IfNone, option_copied, option_map}
 use Rattle.std.proofs.Common.{Bor}
 use Rattle.std.specs.List.{IsDistinct}
-use Rattle.scope_core.proofs.NodeLists.{Lists, Each, AreLists, no_list, own_list, list_found}
-use Rattle.scope_core.proofs.NodeLists.{set_tally, put_tally, removed_rows, set_same, node_tally}
-use Rattle.scope_core.proofs.NodeLists.{list_fits, none_filtered, row_tally}
+use proofs.NodeLists.{AreLists, Each, list_fits, list_found, Lists, no_list, node_tally}
+use proofs.NodeLists.{none_filtered, own_list, put_tally, removed_rows, row_tally, set_same}
+use proofs.NodeLists.{set_tally}
 
 -- each table is that of its node
 abbrev AllTables : List (List ℕ × NodeTable) → Type 0

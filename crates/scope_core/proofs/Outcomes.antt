@@ -1,7 +1,7 @@
 -- What a call ensures, where its result is known.
-use Rattle.std.specs.Prelude.{◌≡◌, true, false, Result, Ok, Err, OnOk, OnErr, IfOk, IsOk, Option}
-use Rattle.std.specs.Prelude.{None, Some, IfSome}
-use Rattle.std.specs.Option.{is_some, IfNone}
+use Rattle.std.specs.Prelude.{Err, false, IfOk, IfSome, IsOk, None, Ok, OnErr, OnOk, Option, Result}
+use Rattle.std.specs.Prelude.{Some, true, ◌≡◌}
+use Rattle.std.specs.Option.{IfNone, is_some}
 use Rattle.std.specs.Result.{is_err}
 use Rattle.std.proofs.Common.{refl, sym}
 

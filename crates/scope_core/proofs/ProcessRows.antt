@@ -1,18 +1,17 @@
 -- The rows of one process among those of its node.
-use Rattle.scope_core.proofs.Words.{◌≡◌, ℕ, ◌<◌, ◌&&◌, Bool, true, false, cond, List, [], ◌∷◌, None}
-use Rattle.scope_core.proofs.Words.{Some, refl, sym, ap, ◌∙◌, arith, filter, list_any, Less}
-use Rattle.scope_core.proofs.Words.{AllByRecursion, Rises, Row, Pid, Counted, same_row, same_pid}
-use Rattle.scope_core.proofs.Words.{same_row_decides, same_decides, row_cmp, counted_cmp, tally}
-use Rattle.scope_core.proofs.Words.{is_row, is_of_node, AreCounted, IsKept, HasRoomFor, is_some}
-use Rattle.scope_core.proofs.Words.{is_eq, lookup, keys_of, counted_in, entries_in, with_counts}
-use Rattle.scope_core.proofs.Words.{has_row, has_key, key_of}
+use Rattle.scope_core.proofs
+use proofs.Words.{AllByRecursion, ap, AreCounted, arith, Bool, cond, Counted, counted_cmp}
+use proofs.Words.{counted_in, entries_in, false, filter, has_key, has_row, HasRoomFor, is_eq}
+use proofs.Words.{is_of_node, is_row, is_some, IsKept, key_of, keys_of, Less, List, list_any}
+use proofs.Words.{lookup, None, Pid, refl, Rises, Row, row_cmp, same_decides, same_pid, same_row}
+use proofs.Words.{same_row_decides, Some, sym, tally, true, with_counts, ℕ, [], ◌&&◌, ◌<◌, ◌∙◌, ◌∷◌}
+use proofs.Words.{◌≡◌}
 use Rattle.std.specs.List.{IsDistinct}
 use Rattle.std.specs.List.Sorted.{IsStrictlySortedBy}
-use Rattle.scope_core.proofs.HashedRows.{count_is, one_row, rows_equal, same_tally, own_at}
-use Rattle.scope_core.proofs.HashedRows.{stands_is}
-use Rattle.scope_core.proofs.HashedWrites.{counted_stands}
-use Rattle.scope_core.proofs.Rising.{kept_counts, tally-filter_le}
-use Rattle.scope_core.proofs.RowEntries.{back_again, rising_once}
+use proofs.HashedRows.{count_is, one_row, own_at, rows_equal, same_tally, stands_is}
+use proofs.HashedWrites.{counted_stands}
+use proofs.Rising.{kept_counts, tally-filter_le}
+use proofs.RowEntries.{back_again, rising_once}
 
 abbrev Entries : Type 0
 Entries = List (Row × ℕ)

@@ -1,7 +1,7 @@
 -- An element behind others that rise.
-use Rattle.scope_core.proofs.Words.{◌≡◌, suc, ◌-◌, List, [], ◌∷◌, ◌++◌, length, slice_get, Some}
-use Rattle.scope_core.proofs.Words.{refl, ap, ◌∙◌, arith, subst, Ordering, Less, AllByRecursion}
-use Rattle.scope_core.proofs.Words.{Rises, length_push, IsTotalOrder}
+use Rattle.scope_core.proofs
+use proofs.Words.{AllByRecursion, ap, arith, IsTotalOrder, length, length_push, Less, List}
+use proofs.Words.{Ordering, refl, Rises, slice_get, Some, subst, suc, [], ◌++◌, ◌-◌, ◌∙◌, ◌∷◌, ◌≡◌}
 
 module _ {A K : Type 0} {cmp : K → K → Ordering} (order : IsTotalOrder cmp) (key : A → K) where
   -- where the last is below a key, all are

@@ -1,10 +1,9 @@
 -- Rows that rise: what is filtered from them rises and is counted, and a row stands in them once.
-use Rattle.scope_core.proofs.Words.{◌≡◌, ℕ, Bool, true, false, List, [], ◌∷◌, Less, is_gt, filter}
-use Rattle.scope_core.proofs.Words.{AllByRecursion, and_parts, tied_itself, Pid, Row, text_cmp}
-use Rattle.scope_core.proofs.Words.{pid_cmp, Counted, Rises, is_row, counted_cmp, is_in}
-use Rattle.scope_core.proofs.Words.{same_decides, same_pid_decides, rows_total, in_one_group, arith}
-use Rattle.scope_core.proofs.Words.{refl, how_many, ◌≤◌, ◌<◌, cond, not, tally, is_of_node, map}
-use Rattle.scope_core.proofs.Words.{without_node}
+use Rattle.scope_core.proofs
+use proofs.Words.{AllByRecursion, and_parts, arith, Bool, cond, Counted, counted_cmp, false, filter}
+use proofs.Words.{how_many, in_one_group, is_gt, is_in, is_of_node, is_row, Less, List, map, not}
+use proofs.Words.{Pid, pid_cmp, refl, Rises, Row, rows_total, same_decides, same_pid_decides, tally}
+use proofs.Words.{text_cmp, tied_itself, true, without_node, ℕ, [], ◌<◌, ◌∷◌, ◌≡◌, ◌≤◌}
 
 pub all_map : {A : Type 0} (P Q : A → Type 0) → ((x : A) → P x → Q x) → (xs : List A)
     → AllByRecursion P xs → AllByRecursion Q xs

@@ -1,13 +1,13 @@
 -- Rows in order as the entries of a map, and the map with its indexes.
-use Rattle.scope_core.proofs.Words.{◌≡◌, ℕ, ◌&&◌, false, List, [], ◌∷◌, ◌++◌, None, refl, sym, ap}
-use Rattle.scope_core.proofs.Words.{subst, ◌∙◌, append_assoc, arith, Less, AllByRecursion, Rises}
-use Rattle.scope_core.proofs.Words.{Row, Counted, same_row, same_row_decides, row_cmp, text_cmp}
-use Rattle.scope_core.proofs.Words.{counted_cmp, tied_itself, rows_total, is_some, lookup, keys_of}
-use Rattle.scope_core.proofs.Words.{BTreeMap, ProcessKey, SmallMap, find_in, counted_in, entries_in}
-use Rattle.scope_core.proofs.Words.{has_key, pid_of, key_cmp, stands, IsHashed}
+use Rattle.scope_core.proofs
+use proofs.Words.{AllByRecursion, ap, append_assoc, arith, BTreeMap, Counted, counted_cmp}
+use proofs.Words.{counted_in, entries_in, false, find_in, has_key, is_some, IsHashed, key_cmp}
+use proofs.Words.{keys_of, Less, List, lookup, None, pid_of, ProcessKey, refl, Rises, Row, row_cmp}
+use proofs.Words.{rows_total, same_row, same_row_decides, SmallMap, stands, subst, sym, text_cmp}
+use proofs.Words.{tied_itself, ℕ, [], ◌&&◌, ◌++◌, ◌∙◌, ◌∷◌, ◌≡◌}
 use Rattle.std.specs.List.{IsDistinct}
-use Rattle.scope_core.proofs.HashedRows.{rows_equal, stands_is}
-use Rattle.scope_core.proofs.Rising.{all_mapped}
+use proofs.HashedRows.{rows_equal, stands_is}
+use proofs.Rising.{all_mapped}
 
 abbrev Entries : Type 0
 Entries = List (Row × ℕ)

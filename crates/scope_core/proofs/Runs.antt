@@ -1,7 +1,7 @@
 -- The rows of a group stand in a row.
-use Rattle.scope_core.proofs.Words.{◌≡◌, ℕ, zero, suc, ◌<◌, ◌≤◌, Bool, true, false, List, [], ◌∷◌}
-use Rattle.scope_core.proofs.Words.{take, length, refl, arith, get_or, filter, AllByRecursion}
-use Rattle.scope_core.proofs.Words.{AllWithin}
+use Rattle.scope_core.proofs
+use proofs.Words.{AllByRecursion, AllWithin, arith, Bool, false, filter, get_or, length, List, refl}
+use proofs.Words.{suc, take, true, zero, ℕ, [], ◌<◌, ◌∷◌, ◌≡◌, ◌≤◌}
 
 module _ {A : Type 0} (p : A → Bool) where
   filter_none : (xs : List A) → AllWithin (λ x. p x ≡ false) xs 0 (length xs) → filter p xs ≡ []

@@ -1,9 +1,9 @@
 -- Elements that rise by a key: where a key is among them, and one more of them or one less.
-use Rattle.scope_core.proofs.Words.{◌≡◌, ℕ, zero, suc, ◌<◌, ◌≤◌, false, List, [], ◌∷◌, length}
-use Rattle.scope_core.proofs.Words.{Result, Ok, Err, IfErr, ap, ◌∙◌, arith, get_or, add-one}
-use Rattle.scope_core.proofs.Words.{Ordering, Less, is_lt, AllByRecursion, insert, remove}
-use Rattle.scope_core.proofs.Words.{IsBinarySearchResult, IsSortedBy, IsPartitionPoint}
-use Rattle.scope_core.proofs.Words.{searchable_from_sorted, Rises, all_from, IsTotalOrder}
+use Rattle.scope_core.proofs
+use proofs.Words.{add-one, all_from, AllByRecursion, ap, arith, Err, false, get_or, IfErr, insert}
+use proofs.Words.{is_lt, IsBinarySearchResult, IsPartitionPoint, IsSortedBy, IsTotalOrder, length}
+use proofs.Words.{Less, List, Ok, Ordering, remove, Result, Rises, searchable_from_sorted, suc}
+use proofs.Words.{zero, ℕ, [], ◌<◌, ◌∙◌, ◌∷◌, ◌≡◌, ◌≤◌}
 use Rattle.std.specs.declared.cmp.Ordering.TheVariants.{Greater}
 
 module _ {A : Type 0} (P : A → Type 0) where

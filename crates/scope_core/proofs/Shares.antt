@@ -1,13 +1,13 @@
 -- What is counted is listed.
-use Rattle.scope_core.proofs.Words.{◌≡◌, ℕ, ◌≤◌, cond, List, [], ◌∷◌, length, refl, ◌∙◌, sym, arith}
-use Rattle.scope_core.proofs.Words.{Bool, Ordering, ◌<◌, filter, Row, pid_cmp, row_cmp, Counted}
-use Rattle.scope_core.proofs.Words.{occurrences, same, same_pid, same_row, total, Rises}
-use Rattle.scope_core.proofs.Words.{IsPidListing, IsRowListing, spread, Table, is_row, is_of_node}
-use Rattle.scope_core.proofs.Words.{tally, counted_cmp, count_of, node_total, local_count}
-use Rattle.scope_core.proofs.Words.{local_total, is_in, pids_in, of_node, pids_total, rows_total}
-use Rattle.scope_core.proofs.Words.{same_row_decides, total_filter, spread_ascends, spread_counts}
-use Rattle.scope_core.proofs.Words.{length-spread, same_length, fewer_length, IsListing}
-use Rattle.scope_core.proofs.Rising.{in_group_rises, kept_counts}
+use Rattle.scope_core.proofs
+use proofs.Words.{arith, Bool, cond, count_of, Counted, counted_cmp, fewer_length, filter, is_in}
+use proofs.Words.{is_of_node, is_row, IsListing, IsPidListing, IsRowListing, length, length-spread}
+use proofs.Words.{List, local_count, local_total, node_total, occurrences, of_node, Ordering}
+use proofs.Words.{pid_cmp, pids_in, pids_total, refl, Rises, Row, row_cmp, rows_total, same}
+use proofs.Words.{same_length, same_pid, same_row, same_row_decides, spread, spread_ascends}
+use proofs.Words.{spread_counts, sym, Table, tally, total, total_filter, ℕ, [], ◌<◌, ◌∙◌, ◌∷◌, ◌≡◌}
+use proofs.Words.{◌≤◌}
+use proofs.Rising.{in_group_rises, kept_counts}
 
 -- the processes of the rows of a group
 pub pids_listing : (g : List ℕ) (cs : List Counted) → Rises counted_cmp cs

@@ -1,8 +1,8 @@
 -- Sums over lists of rows that are joined.
-use Rattle.scope_core.proofs.Words.{◌≡◌, ◌+◌, Bool, List, [], ◌∷◌, ◌++◌, arith, Row, Counted, tally}
-use Rattle.scope_core.proofs.Words.{total, cond, take, take_more, get_or, length, ℕ, zero, suc, ◌<◌}
-use Rattle.scope_core.proofs.Words.{◌≤◌, ◌∙◌, true, refl, Pid, mentions, is_empty, drop}
-use Rattle.scope_core.proofs.Words.{take-append-drop, ap, sym}
+use Rattle.scope_core.proofs
+use proofs.Words.{ap, arith, Bool, cond, Counted, drop, get_or, is_empty, length, List, mentions}
+use proofs.Words.{Pid, refl, Row, suc, sym, take, take-append-drop, take_more, tally, total, true}
+use proofs.Words.{zero, ℕ, [], ◌++◌, ◌+◌, ◌<◌, ◌∙◌, ◌∷◌, ◌≡◌, ◌≤◌}
 
 pub tally_append : (test : Row → Bool) (xs ys : List Counted)
     → tally test (xs ++ ys) ≡ tally test xs + tally test ys

@@ -1,17 +1,16 @@
 -- The changes of rows that leave and join, told group by group.
-use Rattle.scope_core.proofs.Words.{◌≡◌, ℕ, zero, suc, ◌+◌, ◌-◌, ◌<◌, ◌≤◌, Bool, true, false, cond}
-use Rattle.scope_core.proofs.Words.{◌&&◌, ◌||◌, List, [], ◌∷◌, ◌++◌, take, drop, length, Some}
-use Rattle.scope_core.proofs.Words.{slice_get, refl, ap, sym, ◌∙◌, arith, subst, Less, is_gt}
-use Rattle.scope_core.proofs.Words.{AllByRecursion, AllWithin, HoldsAt, list_any, filter}
-use Rattle.scope_core.proofs.Words.{tied_itself, texts_total, exact_bytes, same_decides, text_cmp}
-use Rattle.scope_core.proofs.Words.{same, Rises, Pid, Counted, counted_cmp, is_in, is_row, tally}
-use Rattle.scope_core.proofs.Words.{mentions, spread, GroupChange, Tells, IsDifference, is_empty}
-use Rattle.scope_core.proofs.Words.{and_parts, change_unless_empty, IsPidListing, times_left}
-use Rattle.scope_core.proofs.Words.{times_joined}
-use Rattle.scope_core.proofs.Rising.{groups_above, all_map, all_mapped}
-use Rattle.scope_core.proofs.Groups.{below}
-use Rattle.scope_core.proofs.Shares.{pids_listing}
-use Rattle.scope_core.proofs.Tallies.{none_mentioned, tally_append}
+use Rattle.scope_core.proofs
+use proofs.Words.{AllByRecursion, AllWithin, and_parts, ap, arith, Bool, change_unless_empty, cond}
+use proofs.Words.{Counted, counted_cmp, drop, exact_bytes, false, filter, GroupChange, HoldsAt}
+use proofs.Words.{is_empty, is_gt, is_in, is_row, IsDifference, IsPidListing, length, Less, List}
+use proofs.Words.{list_any, mentions, Pid, refl, Rises, same, same_decides, slice_get, Some, spread}
+use proofs.Words.{subst, suc, sym, take, tally, Tells, text_cmp, texts_total, tied_itself}
+use proofs.Words.{times_joined, times_left, true, zero, ℕ, [], ◌&&◌, ◌++◌, ◌+◌, ◌-◌, ◌<◌, ◌||◌, ◌∙◌}
+use proofs.Words.{◌∷◌, ◌≡◌, ◌≤◌}
+use proofs.Rising.{all_map, all_mapped, groups_above}
+use proofs.Groups.{below}
+use proofs.Shares.{pids_listing}
+use proofs.Tallies.{none_mentioned, tally_append}
 
 -- ---- the first rows, of the lowest group, and those behind them
 

@@ -1,9 +1,9 @@
 -- Groups that an answer doesn't name have the members that they had.
-use Rattle.scope_core.proofs.Words.{◌≡◌, ℕ, ◌<◌, ◌≤◌, ◌+◌, ◌&&◌, Bool, true, false, cond, nat_lt}
-use Rattle.scope_core.proofs.Words.{List, [], ◌∷◌, refl, sym, subst, arith, Pid, Counted}
-use Rattle.scope_core.proofs.Words.{GroupChange, IsDifference, same, same_decides, same_pid_decides}
-use Rattle.scope_core.proofs.Words.{mentions, total, tally, is_row, is_there, has_members, is_named}
-use Rattle.scope_core.proofs.Words.{is_empty, AllByRecursion, IsProper, times_left, times_joined}
+use Rattle.scope_core.proofs
+use proofs.Words.{AllByRecursion, arith, Bool, cond, Counted, false, GroupChange, has_members}
+use proofs.Words.{is_empty, is_named, is_row, is_there, IsDifference, IsProper, List, mentions}
+use proofs.Words.{nat_lt, Pid, refl, same, same_decides, same_pid_decides, subst, sym, tally}
+use proofs.Words.{times_joined, times_left, total, true, ℕ, [], ◌&&◌, ◌+◌, ◌<◌, ◌∷◌, ◌≡◌, ◌≤◌}
 
 named_total : (part : GroupChange → List Pid) (g : List ℕ) (p : Pid) (changes : List GroupChange)
     → is_named g changes ≡ false

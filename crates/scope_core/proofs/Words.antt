@@ -1,8 +1,10 @@
 -- The words that the proofs of this crate cite, passed on from one place.
-pub use Rattle.std.specs.Prelude.{All, Bool, Err, IfErr, IfOk, List, None, Ok, OnOk, Option, Result}
-pub use Rattle.std.specs.Prelude.{Some, [], cond, drop, false, length, map, min, nat_le, nat_lt}
-pub use Rattle.std.specs.Prelude.{not, replicate, slice_get, suc, take, true, vec_len, zero, ℕ}
-pub use Rattle.std.specs.Prelude.{◌&&◌, ◌++◌, ◌+◌, ◌-◌, ◌<◌, ◌==◌, ◌||◌, ◌∷◌, ◌≡◌, ◌≤◌, IfSome, ◌≢◌}
+use Rattle.scope_core.specs
+pub use Rattle.std.specs.Prelude.{All, Bool, cond, drop, Err, false, IfErr, IfOk, IfSome, length}
+pub use Rattle.std.specs.Prelude.{List, map, min, nat_le, nat_lt, None, not, Ok, OnOk, Option}
+pub use Rattle.std.specs.Prelude.{replicate, Result, slice_get, Some, suc, take, true, vec_len}
+pub use Rattle.std.specs.Prelude.{zero, ℕ, [], ◌&&◌, ◌++◌, ◌+◌, ◌-◌, ◌<◌, ◌==◌, ◌||◌, ◌∷◌, ◌≡◌, ◌≢◌}
+pub use Rattle.std.specs.Prelude.{◌≤◌}
 pub use Rattle.std.proofs.Common.{add-one, ap, append_assoc, arith, get_or, inl, inr, length-append}
 pub use Rattle.std.proofs.Common.{refl, rules, subst, sym, ◌∙◌}
 pub use Rattle.std.proofs.Math.ListN.{set}
@@ -10,19 +12,19 @@ pub use Rattle.std.proofs.lemmas.Bool.{and_parts, cases_lt, le-leb, lt-leb, lt-l
 pub use Rattle.std.proofs.lemmas.Bool.{not-false, not-true, or_cases, or_left, or_right}
 pub use Rattle.std.proofs.lemmas.Cmp.{tied_itself}
 pub use Rattle.std.proofs.lemmas.Fn.{always_returns_same}
-pub use Rattle.std.proofs.lemmas.List.{drop_more, get_or_default, length-map, length-take-le}
-pub use Rattle.std.proofs.lemmas.List.{length_push, take-append-drop, take_all, take_more}
-pub use Rattle.std.proofs.lemmas.List.{append-nil}
+pub use Rattle.std.proofs.lemmas.List.{append-nil, drop_more, get_or_default, length-map}
+pub use Rattle.std.proofs.lemmas.List.{length-take-le, length_push, take-append-drop, take_all}
+pub use Rattle.std.proofs.lemmas.List.{take_more}
 pub use Rattle.std.proofs.lemmas.List.Sorted.{IsPartitionPoint-from_clause, searchable_from_sorted}
 pub use Rattle.std.proofs.lemmas.List.Sorted.{sum_by-IsPermutation}
 pub use Rattle.std.proofs.lemmas.List.Sums.{length-filter, sum_by-insert, sum_by-remove}
 pub use Rattle.std.proofs.lemmas.List.Elements.{All-map, filter-append, recursion_from_All}
 pub use Rattle.std.proofs.lemmas.Map.Lookups.{exact_bytes}
-pub use Rattle.std.specs.List.{AllByRecursion, AllWithin, HoldsAt, filter, flat_map, insert}
+pub use Rattle.std.specs.List.{AllByRecursion, AllWithin, filter, flat_map, HoldsAt, insert}
 pub use Rattle.std.specs.List.{list_all, list_any, remove}
-pub use Rattle.std.specs.List.Sorted.{IsBinarySearchResult, IsPartitionPoint, IsPartitionedBy}
+pub use Rattle.std.specs.List.Sorted.{IsBinarySearchResult, IsPartitionedBy, IsPartitionPoint}
 pub use Rattle.std.specs.List.Sorted.{IsPermutation, IsSortedBy}
-pub use Rattle.std.specs.Ordering.{is_gt, is_lt, eq_by_cmp, is_eq}
+pub use Rattle.std.specs.Ordering.{eq_by_cmp, is_eq, is_gt, is_lt}
 pub use Rattle.std.specs.declared.cmp.Ordering.{Ordering}
 pub use Rattle.std.specs.declared.cmp.Ordering.TheVariants.{Equal, Less}
 pub use Rattle.dist_types.proofs.Differences.{one_difference}
@@ -34,45 +36,40 @@ pub use Rattle.dist_types.proofs.Orders.{same_row_decides, same_sym, texts_total
 pub use Rattle.dist_types.proofs.Sorts.{all_from, sorted_listing}
 pub use Rattle.dist_types.proofs.Totals.{how_many_append, how_many_is, how_many_le}
 pub use Rattle.dist_types.proofs.Totals.{how_many_replicate, total_filter}
-pub use Rattle.dist_types.specs.Difference.{IsDifference, IsProper, change_unless_empty, is_empty}
+pub use Rattle.dist_types.specs.Difference.{change_unless_empty, is_empty, IsDifference, IsProper}
 pub use Rattle.dist_types.specs.Difference.{times_joined, times_left}
-pub use Rattle.dist_types.specs.Listing.{Ascends, IsGroupListing, IsPidListing, IsRowListing, Rises}
-pub use Rattle.dist_types.specs.Listing.{how_many, is_among, mentions, occurrences, same, same_pid}
-pub use Rattle.dist_types.specs.Listing.{same_row, spread, total, IsListing}
+pub use Rattle.dist_types.specs.Listing.{Ascends, how_many, is_among, IsGroupListing, IsListing}
+pub use Rattle.dist_types.specs.Listing.{IsPidListing, IsRowListing, mentions, occurrences, Rises}
+pub use Rattle.dist_types.specs.Listing.{same, same_pid, same_row, spread, total}
 pub use Rattle.dist_types.specs.Order.{pid_cmp, row_cmp, text_cmp}
 pub use Rattle.dist_types.specs.declared.change.GroupChange.{GroupChange}
 pub use Rattle.dist_types.specs.declared.pid.Pid.{Pid}
 pub use Rattle.dist_types.specs.declared.row.Row.{Row}
-pub use Rattle.scope_core.specs.Added.{Adds, HasRoomFor, Joins, are_all_in, bare_rows, row_in}
-pub use Rattle.scope_core.specs.Added.{rows_joined, rows_left, without_node}
-pub use Rattle.scope_core.specs.Beyond.{picked, times_beyond}
-pub use Rattle.scope_core.specs.Calls.{Counts, IsAddFault, IsSyncFault, count_after_add}
-pub use Rattle.scope_core.specs.Calls.{count_after_sync, no_count}
-pub use Rattle.scope_core.specs.GroupNodes.{named_groups, node_names, times_named}
-pub use Rattle.scope_core.specs.Indexed.{Covers, has_members, is_named, is_there}
-pub use Rattle.scope_core.specs.Listed.{IsEmptied, Tells, differs, heads, is_in, last_of, pids_in}
-pub use Rattle.scope_core.specs.NodeLists.{IsNodeList, of_node, all_rows, rows_by_node}
-pub use Rattle.scope_core.specs.Table.{AreCounted, IsKept, Table, count_of, counted_cmp, is_of_node}
-pub use Rattle.scope_core.specs.Table.{is_row, local_count, local_total, max_rows, node_total}
-pub use Rattle.scope_core.specs.Table.{tally}
-pub use Rattle.scope_core.specs.declared.counted.Counted.{Counted}
-pub use Rattle.scope_core.specs.declared.fault.TableFault.{TableFault}
-pub use Rattle.scope_core.specs.declared.fault.TableFault.TheVariants.{NotJoined, NotListed}
-pub use Rattle.scope_core.specs.declared.fault.TableFault.TheVariants.{OutOfMemory, RowsFull}
+pub use specs.Added.{Adds, are_all_in, bare_rows, HasRoomFor, Joins, row_in, rows_joined, rows_left}
+pub use specs.Added.{without_node}
+pub use specs.Beyond.{picked, times_beyond}
+pub use specs.Calls.{count_after_add, count_after_sync, Counts, IsAddFault, IsSyncFault, no_count}
+pub use specs.GroupNodes.{named_groups, node_names, times_named}
+pub use specs.Indexed.{Covers, has_members, is_named, is_there}
+pub use specs.Listed.{differs, heads, is_in, IsEmptied, last_of, pids_in, Tells}
+pub use specs.NodeLists.{all_rows, IsNodeList, of_node, rows_by_node}
+pub use specs.Table.{AreCounted, count_of, counted_cmp, is_of_node, is_row, IsKept, local_count}
+pub use specs.Table.{local_total, max_rows, node_total, Table, tally}
+pub use specs.declared.counted.Counted.{Counted}
+pub use specs.declared.fault.TableFault.{TableFault}
+pub use specs.declared.fault.TableFault.TheVariants.{NotJoined, NotListed, OutOfMemory, RowsFull}
 pub use Rattle.std.proofs.lemmas.Result.{IfErr-weaker, IfOk-weaker, on_err_weaker, on_ok_weaker}
 pub use Rattle.indexmap.proofs.CallerLemmas.{insert_entry-new}
 pub use Rattle.indexmap.specs.IndexMap.{insert_entry}
-pub use Rattle.scope_core.specs.Copies.{IsLastKey, is_held, is_keyed, keyed, keyed_maps}
-pub use Rattle.scope_core.specs.Copies.{process_keys}
-pub use Rattle.scope_core.specs.HashedRows.{IsHashed, NodeTable, counted_in, entries_in, group_rows}
-pub use Rattle.scope_core.specs.HashedRows.{has_key, has_row, key_cmp, key_of, pid_of, stands}
-pub use Rattle.scope_core.specs.HashedRows.{with_counts}
-pub use Rattle.scope_core.specs.Kept.{AreListings, Forgets}
-pub use Rattle.scope_core.specs.LoweredRows.{IsLowered}
-pub use Rattle.scope_core.specs.SmallMap.{entries_of, find, find_in, found}
-pub use Rattle.scope_core.specs.declared.process_key.ProcessKey.{ProcessKey}
-pub use Rattle.scope_core.specs.declared.small_map.SmallMap.{SmallMap}
-pub use Rattle.scope_core.specs.declared.small_map.SmallMap.TheVariants.{Many, One}
+pub use specs.Copies.{is_held, is_keyed, IsLastKey, keyed, keyed_maps, process_keys}
+pub use specs.HashedRows.{counted_in, entries_in, group_rows, has_key, has_row, IsHashed, key_cmp}
+pub use specs.HashedRows.{key_of, NodeTable, pid_of, stands, with_counts}
+pub use specs.Kept.{AreListings, Forgets}
+pub use specs.LoweredRows.{IsLowered}
+pub use specs.SmallMap.{entries_of, find, find_in, found}
+pub use specs.declared.process_key.ProcessKey.{ProcessKey}
+pub use specs.declared.small_map.SmallMap.{SmallMap}
+pub use specs.declared.small_map.SmallMap.TheVariants.{Many, One}
 pub use Rattle.std.proofs.lemmas.Bool.Decides.{Decides-eqb}
 pub use Rattle.std.proofs.lemmas.Grind.{common_steps}
 pub use Rattle.std.proofs.lemmas.Map.{keys-set_value}

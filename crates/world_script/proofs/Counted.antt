@@ -1,11 +1,11 @@
 -- A step of a world keeps the number of its nodes.
-use Rattle.std.proofs.Common.{◌≡◌, ◌∙◌, length, ap, length-set}
+use Rattle.std.proofs.Common.{ap, length, length-set, ◌∙◌, ◌≡◌}
 use Rattle.std.specs.declared.result.Result.{Result}
 use Rattle.pg_world.specs.declared.world_step.WorldStep.{WorldStep}
 use Rattle.pg_world.specs.declared.world_step.WorldReply.{WorldReply}
 use Rattle.pg_world.specs.declared.fault.WorldFault.{WorldFault}
 use Rattle.pg_world.specs.World.{Nodes}
-use Rattle.pg_world.specs.Steps.{Turn, Refuses, Asks, Turns, IsWorldStep, turn_of}
+use Rattle.pg_world.specs.Steps.{Asks, IsWorldStep, Refuses, Turn, turn_of, Turns}
 
 turns_keep : (old new : Nodes) (t : WorldStep) (turn : Turn) (r : Result WorldReply WorldFault)
     → Turns old t turn new r → length new.nodes ≡ length old.nodes

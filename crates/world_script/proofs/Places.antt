@@ -1,6 +1,6 @@
 -- Places of nodes.
-use Rattle.std.proofs.Common.{◌≡◌, ℕ, ◌<◌, ◌≤◌, ◌∙◌, true, false, List, [], length, get_or, sym, ap}
-use Rattle.std.proofs.Common.{arith}
+use Rattle.std.proofs.Common.{ap, arith, false, get_or, length, List, sym, true, ℕ, [], ◌<◌, ◌∙◌}
+use Rattle.std.proofs.Common.{◌≡◌, ◌≤◌}
 use Rattle.std.specs.Option.{option_map_or}
 use Rattle.std.proofs.lemmas.Option.{slice_get-get_or}
 use Rattle.std.proofs.lemmas.List.Sums.{position_or_len_is}
@@ -10,7 +10,14 @@ use Rattle.world_script.specs.Names.{is_named, place_of}
 
 -- some node, where a list of nodes has to be read past its end
 abbrev pub nobody : History
-nobody = past (record { name = []; cookie = []; hidden = false; creation = 0; entries = 0; links = 1 }) []
+nobody = past (record {
+  name = [];
+  cookie = [];
+  hidden = false;
+  creation = 0;
+  entries = 0;
+  links = 1;
+}) []
 
 module _ (name : List ℕ) (hs : List History) where
   named_at : (k : ℕ) → k < length hs

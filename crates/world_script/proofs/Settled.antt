@@ -1,6 +1,6 @@
 -- Steps that move frames, one and then others.
-use Rattle.std.proofs.Common.{◌≡◌, ℕ, ◌+◌, ◌<◌, ◌≤◌, min, Bool, true, false, if◌then◌else◌, IfOk}
-use Rattle.std.proofs.Common.{OnErr, Ok, Err, List, [], ◌∷◌, ◌++◌, refl, subst, sym, arith}
+use Rattle.std.proofs.Common.{arith, Bool, Err, false, IfOk, if◌then◌else◌, List, min, Ok, OnErr}
+use Rattle.std.proofs.Common.{refl, subst, sym, true, ℕ, [], ◌++◌, ◌+◌, ◌<◌, ◌∷◌, ◌≡◌, ◌≤◌}
 use mir.Val.{bool_byte}
 use Rattle.std.specs.List.{AllByRecursion}
 use Rattle.std.specs.declared.result.Result.{Result}
@@ -10,7 +10,7 @@ use Rattle.pg_world.specs.declared.world_step.WorldReply.{WorldReply}
 use Rattle.pg_world.specs.declared.fault.WorldFault.{WorldFault}
 use Rattle.pg_world.specs.World.{Nodes}
 use Rattle.pg_world.specs.Steps.{IsWorldStep}
-use Rattle.world_script.specs.Settling.{Made, Lead, MovesFrames, has_come, came_in, Settles}
+use Rattle.world_script.specs.Settling.{came_in, has_come, Lead, Made, MovesFrames, Settles}
 
 abbrev count : Made → ℕ
 count m = came_in m.step m.answer

@@ -1,23 +1,23 @@
 -- The nodes so far, and what a node lists.
-use Rattle.std.proofs.Common.{◌≡◌, ℕ, ◌+◌, ◌<◌, ◌∙◌, Bool, true, false, List, [], ◌∷◌, ◌++◌, Some}
-use Rattle.std.proofs.Common.{None, Ok, Err, cond, not, refl, length, take, get_or, sym, ap}
-use Rattle.std.proofs.Common.{append_assoc}
+use Rattle.std.proofs.Common.{ap, append_assoc, Bool, cond, Err, false, get_or, length, List, None}
+use Rattle.std.proofs.Common.{not, Ok, refl, Some, sym, take, true, ℕ, [], ◌++◌, ◌+◌, ◌<◌, ◌∙◌, ◌∷◌}
+use Rattle.std.proofs.Common.{◌≡◌}
 use Rattle.std.specs.Prelude.{slice_get}
 use Rattle.std.specs.List.{flat_map}
 use Rattle.std.specs.Option.{option_map_or}
 use Rattle.std.proofs.lemmas.Option.{slice_get-get_or}
-use Rattle.std.proofs.lemmas.List.{take_more, append-nil}
+use Rattle.std.proofs.lemmas.List.{append-nil, take_more}
 use Rattle.std.proofs.lemmas.Grind.{flat_map-append}
-use Rattle.policy_audit.specs.declared.event.Event.TheVariants as event
 use Rattle.policy_audit.specs.declared.reply.Reply.{Reply}
 use Rattle.policy_audit.specs.declared.rule.Rule.{Rule}
 use Rattle.policy_audit.specs.History.{History}
 use Rattle.policy_audit.specs.Own.{is_running}
 use Rattle.policy_audit.specs.Contents.{members}
-use Rattle.node_core.specs.declared.fault.CoreFault.TheVariants as core_fault
 use Rattle.node_core.specs.Reading.{IsAnswer}
-use Rattle.world_script.specs.Showing.{pids_in, listed_by}
+use Rattle.world_script.specs.Showing.{listed_by, pids_in}
 use Rattle.world_script.proofs.Places.{nobody}
+use Rattle.policy_audit.specs.declared.event.Event.TheVariants as event
+use Rattle.node_core.specs.declared.fault.CoreFault.TheVariants as core_fault
 
 -- one node more
 pub one_more : (f : History → List ℕ) (hs : List History) (k : ℕ) → k < length hs

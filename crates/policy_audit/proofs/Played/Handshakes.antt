@@ -1,17 +1,18 @@
 -- Handshakes, computed from the policy.
-use Rattle.policy_audit.proofs.Words.{refl, digits, List, [], codes, map, true, ◌++◌, ◌∷◌, ◌≡◌, block_words, compress, digest_bytes}
-use Rattle.policy_audit.proofs.Words.{hash_after, md5, rounds, ack_frame, challenge_frame}
-use Rattle.policy_audit.proofs.Words.{name_frame, reply_frame, status_of, read_message}
-use Rattle.policy_audit.proofs.Words.{read_message2}
-use Rattle.policy_audit.proofs.Words.{verdicts, Event, Reply, Rule}
-use Rattle.policy_audit.proofs.Lines.{Line, gives, done, breaks, takes, sent, a_named, node, frame, calls, judged}
+use Rattle.policy_audit.proofs
+use proofs.Words.{ack_frame, block_words, challenge_frame, codes, compress, digest_bytes, digits}
+use proofs.Words.{Event, hash_after, List, map, md5, name_frame, read_message, read_message2, refl}
+use proofs.Words.{Reply, reply_frame, rounds, Rule, status_of, true, verdicts, [], ◌++◌, ◌∷◌, ◌≡◌}
+use proofs.Lines.{a_named, breaks, calls, done, frame, gives, judged, Line, node, sent, takes}
 
 abbrev pub acceptor_handshake : List Line
 acceptor_handshake =
     gives (Event.Opened 123) (Reply.Link 1)
     ∷ done (sent 1 (codes "4e0000000001000001000000050003614068"))
-    ∷ takes 1 (frame (codes "736f6b") ∷ frame (codes "4e00000000010000010000007b000000040003624068") ∷ [])
-    ∷ gives (sent 1 (codes "7200000001482c811da5d5b4bc6d497ffa98491e38")) (Reply.Up (codes "a@h") 5 true)
+    ∷ takes 1 (frame (codes "736f6b") ∷ frame (codes "4e00000000010000010000007b000000040003624068")
+    ∷ [])
+    ∷ gives (sent 1 (codes "7200000001482c811da5d5b4bc6d497ffa98491e38"))
+    (Reply.Up (codes "a@h") 5 true)
     ∷ takes 1 (frame (codes "617c6a180b36896a0a8c02787eeafb0e4c") ∷ []) ∷ []
 
 abbrev pub dialler_handshake : List Line
@@ -21,7 +22,8 @@ dialler_handshake =
     ∷ done (sent 1 (codes "736f6b"))
     ∷ done (sent 1 (codes "4e000000000100000100000001000000050003614068"))
     ∷ takes 1 (frame (codes "720000007b7c6a180b36896a0a8c02787eeafb0e4c") ∷ [])
-    ∷ gives (sent 1 (codes "61482c811da5d5b4bc6d497ffa98491e38")) (Reply.Up (codes "a@h") 5 true) ∷ []
+    ∷ gives (sent 1 (codes "61482c811da5d5b4bc6d497ffa98491e38")) (Reply.Up (codes "a@h") 5 true)
+    ∷ []
 
 abbrev pub truncated_name : List Line
 truncated_name =
@@ -64,7 +66,8 @@ wrong_name =
 abbrev pub wrong_digest : List Line
 wrong_digest =
     a_named 1
-    ++ takes 1 (frame (codes "736f6b") ∷ frame (codes "4e00000000010000010000007b000000040003624068") ∷ [])
+    ++ takes 1 (frame (codes "736f6b")
+    ∷ frame (codes "4e00000000010000010000007b000000040003624068") ∷ [])
     ∷ breaks (sent 1 (codes "7200000001482c811da5d5b4bc6d497ffa98491e39")) Rule.BadDigest
     ∷ breaks (sent 1 (codes "7200000001482c811da5d5b4bc6d497ffa98491e38")) Rule.NoSuchLink
     ∷ breaks (Event.Take 1) Rule.NoSuchLink ∷ []
@@ -92,7 +95,8 @@ simultaneous_connect =
     ∷ gives (Event.Dial (codes "z@h") 8) (Reply.Link 5)
     ∷ gives (Event.Opened 123) (Reply.Link 6)
     ∷ done (sent 6 (codes "4e00000000010000010000000100037a4068"))
-    ∷ takes 6 (frame (codes "736f6b5f73696d756c74616e656f7573") ∷ frame (codes "4e00000000010000010000007b000000040003624068") ∷ [])
+    ∷ takes 6 (frame (codes "736f6b5f73696d756c74616e656f7573")
+    ∷ frame (codes "4e00000000010000010000007b000000040003624068") ∷ [])
     ∷ breaks (Event.Take 5) Rule.NoSuchLink ∷ []
 
 abbrev pub stranger_claims_a_dialled_name : List Line
@@ -108,17 +112,23 @@ cookie_for_a_peer =
     done (Event.SetCookieFor (codes "a@h") (codes "123"))
     ∷ gives (Event.Opened 4) (Reply.Link 2)
     ∷ done (sent 2 (codes "4e0000000001000001000000050003614068"))
-    ∷ gives (sent 2 (codes "72000001c881dc9bdb52d04dc20036dbd8313ed055")) (Reply.Up (codes "a@h") 5 true)
-    ∷ takes 2 (frame (codes "736f6b") ∷ frame (codes "4e000000000100000100000004000000040003624068") ∷ frame (codes "61e10adc3949ba59abbe56e057f20f883e") ∷ []) ∷ []
+    ∷ gives (sent 2 (codes "72000001c881dc9bdb52d04dc20036dbd8313ed055"))
+    (Reply.Up (codes "a@h") 5 true)
+    ∷ takes 2 (frame (codes "736f6b") ∷ frame (codes "4e000000000100000100000004000000040003624068")
+    ∷ frame (codes "61e10adc3949ba59abbe56e057f20f883e") ∷ []) ∷ []
 
 abbrev pub cookie_for_the_own_node : List Line
 cookie_for_the_own_node =
     done (Event.SetCookieFor (codes "b@h") (codes "test"))
     ∷ a_named 2
-    ++ gives (sent 2 (codes "7200000001cc03e747a6afbbcbf8be7668acfebee5")) (Reply.Up (codes "a@h") 5 true) ∷ []
+    ++ gives (sent 2 (codes "7200000001cc03e747a6afbbcbf8be7668acfebee5"))
+    (Reply.Up (codes "a@h") 5 true) ∷ []
 
 abbrev scripts : List (List Line)
-scripts = acceptor_handshake ∷ dialler_handshake ∷ truncated_name ∷ bytes_after_the_name ∷ no_handshake23 ∷ dynamic_name ∷ bad_name ∷ own_name ∷ wrong_name ∷ wrong_digest ∷ peer_says_not_allowed ∷ alive_to_a_dial ∷ simultaneous_connect ∷ stranger_claims_a_dialled_name ∷ cookie_for_a_peer ∷ cookie_for_the_own_node ∷ []
+scripts = acceptor_handshake ∷ dialler_handshake ∷ truncated_name ∷ bytes_after_the_name
+    ∷ no_handshake23 ∷ dynamic_name ∷ bad_name ∷ own_name ∷ wrong_name ∷ wrong_digest
+    ∷ peer_says_not_allowed ∷ alive_to_a_dial ∷ simultaneous_connect
+    ∷ stranger_claims_a_dialled_name ∷ cookie_for_a_peer ∷ cookie_for_the_own_node ∷ []
 
 -- the verdicts on each script are those that it wants
 played : map (λ script. verdicts node (calls script)) scripts ≡ map judged scripts

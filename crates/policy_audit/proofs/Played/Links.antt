@@ -1,10 +1,11 @@
 -- Links, who may connect, and limits, computed from the policy.
-use Rattle.policy_audit.proofs.Words.{refl, digits, List, [], codes, false, map, true, ◌++◌, ◌∷◌, ◌≡◌, block_words, compress, digest_bytes}
-use Rattle.policy_audit.proofs.Words.{hash_after, md5, rounds, ack_frame, challenge_frame}
-use Rattle.policy_audit.proofs.Words.{name_frame, reply_frame, status_of, read_message}
-use Rattle.policy_audit.proofs.Words.{read_message2}
-use Rattle.policy_audit.proofs.Words.{verdicts, Event, Reply, Rule}
-use Rattle.policy_audit.proofs.Lines.{Line, gives, done, breaks, takes, sent, openings, a_named, a_up, begun, node, pid, frame, message, calls, judged}
+use Rattle.policy_audit.proofs
+use proofs.Words.{ack_frame, block_words, challenge_frame, codes, compress, digest_bytes, digits}
+use proofs.Words.{Event, false, hash_after, List, map, md5, name_frame, read_message, read_message2}
+use proofs.Words.{refl, Reply, reply_frame, rounds, Rule, status_of, true, verdicts, [], ◌++◌, ◌∷◌}
+use proofs.Words.{◌≡◌}
+use proofs.Lines.{a_named, a_up, begun, breaks, calls, done, frame, gives, judged, Line, message}
+use proofs.Lines.{node, openings, pid, sent, takes}
 
 abbrev pub replaced_link : List Line
 replaced_link =
@@ -20,10 +21,13 @@ replaced_link =
     ∷ gives (Event.Members (codes "pg") (codes "g")) (Reply.Pids (pid (codes "a@h") 5 1 ∷ []))
     ∷ a_named 16
     ++ done (sent 16 (codes "7374727565"))
-    ∷ gives (sent 16 (codes "7200000001482c811da5d5b4bc6d497ffa98491e38")) (Reply.Up (codes "a@h") 5 true)
+    ∷ gives (sent 16 (codes "7200000001482c811da5d5b4bc6d497ffa98491e38"))
+    (Reply.Up (codes "a@h") 5 true)
     ∷ gives (Event.Members (codes "pg") (codes "g")) (Reply.Pids [])
     ∷ breaks (sent 1 (codes "44027067")) Rule.NoSuchLink
-    ∷ takes 16 (frame (codes "73616c697665") ∷ frame (codes "4e00000000010000010000007b000000040003624068") ∷ frame (codes "617c6a180b36896a0a8c02787eeafb0e4c") ∷ message (codes "44027067") ∷ []) ∷ []
+    ∷ takes 16 (frame (codes "73616c697665")
+    ∷ frame (codes "4e00000000010000010000007b000000040003624068")
+    ∷ frame (codes "617c6a180b36896a0a8c02787eeafb0e4c") ∷ message (codes "44027067") ∷ []) ∷ []
 
 abbrev pub two_links_of_one_peer : List Line
 two_links_of_one_peer =
@@ -34,16 +38,20 @@ two_links_of_one_peer =
     ∷ breaks (sent 6 (codes "7200000001482c811da5d5b4bc6d497ffa98491e39")) Rule.BadDigest
     ∷ a_named 11
     ++ done (sent 11 (codes "7374727565"))
-    ∷ gives (sent 11 (codes "7200000001482c811da5d5b4bc6d497ffa98491e38")) (Reply.Up (codes "a@h") 5 true)
+    ∷ gives (sent 11 (codes "7200000001482c811da5d5b4bc6d497ffa98491e38"))
+    (Reply.Up (codes "a@h") 5 true)
     ∷ breaks (sent 1 (codes "44027067")) Rule.NoSuchLink
-    ∷ takes 11 (frame (codes "73616c697665") ∷ frame (codes "4e00000000010000010000007b000000040003624068") ∷ frame (codes "617c6a180b36896a0a8c02787eeafb0e4c") ∷ []) ∷ []
+    ∷ takes 11 (frame (codes "73616c697665")
+    ∷ frame (codes "4e00000000010000010000007b000000040003624068")
+    ∷ frame (codes "617c6a180b36896a0a8c02787eeafb0e4c") ∷ []) ∷ []
 
 abbrev pub dial_beside_an_open_link : List Line
 dial_beside_an_open_link =
     a_named 1
     ++ gives (Event.Dial (codes "a@h") 7) (Reply.Link 3)
     ∷ breaks (Event.Dial (codes "a@h") 8) Rule.LinkPending
-    ∷ gives (sent 1 (codes "7200000001482c811da5d5b4bc6d497ffa98491e38")) (Reply.Up (codes "a@h") 5 true)
+    ∷ gives (sent 1 (codes "7200000001482c811da5d5b4bc6d497ffa98491e38"))
+    (Reply.Up (codes "a@h") 5 true)
     ∷ takes 3 (frame (codes "4e0000000001000001000000040003624068") ∷ [])
     ∷ breaks (sent 3 (codes "73616c697665")) Rule.LinkUp
     ∷ takes 3 (frame (codes "7366616c7365") ∷ [])
@@ -59,8 +67,10 @@ ended_dial_keeps_its_frames =
     ∷ done (sent 3 (codes "4e00000000010000010000000500037a4068"))
     ∷ gives (Event.Dial (codes "z@h") 5) (Reply.Link 5)
     ∷ takes 1 (frame (codes "4e0000000001000001000000040003624068") ∷ [])
-    ∷ takes 3 (frame (codes "736f6b") ∷ frame (codes "4e00000000010000010000007b000000040003624068") ∷ [])
-    ∷ gives (sent 3 (codes "7200000001482c811da5d5b4bc6d497ffa98491e38")) (Reply.Up (codes "z@h") 5 true)
+    ∷ takes 3 (frame (codes "736f6b") ∷ frame (codes "4e00000000010000010000007b000000040003624068")
+    ∷ [])
+    ∷ gives (sent 3 (codes "7200000001482c811da5d5b4bc6d497ffa98491e38"))
+    (Reply.Up (codes "z@h") 5 true)
     ∷ breaks (Event.Take 1) Rule.NoSuchLink
     ∷ takes 3 (frame (codes "617c6a180b36896a0a8c02787eeafb0e4c") ∷ []) ∷ []
 
@@ -79,7 +89,8 @@ allow_list =
     done (Event.Allow [])
     ∷ a_named 2
     ++ done (Event.Allow (codes "c@h" ∷ []))
-    ∷ gives (sent 2 (codes "7200000001482c811da5d5b4bc6d497ffa98491e38")) (Reply.Up (codes "a@h") 5 true)
+    ∷ gives (sent 2 (codes "7200000001482c811da5d5b4bc6d497ffa98491e38"))
+    (Reply.Up (codes "a@h") 5 true)
     ∷ gives (Event.Opened 9) (Reply.Link 6)
     ∷ breaks (sent 6 (codes "4e0000000001000001000000050003614068")) Rule.NotAllowed
     ∷ takes 6 (frame (codes "736e6f745f616c6c6f776564") ∷ [])
@@ -128,7 +139,9 @@ creation_spent =
     breaks Event.Restart Rule.CreationSpent ∷ []
 
 abbrev scripts : List (List Line)
-scripts = replaced_link ∷ two_links_of_one_peer ∷ dial_beside_an_open_link ∷ ended_dial_keeps_its_frames ∷ disconnect ∷ disconnect_without_link ∷ allow_list ∷ allow_list_keeps_the_link ∷ half_open_links ∷ restart ∷ restart_drops_frames ∷ []
+scripts = replaced_link ∷ two_links_of_one_peer ∷ dial_beside_an_open_link
+    ∷ ended_dial_keeps_its_frames ∷ disconnect ∷ disconnect_without_link ∷ allow_list
+    ∷ allow_list_keeps_the_link ∷ half_open_links ∷ restart ∷ restart_drops_frames ∷ []
 
 -- the verdicts on each script are those that it wants
 played : map (λ script. verdicts node (calls script)) scripts ≡ map judged scripts
@@ -136,12 +149,14 @@ unfolding md5 digest_bytes hash_after compress rounds block_words digits name_fr
     reply_frame ack_frame status_of read_message read_message2
 played = refl
 
-entry_limit_played : verdicts (begun (codes "b@h") (codes "password") false 4 2) (calls entry_limit) ≡ judged entry_limit
+entry_limit_played : verdicts (begun (codes "b@h") (codes "password") false 4 2) (calls entry_limit)
+    ≡ judged entry_limit
 unfolding md5 digest_bytes hash_after compress rounds block_words digits name_frame challenge_frame
     reply_frame ack_frame status_of read_message read_message2
 entry_limit_played = refl
 
-creation_spent_played : verdicts (begun (codes "b@h") (codes "password") false 4294967295 1000000) (calls creation_spent) ≡ judged creation_spent
+creation_spent_played : verdicts (begun (codes "b@h") (codes "password") false 4294967295 1000000)
+    (calls creation_spent) ≡ judged creation_spent
 unfolding md5 digest_bytes hash_after compress rounds block_words digits name_frame challenge_frame
     reply_frame ack_frame status_of read_message read_message2
 creation_spent_played = refl

@@ -1,11 +1,10 @@
 -- Messages in parts between nodes that know version 2, computed from the policy.
-use Rattle.policy_audit.proofs.Words.{refl, digits, List, [], codes, map, true, ◌++◌, ◌∷◌, ◌≡◌}
-use Rattle.policy_audit.proofs.Words.{block_words, compress, digest_bytes, hash_after, md5, rounds}
-use Rattle.policy_audit.proofs.Words.{ack_frame, challenge_frame, name_frame, reply_frame}
-use Rattle.policy_audit.proofs.Words.{status_of, read_message, read_message2}
-use Rattle.policy_audit.proofs.Words.{verdicts, Event, Reply, Rule}
-use Rattle.policy_audit.proofs.Lines.{Line, gives, done, breaks, takes, sent, pid, frame, message}
-use Rattle.policy_audit.proofs.Lines.{calls, judged, node, new_node}
+use Rattle.policy_audit.proofs
+use proofs.Words.{ack_frame, block_words, challenge_frame, codes, compress, digest_bytes, digits}
+use proofs.Words.{Event, hash_after, List, map, md5, name_frame, read_message, read_message2, refl}
+use proofs.Words.{Reply, reply_frame, rounds, Rule, status_of, true, verdicts, [], ◌++◌, ◌∷◌, ◌≡◌}
+use proofs.Lines.{breaks, calls, done, frame, gives, judged, Line, message, new_node, node, pid}
+use proofs.Lines.{sent, takes}
 
 -- link 1 to a@h, which knows version 2, is up
 abbrev up_by_2 : List Line

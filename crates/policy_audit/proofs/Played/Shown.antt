@@ -1,16 +1,18 @@
 -- What can be seen of links and scopes behind some of the scripts.
-use Rattle.policy_audit.proofs.Words.{refl, digits, Bool, List, Some, [], codes, false, true, ℕ, ◌∷◌, ◌≡◌, block_words, compress}
-use Rattle.policy_audit.proofs.Words.{digest_bytes, hash_after, md5, rounds, ack_frame, challenge_frame, name_frame, reply_frame, status_of}
-use Rattle.policy_audit.proofs.Words.{read_message, read_message2, contents, History, lives, Shown}
-use Rattle.policy_audit.proofs.Words.{play, show, AwaitMessage}
-use Rattle.policy_audit.proofs.Lines.{Line, node, calls, pid}
-use Rattle.policy_audit.proofs.Played.Links.{replaced_link}
-use Rattle.policy_audit.proofs.Played.Rows.{discover_and_sync, hidden_link, joins_need_a_sync}
+use Rattle.policy_audit.proofs
+use proofs.Words.{ack_frame, AwaitMessage, block_words, Bool, challenge_frame, codes, compress}
+use proofs.Words.{contents, digest_bytes, digits, false, hash_after, History, List, lives, md5}
+use proofs.Words.{name_frame, play, read_message, read_message2, refl, reply_frame, rounds, show}
+use proofs.Words.{Shown, Some, status_of, true, ℕ, [], ◌∷◌, ◌≡◌}
+use proofs.Lines.{calls, Line, node, pid}
+use proofs.Played.Links.{replaced_link}
+use proofs.Played.Rows.{discover_and_sync, hidden_link, joins_need_a_sync}
 
 abbrev after_it : List Line → History
 after_it script = play node (calls script)
 
--- a link to a@h whose side is whole and for which no frames wait: up or ended, visible or not, and the scopes told and heard
+-- a link to a@h whose side is whole and for which no frames wait: up or ended, visible or not, and
+-- the scopes told and heard
 abbrev whole_link : Bool → Bool → List (List ℕ) → Shown
 whole_link lives visible scopes = record {
   is_open = lives;
@@ -49,7 +51,8 @@ unfolding md5 digest_bytes hash_after compress rounds block_words digits name_fr
 unseen = refl
 
 -- a process that its node stated twice
-twice : contents (after_it joins_need_a_sync) (codes "pg") ≡ record { group = codes "g"; pids = pid (codes "a@h") 5 1 ∷ pid (codes "a@h") 5 1 ∷ [] } ∷ []
+twice : contents (after_it joins_need_a_sync) (codes "pg")
+    ≡ record { group = codes "g"; pids = pid (codes "a@h") 5 1 ∷ pid (codes "a@h") 5 1 ∷ [] } ∷ []
 unfolding md5 digest_bytes hash_after compress rounds block_words digits name_frame challenge_frame
     reply_frame ack_frame status_of read_message read_message2
 twice = refl

@@ -1,6 +1,7 @@
+use Rattle.admission_rules.proofs
 use Rattle.std.proofs.Common.{refl}
-use Rattle.admission_rules.proofs.NameLists.{insert_all_more}
-use Rattle.admission_rules.proofs.allow_list.add_all.Goals as goal
+use proofs.NameLists.{insert_all_more}
+use proofs.allow_list.add_all.Goals as goal
 
 pub loop-name-preserved : goal.loop-name-preserved
 loop-name-preserved c =

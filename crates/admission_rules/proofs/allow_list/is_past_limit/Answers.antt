@@ -1,6 +1,7 @@
-use Rattle.std.proofs.Common.{◌∙◌, sym, refl, arith}
-use Rattle.admission_rules.proofs.NameLists.{new_name_makes_more}
-use Rattle.admission_rules.proofs.allow_list.is_past_limit.Goals as goal
+use Rattle.admission_rules.proofs
+use Rattle.std.proofs.Common.{arith, refl, sym, ◌∙◌}
+use proofs.NameLists.{new_name_makes_more}
+use proofs.allow_list.is_past_limit.Goals as goal
 
 pub returns-then-room-eq0 : goal.returns-then-room-eq0
 returns-then-room-eq0 c = let new = sym c.is_new.ensures ∙ c.if-is_new.true in let more =

@@ -1,7 +1,8 @@
-use Rattle.std.proofs.Common.{rules, arith, ◌∷◌, [], length, length-append}
-use Rattle.std.proofs.lemmas.Slice.Zip.{zip_turn, zip_end}
-use Rattle.cookie_digest.proofs.Differing.{SameBelow-suc, SameBelow-length}
-use Rattle.cookie_digest.proofs.challenge.is_same_digest.Goals as goal
+use Rattle.cookie_digest.proofs
+use Rattle.std.proofs.Common.{arith, length, length-append, rules, [], ◌∷◌}
+use Rattle.std.proofs.lemmas.Slice.Zip.{zip_end, zip_turn}
+use proofs.Differing.{SameBelow-length, SameBelow-suc}
+use proofs.challenge.is_same_digest.Goals as goal
 
 pub loop-x-preserved : goal.loop-x-preserved
 loop-x-preserved c =

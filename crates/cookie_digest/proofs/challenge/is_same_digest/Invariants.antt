@@ -1,6 +1,7 @@
-use Rattle.std.proofs.Common.{◌≡◌, ◌↔◌, length}
-use Rattle.cookie_digest.proofs.Differing.{SameBelow}
-use Rattle.cookie_digest.proofs.challenge.is_same_digest.Given as goal
+use Rattle.cookie_digest.proofs
+use Rattle.std.proofs.Common.{length, ◌↔◌, ◌≡◌}
+use proofs.Differing.{SameBelow}
+use proofs.challenge.is_same_digest.Given as goal
 
 -- no bit differs so far exactly where the bytes so far are the same
 abbrev pub invariant-loop-x : goal.invariant-loop-x

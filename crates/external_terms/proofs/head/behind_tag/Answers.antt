@@ -1,9 +1,8 @@
-use Rattle.external_terms.proofs.Words.{◌≡◌, ◌++◌, ◌*◌, ◌+◌, length, refl, ap, ◌∙◌, rules}
-use Rattle.external_terms.proofs.Words.{number_bytes, IsTermFault, IsBehind, IsLong, IsNumber}
-use Rattle.external_terms.proofs.Words.{IsNode}
-use Rattle.external_terms.proofs.CutLemmas.{passes}
-use Rattle.external_terms.proofs.HeadLemmas.{first_stands, count_stands, node_stands}
-use Rattle.external_terms.proofs.HeadLemmas.{last_stands, reads}
+use Rattle.external_terms.proofs
+use proofs.Words.{ap, IsBehind, IsLong, IsNode, IsNumber, IsTermFault, length, number_bytes, refl}
+use proofs.Words.{rules, ◌*◌, ◌++◌, ◌+◌, ◌∙◌, ◌≡◌}
+use proofs.CutLemmas.{passes}
+use proofs.HeadLemmas.{count_stands, first_stands, last_stands, node_stands, reads}
 use Rattle.external_terms.proofs.head.behind_tag.Goals as goal
 
 pub returns-in_err-rest-clause-refused : goal.returns-in_err-rest-clause-refused

@@ -1,8 +1,8 @@
-use Rattle.external_terms.proofs.Words.{◌≡◌, ◌∷◌, ◌++◌, List, ℕ, refl, ap, ◌∙◌, rules, subst, form}
-use Rattle.external_terms.proofs.Words.{tag_byte, IsTermFault, IsTag, IsHead, IsSomeHead, IsBehind}
-use Rattle.external_terms.proofs.Words.{HasForm}
-use Rattle.external_terms.proofs.CutLemmas.{passes, of_err, of_ok}
-use Rattle.external_terms.proofs.HeadLemmas.{tag_stands, form_stands}
+use Rattle.external_terms.proofs
+use proofs.Words.{ap, form, HasForm, IsBehind, IsHead, IsSomeHead, IsTag, IsTermFault, List, refl}
+use proofs.Words.{rules, subst, tag_byte, ℕ, ◌++◌, ◌∙◌, ◌∷◌, ◌≡◌}
+use proofs.CutLemmas.{of_err, of_ok, passes}
+use proofs.HeadLemmas.{form_stands, tag_stands}
 use Rattle.external_terms.proofs.head.head_at.Goals as goal
 
 pub returns-in_err-tag-clause-refused : goal.returns-in_err-tag-clause-refused

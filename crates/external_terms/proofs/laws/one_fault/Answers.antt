@@ -1,4 +1,4 @@
-use Rattle.external_terms.proofs.TermLemmas.{faults_same, fault_not_found}
+use Rattle.external_terms.proofs.TermLemmas.{fault_not_found, faults_same}
 use Rattle.external_terms.proofs.laws.one_fault.Goals as goal
 
 pub returns-clause-one : goal.returns-clause-one

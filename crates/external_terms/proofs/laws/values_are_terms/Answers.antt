@@ -1,6 +1,6 @@
-use Rattle.external_terms.proofs.ValueLemmas.{small_integer_term, atom_term, process_term}
-use Rattle.external_terms.proofs.ValueLemmas.{reference_term, tuple_term, list_term, nil_term}
-use Rattle.external_terms.proofs.ValueLemmas.{numbers_term, binary_term}
+use Rattle.external_terms.proofs
+use proofs.ValueLemmas.{atom_term, binary_term, list_term, nil_term, numbers_term, process_term}
+use proofs.ValueLemmas.{reference_term, small_integer_term, tuple_term}
 use Rattle.external_terms.proofs.laws.values_are_terms.Goals as goal
 
 pub returns-clause-small_integer : goal.returns-clause-small_integer

@@ -1,6 +1,7 @@
-use Rattle.external_terms.proofs.Words.{◌≡◌, ◌∷◌, ◌++◌, List, ℕ, refl, ap, ◌∙◌, rules, IsTermFault}
-use Rattle.external_terms.proofs.Words.{IsAtom, IsMark, IsCounted}
-use Rattle.external_terms.proofs.CutLemmas.{passes, of_err, of_ok, mark_stands, body_stands}
+use Rattle.external_terms.proofs
+use proofs.Words.{ap, IsAtom, IsCounted, IsMark, IsTermFault, List, refl, rules, ℕ, ◌++◌, ◌∙◌, ◌∷◌}
+use proofs.Words.{◌≡◌}
+use proofs.CutLemmas.{body_stands, mark_stands, of_err, of_ok, passes}
 use Rattle.external_terms.proofs.piece.behind_atom.Goals as goal
 
 pub returns-in_err-width-clause-refused : goal.returns-in_err-width-clause-refused

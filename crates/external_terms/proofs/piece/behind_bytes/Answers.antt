@@ -1,5 +1,6 @@
-use Rattle.external_terms.proofs.Words.{◌<◌, length, rules}
-use Rattle.external_terms.proofs.CutLemmas.{long_cut}
+use Rattle.external_terms.proofs
+use proofs.Words.{length, rules, ◌<◌}
+use proofs.CutLemmas.{long_cut}
 use Rattle.external_terms.proofs.piece.behind_bytes.Goals as goal
 
 pub returns-in_default-clause-refused : goal.returns-in_default-clause-refused

@@ -1,7 +1,7 @@
-use Rattle.external_terms.proofs.Words.{◌≡◌, ◌++◌, List, ℕ, length, refl, sym, ap, ◌∙◌, rules}
-use Rattle.external_terms.proofs.Words.{append_assoc, number_bytes, IsTermFault, IsCounted}
-use Rattle.external_terms.proofs.Words.{IsNumber, IsLong}
-use Rattle.external_terms.proofs.CutLemmas.{passes, of_err, of_ok, length_stands, text_stands}
+use Rattle.external_terms.proofs
+use proofs.Words.{ap, append_assoc, IsCounted, IsLong, IsNumber, IsTermFault, length, List}
+use proofs.Words.{number_bytes, refl, rules, sym, ℕ, ◌++◌, ◌∙◌, ◌≡◌}
+use proofs.CutLemmas.{length_stands, of_err, of_ok, passes, text_stands}
 use Rattle.external_terms.proofs.piece.behind_counted.Goals as goal
 
 pub returns-in_err-len-clause-refused : goal.returns-in_err-len-clause-refused

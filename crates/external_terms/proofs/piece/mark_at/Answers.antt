@@ -1,6 +1,6 @@
-use Rattle.external_terms.proofs.Words.{◌≡◌, ◌<◌, [], length, sym, subst, rules, arith}
-use Rattle.external_terms.proofs.Words.{nil_from_length, IsCut, IsMark}
-use Rattle.external_terms.proofs.CutLemmas.{mark_cut}
+use Rattle.external_terms.proofs
+use proofs.Words.{arith, IsCut, IsMark, length, nil_from_length, rules, subst, sym, [], ◌<◌, ◌≡◌}
+use proofs.CutLemmas.{mark_cut}
 use Rattle.external_terms.proofs.piece.mark_at.Goals as goal
 
 pub returns-in_default-clause-refused : goal.returns-in_default-clause-refused

@@ -1,5 +1,6 @@
-use Rattle.external_terms.proofs.Words.{◌<◌, length, rules, arith}
-use Rattle.external_terms.proofs.CutLemmas.{number_cut}
+use Rattle.external_terms.proofs
+use proofs.Words.{arith, length, rules, ◌<◌}
+use proofs.CutLemmas.{number_cut}
 use Rattle.external_terms.specs.declared.form.Width.TheVariants as widths
 use Rattle.external_terms.proofs.piece.one_at.Goals as goal
 

@@ -1,6 +1,6 @@
-use Rattle.external_terms.proofs.Words.{◌≡◌, ◌<◌, [], length, sym, subst, rules, arith}
-use Rattle.external_terms.proofs.Words.{nil_from_length, IsCut, IsTag}
-use Rattle.external_terms.proofs.CutLemmas.{tag_cut}
+use Rattle.external_terms.proofs
+use proofs.Words.{arith, IsCut, IsTag, length, nil_from_length, rules, subst, sym, [], ◌<◌, ◌≡◌}
+use proofs.CutLemmas.{tag_cut}
 use Rattle.external_terms.proofs.piece.tag_at.Goals as goal
 
 pub returns-in_default-clause-refused : goal.returns-in_default-clause-refused

@@ -1,7 +1,8 @@
-use Rattle.external_terms.proofs.Words.{◌∙◌, ◌<◌, length, rules, arith, be_bytes_2}
-use Rattle.external_terms.proofs.CutLemmas.{number_cut}
-use Rattle.external_terms.specs.declared.form.Width.TheVariants as widths
+use Rattle.external_terms.proofs
+use proofs.Words.{arith, be_bytes_2, length, rules, ◌<◌, ◌∙◌}
+use proofs.CutLemmas.{number_cut}
 use Rattle.dist_types.proofs.FieldLemmas.{front_is_bytes, parts_are}
+use Rattle.external_terms.specs.declared.form.Width.TheVariants as widths
 use Rattle.external_terms.proofs.piece.two_at.Goals as goal
 
 pub returns-in_default-clause-refused : goal.returns-in_default-clause-refused

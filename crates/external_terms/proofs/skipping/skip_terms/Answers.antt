@@ -1,7 +1,8 @@
-use Rattle.external_terms.proofs.Words.{◌≡◌, suc, ◌-◌, ◌<◌, ◌^◌, sym, subst, ◌∙◌, arith, rules}
-use Rattle.external_terms.proofs.Words.{IsHead, IsTermFault, SpellsTerms}
-use Rattle.external_terms.proofs.TermLemmas.{Same, goes_on, used_more, head_has_bytes, head_fault}
-use Rattle.external_terms.proofs.TermLemmas.{fault_not_found, all_skipped, skip_parts, one_end}
+use Rattle.external_terms.proofs
+use proofs.Words.{arith, IsHead, IsTermFault, rules, SpellsTerms, subst, suc, sym, ◌-◌, ◌<◌, ◌^◌}
+use proofs.Words.{◌∙◌, ◌≡◌}
+use proofs.TermLemmas.{all_skipped, fault_not_found, goes_on, head_fault, head_has_bytes, one_end}
+use proofs.TermLemmas.{Same, skip_parts, used_more}
 use Rattle.external_terms.proofs.skipping.skip_terms.Goals as goal
 
 pub returns-in_err-inside-clause-refused : goal.returns-in_err-inside-clause-refused

@@ -1,5 +1,6 @@
-use Rattle.external_terms.proofs.Words.{◌≡◌, ◌++◌, ◌+◌, ◌*◌, ◌^◌, ◌≤◌, length, List, ℕ}
-use Rattle.external_terms.proofs.TermLemmas.{Same}
+use Rattle.external_terms.proofs
+use proofs.Words.{length, List, ℕ, ◌*◌, ◌++◌, ◌+◌, ◌^◌, ◌≡◌, ◌≤◌}
+use proofs.TermLemmas.{Same}
 use Rattle.external_terms.proofs.skipping.skip_terms.Given as goal
 
 abbrev pub invariant-loop-due : goal.invariant-loop-due

@@ -1,6 +1,7 @@
-use Rattle.external_terms.proofs.Words.{◌∷◌, ◌++◌, sym, ap, ◌∙◌, w32, to_be_bytes}
+use Rattle.external_terms.proofs
+use proofs.Words.{ap, sym, to_be_bytes, w32, ◌++◌, ◌∙◌, ◌∷◌}
 use Rattle.external_terms.specs.Values.{atom_bytes}
-use Rattle.external_terms.proofs.ValueLemmas.{process_parts, after_node, after_id, after_serial}
+use proofs.ValueLemmas.{after_id, after_node, after_serial, process_parts}
 use Rattle.external_terms.proofs.values.pid_at.Goals as goal
 
 pub returns-in_err-id-clause-only : goal.returns-in_err-id-clause-only

@@ -1,5 +1,6 @@
-use Rattle.external_terms.proofs.Words.{◌*◌, ◌++◌, sym, ap, ◌∙◌}
-use Rattle.external_terms.proofs.ValueLemmas.{reference_parts, after_count, after_name}
+use Rattle.external_terms.proofs
+use proofs.Words.{ap, sym, ◌*◌, ◌++◌, ◌∙◌}
+use proofs.ValueLemmas.{after_count, after_name, reference_parts}
 use Rattle.external_terms.proofs.values.reference_at.Goals as goal
 
 pub returns-in_err-creation-clause-only : goal.returns-in_err-creation-clause-only

@@ -1,6 +1,5 @@
-use Rattle.frame_laws.proofs
-use proofs.BegunPlaces.{IsCut, out_cut}
-use proofs.laws.begun_in_parts.Goals as goal
+use Rattle.frame_laws.proofs.BegunPlaces.{IsCut, out_cut}
+use Rattle.frame_laws.proofs.laws.begun_in_parts.Goals as goal
 
 pub returns : goal.returns
 returns c = λ h node l v speaks n b q. IsCut.each (out_cut h.opening h.entries node l v speaks) n b

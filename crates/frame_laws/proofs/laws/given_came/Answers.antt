@@ -1,7 +1,7 @@
 use Rattle.frame_laws.proofs
 use proofs.Giving.{asked_once, named_first}
 use proofs.Openings.{opening_is}
-use proofs.laws.given_came.Goals as goal
+use Rattle.frame_laws.proofs.laws.given_came.Goals as goal
 
 pub returns : goal.returns
 returns c = record {

@@ -1,6 +1,5 @@
-use Rattle.frame_laws.proofs
-use proofs.Handing.{all_handed, open_rest}
-use proofs.laws.handed_in_order.Goals as goal
+use Rattle.frame_laws.proofs.Handing.{all_handed, open_rest}
+use Rattle.frame_laws.proofs.laws.handed_in_order.Goals as goal
 
 pub returns-clause-order : goal.returns-clause-order
 returns-clause-order c = λ h legal l. (let it = all_handed h.opening h.entries legal l in

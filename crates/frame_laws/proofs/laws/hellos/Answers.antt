@@ -1,6 +1,5 @@
-use Rattle.frame_laws.proofs
-use proofs.Greetings.{asked_own, named_own}
-use proofs.laws.hellos.Goals as goal
+use Rattle.frame_laws.proofs.Greetings.{asked_own, named_own}
+use Rattle.frame_laws.proofs.laws.hellos.Goals as goal
 
 pub returns-clause-dialled : goal.returns-clause-dialled
 returns-clause-dialled c = λ h node l n d opens.

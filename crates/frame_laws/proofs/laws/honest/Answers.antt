@@ -1,7 +1,7 @@
 use Rattle.frame_laws.proofs
 use proofs.Bodies.{honest_first}
 use proofs.HonestNode.{node_honest}
-use proofs.laws.honest.Goals as goal
+use Rattle.frame_laws.proofs.laws.honest.Goals as goal
 
 pub returns : goal.returns
 returns c = record { owed = node_honest; first = honest_first }

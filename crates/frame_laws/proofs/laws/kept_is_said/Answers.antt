@@ -1,6 +1,5 @@
-use Rattle.frame_laws.proofs
-use proofs.Hearing.{keeps_or_not}
-use proofs.laws.kept_is_said.Goals as goal
+use Rattle.frame_laws.proofs.Hearing.{keeps_or_not}
+use Rattle.frame_laws.proofs.laws.kept_is_said.Goals as goal
 
 pub returns : goal.returns
 returns c = λ h legal l v speaks name made honest gives up. keeps_or_not v h.opening h.entries legal

@@ -1,6 +1,5 @@
-use Rattle.frame_laws.proofs
-use proofs.OneView.{heard_moment, hears_now, listed_now}
-use proofs.laws.one_view.Goals as goal
+use Rattle.frame_laws.proofs.OneView.{heard_moment, hears_now, listed_now}
+use Rattle.frame_laws.proofs.laws.one_view.Goals as goal
 
 pub returns : goal.returns
 returns c = record {

@@ -1,7 +1,7 @@
 use Rattle.frame_laws.proofs
 use proofs.Words.{arith, out}
 use proofs.Sources.{frame_at, is_entry, rises}
-use proofs.laws.sources_rise.Goals as goal
+use Rattle.frame_laws.proofs.laws.sources_rise.Goals as goal
 
 pub returns-clause-within : goal.returns-clause-within
 returns-clause-within c = λ h legal l n k q.

@@ -1,6 +1,5 @@
-use Rattle.frame_laws.proofs
-use proofs.ToldPlaces.{told_fall}
-use proofs.laws.told_in_order.Goals as goal
+use Rattle.frame_laws.proofs.ToldPlaces.{told_fall}
+use Rattle.frame_laws.proofs.laws.told_in_order.Goals as goal
 
 pub returns : goal.returns
 returns c = record

@@ -1,6 +1,5 @@
-use Rattle.frame_laws.proofs
-use proofs.Accepting.{is_up_there, scope_runs, shows}
-use proofs.laws.who_is_heard.Goals as goal
+use Rattle.frame_laws.proofs.Accepting.{is_up_there, scope_runs, shows}
+use Rattle.frame_laws.proofs.laws.who_is_heard.Goals as goal
 
 pub returns : goal.returns
 returns c = record { runs = scope_runs; up = is_up_there; visible = shows }

@@ -1,11 +1,10 @@
-use Rattle.group_monitors.proofs.Words.{◌∙◌, ◌++◌, ap, inl, inr, refl, Some, None, past, members}
-use Rattle.group_monitors.proofs.Words.{contents, history, listed, Target, updates, fetched}
-use Rattle.group_monitors.proofs.Words.{counted}
+use Rattle.group_monitors.proofs
+use proofs.Words.{ap, contents, counted, fetched, history, inl, inr, listed, members, None, past}
+use proofs.Words.{refl, Some, Target, updates, ◌++◌, ◌∙◌}
+use proofs.Differences.{contents_count}
+use proofs.FetchedAll.{counts, first_told, its, Laws, no_losses, of_group, of_scope, then, whole}
 use Rattle.policy_audit.specs.declared.event.Event.TheVariants as event
 use Rattle.policy_audit.specs.declared.reply.Reply.TheVariants as reply
-use Rattle.group_monitors.proofs.Differences.{contents_count}
-use Rattle.group_monitors.proofs.FetchedAll.{Laws, no_losses, its, then, whole, counts, first_told}
-use Rattle.group_monitors.proofs.FetchedAll.{of_group, of_scope}
 use Rattle.group_monitors.proofs.laws.fetches_tell_the_listing.Goals as goal
 
 -- the laws of the policy that are called

@@ -1,8 +1,8 @@
-use Rattle.group_monitors.proofs.Followed.{follows_start, follows_other, follows_group}
-use Rattle.group_monitors.proofs.Followed.{follows_scope, follows_removed, follows_moved}
-use Rattle.group_monitors.proofs.Followed.{follows_dropped, follows_cleared, follows_free}
-use Rattle.group_monitors.proofs.FromPolicy.{follows_answer, follows_told, follows_seen}
-use Rattle.group_monitors.proofs.FromPolicy.{follows_seen_later, follows_checked, follows_refused}
+use Rattle.group_monitors.proofs
+use proofs.Followed.{follows_cleared, follows_dropped, follows_free, follows_group, follows_moved}
+use proofs.Followed.{follows_other, follows_removed, follows_scope, follows_start}
+use proofs.FromPolicy.{follows_answer, follows_checked, follows_refused, follows_seen}
+use proofs.FromPolicy.{follows_seen_later, follows_told}
 use Rattle.group_monitors.proofs.laws.follows_the_policy.Goals as goal
 
 pub returns : goal.returns

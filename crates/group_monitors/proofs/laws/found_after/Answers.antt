@@ -1,4 +1,4 @@
-use Rattle.group_monitors.proofs.Found.{found_added, found_removed, found_moved, found_dropped}
+use Rattle.group_monitors.proofs.Found.{found_added, found_dropped, found_moved, found_removed}
 use Rattle.group_monitors.proofs.laws.found_after.Goals as goal
 
 pub returns : goal.returns

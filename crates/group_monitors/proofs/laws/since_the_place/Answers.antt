@@ -1,4 +1,4 @@
-use Rattle.group_monitors.proofs.Fetched.{since, answered, seen_all, stays_last, becomes_last}
+use Rattle.group_monitors.proofs.Fetched.{answered, becomes_last, seen_all, since, stays_last}
 use Rattle.group_monitors.proofs.laws.since_the_place.Goals as goal
 
 pub returns : goal.returns

@@ -1,6 +1,6 @@
-use Rattle.group_monitors.proofs.Words.{◌∙◌, ◌++◌, sym, ap, inl, inr, Some, history, updates_behind}
-use Rattle.group_monitors.proofs.Words.{counted}
-use Rattle.group_monitors.proofs.Differences.{told, counted_append, contents_count}
+use Rattle.group_monitors.proofs
+use proofs.Words.{ap, counted, history, inl, inr, Some, sym, updates_behind, ◌++◌, ◌∙◌}
+use proofs.Differences.{contents_count, counted_append, told}
 use Rattle.group_monitors.proofs.laws.tells_the_listing.Goals as goal
 
 pub returns-clause-listed : goal.returns-clause-listed

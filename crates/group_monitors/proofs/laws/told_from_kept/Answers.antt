@@ -1,5 +1,5 @@
-use Rattle.group_monitors.proofs.Reached.{reach_all, reach_only, reach_after, reach_found}
-use Rattle.group_monitors.proofs.Reached.{reach_start}
+use Rattle.group_monitors.proofs
+use proofs.Reached.{reach_after, reach_all, reach_found, reach_only, reach_start}
 use Rattle.group_monitors.proofs.laws.told_from_kept.Goals as goal
 
 pub returns : goal.returns

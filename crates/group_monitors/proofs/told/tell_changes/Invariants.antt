@@ -1,4 +1,4 @@
-use Rattle.group_monitors.proofs.Words.{◌≡◌, ◌++◌, take, updates_of, target}
+use Rattle.group_monitors.proofs.Words.{take, target, updates_of, ◌++◌, ◌≡◌}
 use Rattle.group_monitors.proofs.told.tell_changes.Given as goal
 
 -- the updates so far

@@ -1,5 +1,5 @@
-use Rattle.group_monitors.proofs.Words.{◌≡◌, ◌++◌, [], cond, take, flat_map, is_watched}
-use Rattle.group_monitors.proofs.Words.{group_updates}
+use Rattle.group_monitors.proofs
+use proofs.Words.{cond, flat_map, group_updates, is_watched, take, [], ◌++◌, ◌≡◌}
 use Rattle.group_monitors.proofs.told.tell_groups.Given as goal
 
 -- the updates so far

@@ -1,5 +1,6 @@
-use Rattle.group_monitors.proofs.Words.{arith, target}
-use Rattle.group_monitors.proofs.Unchanged.{changing_tell}
+use Rattle.group_monitors.proofs
+use proofs.Words.{arith, target}
+use proofs.Unchanged.{changing_tell}
 use Rattle.group_monitors.proofs.told.told_by.Goals as goal
 
 pub loop-entry-init : goal.loop-entry-init

@@ -1,4 +1,4 @@
-use Rattle.group_monitors.proofs.Words.{◌≡◌, ◌++◌, flat_map, updates_of, target}
+use Rattle.group_monitors.proofs.Words.{flat_map, target, updates_of, ◌++◌, ◌≡◌}
 use Rattle.group_monitors.proofs.told.told_by.Given as goal
 
 -- the updates so far, with those of the entries that are left

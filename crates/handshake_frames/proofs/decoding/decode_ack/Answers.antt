@@ -1,9 +1,11 @@
+use Rattle.handshake_frames.proofs
+use Rattle.handshake_frames.specs
 use Rattle.std.proofs.Common.{refl}
-use Rattle.handshake_frames.specs.Spelling.{SpellsAck}
-use Rattle.handshake_frames.specs.Reading.{ack_frame}
-use Rattle.handshake_frames.proofs.FoundFrames.{reads_as}
-use Rattle.handshake_frames.proofs.ReadingLemmas.{ack_frame-spelled, SpellsAck-read}
-use Rattle.handshake_frames.proofs.decoding.decode_ack.Goals as goal
+use specs.Spelling.{SpellsAck}
+use specs.Reading.{ack_frame}
+use proofs.FoundFrames.{reads_as}
+use proofs.ReadingLemmas.{ack_frame-spelled, SpellsAck-read}
+use proofs.decoding.decode_ack.Goals as goal
 
 pub returns-clause-value : goal.returns-clause-value
 returns-clause-value c =

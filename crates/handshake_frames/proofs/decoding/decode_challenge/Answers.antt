@@ -1,9 +1,11 @@
-use Rattle.handshake_frames.specs.Frame.{challenge_said}
-use Rattle.handshake_frames.specs.Spelling.{SpellsChallenge}
-use Rattle.handshake_frames.specs.Reading.{challenge_frame}
-use Rattle.handshake_frames.proofs.FoundFrames.{ok_or_has, reads_as}
-use Rattle.handshake_frames.proofs.ReadingLemmas.{challenge_frame-spelled, SpellsChallenge-read}
-use Rattle.handshake_frames.proofs.decoding.decode_challenge.Goals as goal
+use Rattle.handshake_frames.proofs
+use Rattle.handshake_frames.specs
+use specs.Frame.{challenge_said}
+use specs.Spelling.{SpellsChallenge}
+use specs.Reading.{challenge_frame}
+use proofs.FoundFrames.{ok_or_has, reads_as}
+use proofs.ReadingLemmas.{challenge_frame-spelled, SpellsChallenge-read}
+use proofs.decoding.decode_challenge.Goals as goal
 
 pub returns-clause-only : goal.returns-clause-only
 returns-clause-only c = λ challenge spelled. rw c.ok_or.ensures.value

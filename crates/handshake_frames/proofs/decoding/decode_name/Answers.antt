@@ -1,9 +1,11 @@
-use Rattle.handshake_frames.specs.Frame.{name_said}
-use Rattle.handshake_frames.specs.Spelling.{SpellsName}
-use Rattle.handshake_frames.specs.Reading.{name_frame}
-use Rattle.handshake_frames.proofs.FoundFrames.{ok_or_has, reads_as}
-use Rattle.handshake_frames.proofs.ReadingLemmas.{name_frame-spelled, SpellsName-read}
-use Rattle.handshake_frames.proofs.decoding.decode_name.Goals as goal
+use Rattle.handshake_frames.proofs
+use Rattle.handshake_frames.specs
+use specs.Frame.{name_said}
+use specs.Spelling.{SpellsName}
+use specs.Reading.{name_frame}
+use proofs.FoundFrames.{ok_or_has, reads_as}
+use proofs.ReadingLemmas.{name_frame-spelled, SpellsName-read}
+use proofs.decoding.decode_name.Goals as goal
 
 pub returns-clause-only : goal.returns-clause-only
 returns-clause-only c = λ name spelled. rw c.ok_or.ensures.value

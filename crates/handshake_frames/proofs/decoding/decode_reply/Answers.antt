@@ -1,9 +1,11 @@
+use Rattle.handshake_frames.proofs
+use Rattle.handshake_frames.specs
 use Rattle.std.proofs.Common.{refl}
-use Rattle.handshake_frames.specs.Spelling.{SpellsReply}
-use Rattle.handshake_frames.specs.Reading.{reply_frame}
-use Rattle.handshake_frames.proofs.FoundFrames.{reads_as}
-use Rattle.handshake_frames.proofs.ReadingLemmas.{reply_frame-spelled, SpellsReply-read}
-use Rattle.handshake_frames.proofs.decoding.decode_reply.Goals as goal
+use specs.Spelling.{SpellsReply}
+use specs.Reading.{reply_frame}
+use proofs.FoundFrames.{reads_as}
+use proofs.ReadingLemmas.{reply_frame-spelled, SpellsReply-read}
+use proofs.decoding.decode_reply.Goals as goal
 
 pub returns-clause-value : goal.returns-clause-value
 returns-clause-value c =

@@ -1,13 +1,15 @@
-use Rattle.std.proofs.Common.{◌≡◌, ◌∙◌, refl, rules, tests}
+use Rattle.handshake_frames.proofs
+use Rattle.handshake_frames.specs
+use Rattle.std.proofs.Common.{refl, rules, tests, ◌∙◌, ◌≡◌}
 use Rattle.std.specs.Str.{bytes_eq}
 use Rattle.std.proofs.lemmas.Iterator.{YieldsList-from_slice}
 use Rattle.std.proofs.lemmas.Iterator.Search.{find_from_yields_List}
-use Rattle.handshake_frames.specs.declared.frame.StatusWord.{StatusWord}
-use Rattle.handshake_frames.specs.Spelling.{status_bytes}
-use Rattle.handshake_frames.specs.Reading.{words, status_of}
-use Rattle.handshake_frames.proofs.FoundFrames.{reads_same}
-use Rattle.handshake_frames.proofs.ReadingLemmas.{status_of-spelled}
-use Rattle.handshake_frames.proofs.decoding.decode_status.Goals as goal
+use specs.declared.frame.StatusWord.{StatusWord}
+use specs.Spelling.{status_bytes}
+use specs.Reading.{status_of, words}
+use proofs.FoundFrames.{reads_same}
+use proofs.ReadingLemmas.{status_of-spelled}
+use proofs.decoding.decode_status.Goals as goal
 
 -- what is found is what the reader that computes gives
 word_found : (c : goal.After-ok_or) → c.copied.result ≡ status_of c.args.body.now

@@ -1,8 +1,9 @@
+use Rattle.handshake_frames.proofs
 use Rattle.std.proofs.Common.{subst, sym}
 use Rattle.std.specs.Int.{w16}
-use Rattle.handshake_frames.specs.Stream.{Splits, bodies_of}
-use Rattle.handshake_frames.proofs.StreamLemmas.{reads_16, goes_on, read_from_empty, one_reading}
-use Rattle.handshake_frames.proofs.laws.any_cut.Goals as goal
+use Rattle.handshake_frames.specs.Stream.{bodies_of, Splits}
+use proofs.StreamLemmas.{goes_on, one_reading, read_from_empty, reads_16}
+use proofs.laws.any_cut.Goals as goal
 
 pub returns-clause-step : goal.returns-clause-step
 returns-clause-step c = goes_on w16 reads_16

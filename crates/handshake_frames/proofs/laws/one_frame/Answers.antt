@@ -1,5 +1,6 @@
-use Rattle.handshake_frames.proofs.ReadingLemmas.{name_frame-spelled, challenge_frame-spelled}
-use Rattle.handshake_frames.proofs.laws.one_frame.Goals as goal
+use Rattle.handshake_frames.proofs
+use proofs.ReadingLemmas.{challenge_frame-spelled, name_frame-spelled}
+use proofs.laws.one_frame.Goals as goal
 
 pub returns-clause-name : goal.returns-clause-name
 returns-clause-name c =

@@ -1,9 +1,8 @@
-use Rattle.handshake_frames.proofs.ReadingLemmas.{name_frame-spelled, SpellsName-read}
-use Rattle.handshake_frames.proofs.ReadingLemmas.{status_of-spelled, SpellsStatus-read}
-use Rattle.handshake_frames.proofs.ReadingLemmas.{challenge_frame-spelled, SpellsChallenge-read}
-use Rattle.handshake_frames.proofs.ReadingLemmas.{reply_frame-spelled, SpellsReply-read}
-use Rattle.handshake_frames.proofs.ReadingLemmas.{ack_frame-spelled, SpellsAck-read}
-use Rattle.handshake_frames.proofs.laws.readers.Goals as goal
+use Rattle.handshake_frames.proofs
+use proofs.ReadingLemmas.{ack_frame-spelled, challenge_frame-spelled, name_frame-spelled}
+use proofs.ReadingLemmas.{reply_frame-spelled, SpellsAck-read, SpellsChallenge-read}
+use proofs.ReadingLemmas.{SpellsName-read, SpellsReply-read, SpellsStatus-read, status_of-spelled}
+use proofs.laws.readers.Goals as goal
 
 pub returns-clause-name : goal.returns-clause-name
 returns-clause-name c = λ body f. (SpellsName-read body f, name_frame-spelled body f)

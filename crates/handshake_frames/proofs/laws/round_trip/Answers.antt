@@ -1,7 +1,8 @@
+use Rattle.handshake_frames.proofs
 use Rattle.std.proofs.Common.{refl}
 use Rattle.handshake_frames.specs.Spelling.{version_bytes}
-use Rattle.handshake_frames.proofs.ReadingLemmas.{version_read}
-use Rattle.handshake_frames.proofs.laws.round_trip.Goals as goal
+use proofs.ReadingLemmas.{version_read}
+use proofs.laws.round_trip.Goals as goal
 
 pub returns-clause-name : goal.returns-clause-name
 returns-clause-name c = λ f fits. record {

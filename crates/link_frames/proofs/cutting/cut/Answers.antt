@@ -1,8 +1,9 @@
+use Rattle.link_frames.proofs
 use Rattle.dist_types.specs.Listing.{max_rows}
-use Rattle.link_frames.proofs.Words.{◌≡◌, ◌≤◌, ◌-◌, length, ap, ◌∙◌, arith, Row, All-push}
+use proofs.Words.{All-push, ap, arith, length, Row, ◌-◌, ◌∙◌, ◌≡◌, ◌≤◌}
 use Rattle.std.proofs.lemmas.List.{length-drop}
 use Rattle.link_frames.specs.Stream.{max_body}
-use Rattle.link_frames.proofs.PartLaws.{cut_one, rows_behind, rows_in_front}
+use proofs.PartLaws.{cut_one, rows_behind, rows_in_front}
 use Rattle.link_frames.proofs.cutting.cut.Goals as goal
 
 pub part_body-requires-clause-some : goal.part_body-requires-clause-some
@@ -26,5 +27,7 @@ loop-rest-preserved c =
       left = omega (arith, behind, held.left, held.from_one, c.loop-rest-test.true);
       some = rows_behind c.args.kind rest back (omega (arith, c.loop-rest-test.true))
           c.split_at.ensures.back;
-      short = rw c.in_ok-push.ensures.items (All-push (λ body. length body ≤ max_body) _ _ held.short c.in_ok-part_body.ensures.short);
+      short = rw c.in_ok-push.ensures.items
+          (All-push (λ body. length body ≤ max_body) _ _ held.short
+          c.in_ok-part_body.ensures.short);
     }

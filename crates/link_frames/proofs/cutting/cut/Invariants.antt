@@ -1,7 +1,8 @@
+use Rattle.link_frames.specs
 use Rattle.dist_types.specs.Listing.{max_rows}
-use Rattle.std.specs.Prelude.{◌≡◌, ℕ, ◌+◌, ◌-◌, ◌*◌, ◌<◌, ◌≤◌, ◌^◌, ◌++◌, map, length, All}
-use Rattle.link_frames.specs.Parts.{message2_bytes, parts_from, before_last, HasSome}
-use Rattle.link_frames.specs.Stream.{max_body}
+use Rattle.std.specs.Prelude.{All, length, map, ℕ, ◌*◌, ◌++◌, ◌+◌, ◌-◌, ◌<◌, ◌^◌, ◌≡◌, ◌≤◌}
+use specs.Parts.{before_last, HasSome, message2_bytes, parts_from}
+use specs.Stream.{max_body}
 use Rattle.link_frames.proofs.cutting.cut.Given as goal
 
 abbrev pub invariant-loop-rest : goal.invariant-loop-rest

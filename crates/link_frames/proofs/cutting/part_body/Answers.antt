@@ -1,6 +1,7 @@
-use Rattle.link_frames.proofs.Words.{◌≤◌, length, subst, sym, ◌∙◌}
-use Rattle.link_frames.specs.Stream.{max_body}
-use Rattle.link_frames.specs.declared.part.Message2.{Message2}
+use Rattle.link_frames.specs
+use Rattle.link_frames.proofs.Words.{length, subst, sym, ◌∙◌, ◌≤◌}
+use specs.Stream.{max_body}
+use specs.declared.part.Message2.{Message2}
 use Rattle.link_frames.proofs.cutting.part_body.Goals as goal
 
 pub returns-clause-short : goal.returns-clause-short
@@ -10,4 +11,5 @@ returns-clause-short c =
     (sym (c.in_ok-body.ensures
     ∙ rw c.new-bytes.ensures.items at c.in_ok-encode_part.ensures.ok))
     (c.fits_a_reader_in_parts.ensures
-    (Message2.Part a.kind a.scope.now a.number a.last a.rows.now) c.in_ok-encode_part.ensures.limits)
+    (Message2.Part a.kind a.scope.now a.number a.last a.rows.now)
+    c.in_ok-encode_part.ensures.limits)

@@ -1,6 +1,7 @@
-use Rattle.link_frames.proofs.Words.{◌≡◌, Err, sym, ap, ◌∙◌, drop, rules}
+use Rattle.link_frames.proofs
+use proofs.Words.{ap, drop, Err, rules, sym, ◌∙◌, ◌≡◌}
+use proofs.DecodingLemmas.{answers_as_read, spelled_scope}
 use Rattle.link_frames.specs.declared.fault.MessageFault.TheVariants as faults
-use Rattle.link_frames.proofs.DecodingLemmas.{spelled_scope, answers_as_read}
 use Rattle.link_frames.proofs.decoding.decode.Goals as goal
 
 pub returns-in_default-clause-value : goal.returns-in_default-clause-value

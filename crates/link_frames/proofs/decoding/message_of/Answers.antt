@@ -1,5 +1,6 @@
-use Rattle.link_frames.proofs.Words.{◌∷◌, ◌++◌, rules, text_bytes}
-use Rattle.link_frames.proofs.ReadingLemmas.{one_message}
+use Rattle.link_frames.proofs
+use proofs.Words.{rules, text_bytes, ◌++◌, ◌∷◌}
+use proofs.ReadingLemmas.{one_message}
 use Rattle.link_frames.proofs.decoding.message_of.Goals as goal
 
 pub returns-in_ok-rows_at-in-83-clause-only : goal.returns-in_ok-rows_at-in-83-clause-only

@@ -1,5 +1,6 @@
-use Rattle.link_frames.proofs.Words.{length, sym, ◌∙◌, arith, flat_map, row_bytes}
-use Rattle.link_frames.proofs.DecodingLemmas.{found_not_refused}
+use Rattle.link_frames.proofs
+use proofs.Words.{arith, flat_map, length, row_bytes, sym, ◌∙◌}
+use proofs.DecodingLemmas.{found_not_refused}
 use Rattle.link_frames.proofs.decoding.rows_at.Goals as goal
 
 pub returns-in_err-count-clause-only : goal.returns-in_err-count-clause-only

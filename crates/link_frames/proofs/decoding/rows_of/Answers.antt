@@ -1,9 +1,10 @@
-use Rattle.link_frames.proofs.Words.{◌≡◌, ℕ, ◌∷◌, ◌++◌, ◌+◌, ◌==◌, true, false, List, [], length}
-use Rattle.link_frames.proofs.Words.{drop, sym, ap, ◌∙◌, arith, rules, append_assoc, append-nil}
-use Rattle.link_frames.proofs.Words.{flat_map, Decides-eqb, drop_all, nil_from_length, length_push}
-use Rattle.link_frames.proofs.Words.{flat_map_more, All-same, All-push, Row, row_bytes, IsRow}
+use Rattle.link_frames.proofs
+use proofs.Words.{All-push, All-same, ap, append-nil, append_assoc, arith, Decides-eqb, drop}
+use proofs.Words.{drop_all, false, flat_map, flat_map_more, IsRow, length, length_push, List}
+use proofs.Words.{nil_from_length, Row, row_bytes, rules, sym, true, ℕ, [], ◌++◌, ◌+◌, ◌==◌, ◌∙◌}
+use proofs.Words.{◌∷◌, ◌≡◌}
+use proofs.ReadingLemmas.{next_row, rows_left, same_rows}
 use Rattle.link_frames.specs.declared.fault.MessageFault.TheVariants as faults
-use Rattle.link_frames.proofs.ReadingLemmas.{rows_left, next_row, same_rows}
 use Rattle.link_frames.proofs.decoding.rows_of.Goals as goal
 
 pub returns-in_err-row-clause-only : goal.returns-in_err-row-clause-only

@@ -1,4 +1,4 @@
-use Rattle.link_frames.proofs.Words.{◌≡◌, ◌++◌, length, All, flat_map, row_bytes, IsRow}
+use Rattle.link_frames.proofs.Words.{All, flat_map, IsRow, length, row_bytes, ◌++◌, ◌≡◌}
 use Rattle.link_frames.proofs.decoding.rows_of.Given as goal
 
 abbrev pub invariant-loop : goal.invariant-loop

@@ -1,7 +1,7 @@
-use Rattle.link_frames.proofs.Words.{◌≡◌, ℕ, ◌+◌, List, [], ◌∷◌, ◌++◌, take, length, ap, sym, ◌∙◌}
-use Rattle.link_frames.proofs.Words.{append_assoc, append-nil, rules, w32, to_be_bytes, flat_map}
-use Rattle.link_frames.proofs.Words.{flat_map-append, take_more, All-same, All-push, Row, row_bytes}
-use Rattle.link_frames.proofs.Words.{IsRow}
+use Rattle.link_frames.proofs
+use proofs.Words.{All-push, All-same, ap, append-nil, append_assoc, flat_map, flat_map-append}
+use proofs.Words.{IsRow, length, List, Row, row_bytes, rules, sym, take, take_more, to_be_bytes}
+use proofs.Words.{w32, ℕ, [], ◌++◌, ◌+◌, ◌∙◌, ◌∷◌, ◌≡◌}
 use Rattle.link_frames.proofs.encoding.put_rows.Goals as goal
 
 -- one row more behind the rows that were put

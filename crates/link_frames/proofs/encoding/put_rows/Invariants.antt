@@ -1,5 +1,5 @@
-use Rattle.link_frames.proofs.Words.{◌≡◌, ◌++◌, length, take, All, w32, to_be_bytes, flat_map}
-use Rattle.link_frames.proofs.Words.{row_bytes, IsRow}
+use Rattle.link_frames.proofs
+use proofs.Words.{All, flat_map, IsRow, length, row_bytes, take, to_be_bytes, w32, ◌++◌, ◌≡◌}
 use Rattle.link_frames.proofs.encoding.put_rows.Given as goal
 
 abbrev pub invariant-loop-row : goal.invariant-loop-row

@@ -1,6 +1,7 @@
-use Rattle.link_frames.proofs.Words.{◌++◌, sym, ap, ◌∙◌, w16, counted, text_bytes}
-use Rattle.link_frames.proofs.DecodingLemmas.{found_not_refused, found_so, read_so}
-use Rattle.link_frames.proofs.ReadingLemmas.{row_parts}
+use Rattle.link_frames.proofs
+use proofs.Words.{ap, counted, sym, text_bytes, w16, ◌++◌, ◌∙◌}
+use proofs.DecodingLemmas.{found_not_refused, found_so, read_so}
+use proofs.ReadingLemmas.{row_parts}
 use Rattle.link_frames.proofs.fields.row_at.Goals as goal
 
 pub returns-in_err-creation-clause-only : goal.returns-in_err-creation-clause-only

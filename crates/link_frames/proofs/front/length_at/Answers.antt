@@ -1,6 +1,7 @@
-use Rattle.link_frames.proofs.Words.{suc, ◌≡◌, ◌+◌, ◌++◌, length, ap, ◌∙◌, arith, w32, to_be_bytes}
-use Rattle.link_frames.proofs.Words.{ticks, length-append}
-use Rattle.link_frames.proofs.LinkLemmas.{ticks_more}
+use Rattle.link_frames.proofs
+use proofs.Words.{ap, arith, length, length-append, suc, ticks, to_be_bytes, w32, ◌++◌, ◌+◌, ◌∙◌}
+use proofs.Words.{◌≡◌}
+use proofs.LinkLemmas.{ticks_more}
 use Rattle.link_frames.proofs.front.length_at.Goals.{In-Some}
 use Rattle.link_frames.proofs.front.length_at.Goals as goal
 

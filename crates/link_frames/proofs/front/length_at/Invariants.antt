@@ -1,4 +1,4 @@
-use Rattle.link_frames.proofs.Words.{◌≡◌, ◌<◌, ◌≤◌, ◌+◌, ◌++◌, ℕ, length, ticks}
+use Rattle.link_frames.proofs.Words.{length, ticks, ℕ, ◌++◌, ◌+◌, ◌<◌, ◌≡◌, ◌≤◌}
 use Rattle.link_frames.proofs.front.length_at.Given as goal
 
 abbrev pub invariant-loop-len : goal.invariant-loop-len

@@ -1,5 +1,6 @@
-use Rattle.link_frames.proofs.Words.{sym, subst, bodies_of, SplitsLink}
-use Rattle.link_frames.proofs.LinkLemmas.{read_from_empty, one_link_reading}
+use Rattle.link_frames.proofs
+use proofs.Words.{bodies_of, SplitsLink, subst, sym}
+use proofs.LinkLemmas.{one_link_reading, read_from_empty}
 use Rattle.link_frames.proofs.laws.any_cut.Goals as goal
 
 pub returns-clause-only : goal.returns-clause-only

@@ -1,5 +1,6 @@
-use Rattle.link_frames.proofs.Words.{inl, inr, subst, stream_of, bodies_of, SplitsLink}
-use Rattle.link_frames.proofs.LinkLemmas.{fed_not_too_long, read_from_empty, too_long_for_all}
+use Rattle.link_frames.proofs
+use proofs.Words.{bodies_of, inl, inr, SplitsLink, stream_of, subst}
+use proofs.LinkLemmas.{fed_not_too_long, read_from_empty, too_long_for_all}
 use Rattle.link_frames.proofs.laws.too_long.Goals as goal
 
 pub returns-clause-only : goal.returns-clause-only

@@ -1,6 +1,7 @@
-use Rattle.link_frames.proofs.Words.{◌≡◌, Err, sym, ap, ◌∙◌, drop, rules}
+use Rattle.link_frames.proofs
+use proofs.Words.{ap, drop, Err, rules, sym, ◌∙◌, ◌≡◌}
+use proofs.PartLemmas.{answers_as_read2, spelled_scope2}
 use Rattle.link_frames.specs.declared.fault.MessageFault.TheVariants as faults
-use Rattle.link_frames.proofs.PartLemmas.{spelled_scope2, answers_as_read2}
 use Rattle.link_frames.proofs.part_decoding.decode_v2.Goals as goal
 
 pub returns-in_default-clause-value : goal.returns-in_default-clause-value

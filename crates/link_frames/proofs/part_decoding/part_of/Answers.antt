@@ -1,8 +1,10 @@
-use Rattle.link_frames.proofs.Words.{◌≡◌, ◌∷◌, ◌++◌, sym, ◌∙◌, rules, rows_bytes, text_bytes}
-use Rattle.link_frames.specs.Parts.{kind_byte}
-use Rattle.link_frames.specs.declared.fault.MessageFault.TheVariants as faults
-use Rattle.link_frames.proofs.DecodingLemmas.{found_not_refused, found_so}
-use Rattle.link_frames.proofs.PartLemmas.{part_behind, one_message2}
+use Rattle.link_frames.proofs
+use Rattle.link_frames.specs
+use proofs.Words.{rows_bytes, rules, sym, text_bytes, ◌++◌, ◌∙◌, ◌∷◌, ◌≡◌}
+use specs.Parts.{kind_byte}
+use proofs.DecodingLemmas.{found_not_refused, found_so}
+use proofs.PartLemmas.{one_message2, part_behind}
+use specs.declared.fault.MessageFault.TheVariants as faults
 use Rattle.link_frames.proofs.part_decoding.part_of.Goals as goal
 
 pub returns-in_err-number-clause-only : goal.returns-in_err-number-clause-only

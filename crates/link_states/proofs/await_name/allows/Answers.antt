@@ -1,7 +1,8 @@
-use Rattle.std.proofs.Common.{◌↔◌, IsTrue, subst}
+use Rattle.link_states.proofs
+use Rattle.std.proofs.Common.{IsTrue, subst, ◌↔◌}
 use Rattle.admission_rules.specs.Admission.{IsAllowed}
-use Rattle.link_states.proofs.AllowedLemmas.{allowed_is}
-use Rattle.link_states.proofs.await_name.allows.Goals as goal
+use proofs.AllowedLemmas.{allowed_is}
+use proofs.await_name.allows.Goals as goal
 
 pub returns : goal.returns
 returns c =

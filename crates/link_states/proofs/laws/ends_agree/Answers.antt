@@ -1,6 +1,6 @@
-use Rattle.link_states.proofs.MeetingLemmas.{name_passes, challenge_passes, reply_passes}
-use Rattle.link_states.proofs.MeetingLemmas.{ack_passes, same_version}
-use Rattle.link_states.proofs.laws.ends_agree.Goals as goal
+use Rattle.link_states.proofs
+use proofs.MeetingLemmas.{ack_passes, challenge_passes, name_passes, reply_passes, same_version}
+use proofs.laws.ends_agree.Goals as goal
 
 pub returns-clause-name : goal.returns-clause-name
 returns-clause-name c = name_passes

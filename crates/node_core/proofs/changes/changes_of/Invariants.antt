@@ -1,4 +1,4 @@
-use Rattle.node_core.proofs.Words.{take, ArePartings, count_but}
+use Rattle.node_core.proofs.Words.{ArePartings, count_but, take}
 use Rattle.node_core.proofs.changes.changes_of.Given as goal
 
 -- the changes of the scopes so far

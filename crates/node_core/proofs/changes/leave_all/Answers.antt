@@ -1,5 +1,6 @@
-use Rattle.node_core.proofs.Words.{arith, refl, HasParted}
-use Rattle.node_core.proofs.Zipped.{zipped}
+use Rattle.node_core.proofs
+use proofs.Words.{arith, HasParted, refl}
+use proofs.Zipped.{zipped}
 use Rattle.node_core.proofs.changes.leave_all.Goals as goal
 
 pub loop-running-preserved : goal.loop-running-preserved

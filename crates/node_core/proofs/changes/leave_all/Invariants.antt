@@ -1,5 +1,6 @@
-use Rattle.node_core.proofs.Words.{HasParted}
-use Rattle.node_core.proofs.Zipped.{SoFar}
+use Rattle.node_core.proofs
+use proofs.Words.{HasParted}
+use proofs.Zipped.{SoFar}
 use Rattle.node_core.proofs.changes.leave_all.Given as goal
 
 -- the rows have left the scopes so far

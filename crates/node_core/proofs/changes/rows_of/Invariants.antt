@@ -1,4 +1,4 @@
-use Rattle.node_core.proofs.Words.{◌≡◌, row, take, map}
+use Rattle.node_core.proofs.Words.{map, row, take, ◌≡◌}
 use Rattle.node_core.proofs.changes.rows_of.Given as goal
 
 -- the rows so far

@@ -1,8 +1,9 @@
-use Rattle.node_core.proofs.Words.{ap, length, ◌∙◌, ◌≤◌, wide_frames}
+use Rattle.node_core.proofs
+use proofs.Words.{ap, length, wide_frames, ◌∙◌, ◌≤◌}
 use Rattle.dist_types.proofs.Sorts.{all_from}
 use Rattle.link_frames.specs.Parts.{message2_bytes, parts}
 use Rattle.link_frames.specs.Stream.{max_body}
-use Rattle.node_core.proofs.Told.{map_map, wide_body}
+use proofs.Told.{map_map, wide_body}
 use Rattle.node_core.proofs.frames.parts_of.Goals as goal
 
 pub wide_frames-requires : goal.wide_frames-requires

@@ -1,5 +1,6 @@
-use Rattle.node_core.proofs.Words.{◌≡◌, ◌++◌, ◌+◌, ◌≤◌, AllByRecursion, length, into_iter_items}
-use Rattle.node_core.proofs.Words.{vec_capacity, vec_len, wide_frames}
+use Rattle.node_core.proofs
+use proofs.Words.{AllByRecursion, into_iter_items, length, vec_capacity, vec_len, wide_frames, ◌++◌}
+use proofs.Words.{◌+◌, ◌≡◌, ◌≤◌}
 use Rattle.link_frames.specs.Stream.{max_body}
 use Rattle.node_core.proofs.frames.wide_frames.Given as goal
 

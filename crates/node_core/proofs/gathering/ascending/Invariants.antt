@@ -1,4 +1,4 @@
-use Rattle.node_core.proofs.Words.{◌≡◌, take}
+use Rattle.node_core.proofs.Words.{take, ◌≡◌}
 use Rattle.node_core.proofs.gathering.ascending.Given as goal
 
 -- those so far

@@ -1,7 +1,8 @@
-use Rattle.node_core.proofs.Words.{arith, length, refl, rules, ◌≡◌}
+use Rattle.node_core.proofs
+use proofs.Words.{arith, length, refl, rules, ◌≡◌}
 use Rattle.std.proofs.Math.Seq.{take-append_seam}
-use Rattle.node_core.proofs.MergedGroups.{are_some, sorted_gathered, HasSorted}
-use Rattle.node_core.proofs.Zipped.{zipped, all_zipped}
+use proofs.MergedGroups.{are_some, HasSorted, sorted_gathered}
+use proofs.Zipped.{all_zipped, zipped}
 use Rattle.node_core.proofs.gathering.gathered.Goals as goal
 
 pub merged-requires : goal.merged-requires

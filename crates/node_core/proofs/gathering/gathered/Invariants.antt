@@ -1,5 +1,6 @@
-use Rattle.node_core.proofs.MergedGroups.{HasSorted}
-use Rattle.node_core.proofs.Zipped.{SoFar}
+use Rattle.node_core.proofs
+use proofs.MergedGroups.{HasSorted}
+use proofs.Zipped.{SoFar}
 use Rattle.node_core.proofs.gathering.gathered.Given as goal
 
 -- the processes of the changes so far are in their order

@@ -1,4 +1,4 @@
-use Rattle.node_core.proofs.Words.{◌≡◌, take}
+use Rattle.node_core.proofs.Words.{take, ◌≡◌}
 use Rattle.policy_audit.specs.Changes.{groups_in}
 use Rattle.node_core.proofs.gathering.groups_in.Given as goal
 

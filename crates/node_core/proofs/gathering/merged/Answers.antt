@@ -1,7 +1,6 @@
-use Rattle.node_core.proofs.Words.{ap, append_assoc, arith, into_iter_items, rules, sym}
-use Rattle.node_core.proofs.Words.{[], ◌++◌, ◌∙◌, ◌∷◌, ◌≡◌}
-use Rattle.node_core.proofs.MergedGroups.{all_merged, merged_permuted, merges, some_permuted}
-use Rattle.node_core.proofs.MergedGroups.{sorted_by_group}
+use Rattle.node_core.proofs
+use proofs.Words.{ap, append_assoc, arith, into_iter_items, rules, sym, [], ◌++◌, ◌∙◌, ◌∷◌, ◌≡◌}
+use proofs.MergedGroups.{all_merged, merged_permuted, merges, some_permuted, sorted_by_group}
 use Rattle.node_core.proofs.gathering.merged.Goals as goal
 
 pub loop-change-preserved : goal.loop-change-preserved

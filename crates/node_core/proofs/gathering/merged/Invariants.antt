@@ -1,4 +1,4 @@
-use Rattle.node_core.proofs.Words.{◌≡◌, ◌++◌, into_iter_items}
+use Rattle.node_core.proofs.Words.{into_iter_items, ◌++◌, ◌≡◌}
 use Rattle.node_core.specs.Gathering.{AreMergedSoFar}
 use Rattle.node_core.proofs.gathering.merged.Given as goal
 

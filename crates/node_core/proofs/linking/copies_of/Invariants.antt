@@ -1,4 +1,4 @@
-use Rattle.node_core.proofs.Words.{◌≡◌, take}
+use Rattle.node_core.proofs.Words.{take, ◌≡◌}
 use Rattle.node_core.proofs.linking.copies_of.Given as goal
 
 -- the copies so far

@@ -1,4 +1,4 @@
-use Rattle.node_core.proofs.Words.{◌≡◌, ◌++◌, broken_off, take, drop, map}
+use Rattle.node_core.proofs.Words.{broken_off, drop, map, take, ◌++◌, ◌≡◌}
 use Rattle.node_core.proofs.links.break_off.Given as goal
 
 -- nothing is kept of those so far

@@ -1,11 +1,11 @@
-use Rattle.node_core.proofs.Words.{ap, arith, get_or_default, length, sym, [], ◌<◌, ◌∙◌}
-use Rattle.node_core.proofs.Words.{KeptLink, prepared_for, subst, takes_parts, unroomed, ◌++◌}
-use Rattle.node_core.proofs.Words.{with_prepared, with_room}
+use Rattle.node_core.proofs
+use proofs.Words.{ap, arith, get_or_default, KeptLink, length, prepared_for, subst, sym}
+use proofs.Words.{takes_parts, unroomed, with_prepared, with_room, [], ◌++◌, ◌<◌, ◌∙◌}
 use Rattle.std.proofs.Math.Seq.{map-set_same}
-use Rattle.std.proofs.Common.{Result, Ok, Err, OnErr, OnOk, true, false, ◌≡◌}
+use Rattle.std.proofs.Common.{Err, false, Ok, OnErr, OnOk, Result, true, ◌≡◌}
 use Rattle.std.specs.Result.{is_err}
-use Rattle.node_core.proofs.Zipped.{zipped, zipped_still, zipped_long, all_zipped, zipped_map}
-use Rattle.node_core.proofs.Told.{Prepared, all_dropped, both, one_prepared, unprepared}
+use proofs.Zipped.{all_zipped, zipped, zipped_long, zipped_map, zipped_still}
+use proofs.Told.{all_dropped, both, one_prepared, Prepared, unprepared}
 use Rattle.node_core.proofs.links.prepare_frames.Goals as goal
 
 err_is : {T E P : Type 0} (r : Result T E) → is_err r ≡ true → OnErr r P → P
@@ -34,7 +34,8 @@ returns-then-is_err-clause-forgot c =
     let frames = both c.args.spelled.now.whole.items c.args.spelled.now.parts.items in
     let old = all_dropped numbers frames c.loop-place.place c.args.links.now.items
     c.loop-place.links.items c.loop-place.invariant in
-    let failed = err_is c.prepare-prepared.result (sym c.if-is_err.ensures.value) c.prepare-prepared.ensures.same in
+    let failed = err_is c.prepare-prepared.result (sym c.if-is_err.ensures.value)
+    c.prepare-prepared.ensures.same in
     let same = ap (λ x. unroomed (with_prepared x [])) failed
     ∙ ap (λ x. unroomed (with_prepared x [])) c.index_mut.ensures.value in
     c.forget.ensures
@@ -53,11 +54,13 @@ loop-place-preserved c =
     let long = zipped_long (Prepared numbers frames) place c.args.links.now.items items
     c.loop-place.invariant in
     let within : place < length items = omega (arith, long) in
-    let made = err_not c.prepare-prepared.result (sym c.if-is_err.ensures.value) c.prepare-prepared.ensures.ok in
+    let made = err_not c.prepare-prepared.result (sym c.if-is_err.ensures.value)
+    c.prepare-prepared.ensures.ok in
     let first = c.index.ensures
     ∙ get_or_default items place c.index.result.now x within ∙ sym c.index_mut.ensures.value in
     let second = c.index-in-loop-place.ensures
-    ∙ get_or_default items place c.index-in-loop-place.result.now x within ∙ sym c.index_mut.ensures.value in
+    ∙ get_or_default items place c.index-in-loop-place.result.now x within
+    ∙ sym c.index_mut.ensures.value in
     let these = c.frames.ensures
     ∙ ap frames (c.takes_parts-parted.ensures
     ∙ ap (λ (z : KeptLink). takes_parts z.state) second) in

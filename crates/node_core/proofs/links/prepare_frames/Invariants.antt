@@ -1,5 +1,6 @@
-use Rattle.node_core.proofs.Zipped.{SoFar}
-use Rattle.node_core.proofs.Told.{Prepared, both}
+use Rattle.node_core.proofs
+use proofs.Zipped.{SoFar}
+use proofs.Told.{both, Prepared}
 use Rattle.node_core.proofs.links.prepare_frames.Given as goal
 
 -- the frames are prepared for those so far

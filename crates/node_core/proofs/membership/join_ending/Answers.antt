@@ -1,8 +1,8 @@
-use Rattle.node_core.proofs.Words.{subst, sym, ◌∙◌, []}
+use Rattle.node_core.proofs
+use proofs.Words.{subst, sym, [], ◌∙◌}
 use Rattle.dist_types.specs.Difference.{change_unless_empty}
-use Rattle.node_core.proofs.AllLost.{none_ends}
-use Rattle.node_core.proofs.OwnChanges.{AreAllProper, ending_weaker, ok_weaker, one_proper}
-use Rattle.node_core.proofs.OwnChanges.{own_join}
+use proofs.AllLost.{none_ends}
+use proofs.OwnChanges.{AreAllProper, ending_weaker, ok_weaker, one_proper, own_join}
 use Rattle.node_core.proofs.membership.join_ending.Goals as goal
 
 pub returns-then-not-is_any_overfull : goal.returns-then-not-is_any_overfull

@@ -1,5 +1,6 @@
-use Rattle.node_core.proofs.Words.{refl, subst, IsDifference, count_of}
-use Rattle.node_core.proofs.Said.{join_fault}
+use Rattle.node_core.proofs
+use proofs.Words.{count_of, IsDifference, refl, subst}
+use proofs.Said.{join_fault}
 use Rattle.node_core.proofs.membership.join_one.Goals as goal
 
 pub returns-in-Ok-clause-joined : goal.returns-in-Ok-clause-joined
@@ -19,7 +20,8 @@ returns-in-Ok-clause-joined c = record {
 
 pub returns-in-Err-clause-refused : goal.returns-in-Err-clause-refused
 returns-in-Err-clause-refused c = rw c.fault_of.ensures
-    (join_fault c.args.running.now.table c.args.pids.now c.args.limit c.in-Err.fault c.in-Err.ensures.refused)
+    (join_fault c.args.running.now.table c.args.pids.now c.args.limit c.in-Err.fault
+    c.in-Err.ensures.refused)
 
 pub returns-in-Err-clause-same : goal.returns-in-Err-clause-same
 returns-in-Err-clause-same c =

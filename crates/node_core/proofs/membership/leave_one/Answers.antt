@@ -1,5 +1,6 @@
-use Rattle.node_core.proofs.Words.{refl, subst, IsDifference, count_of}
-use Rattle.node_core.proofs.Said.{leave_fault}
+use Rattle.node_core.proofs
+use proofs.Words.{count_of, IsDifference, refl, subst}
+use proofs.Said.{leave_fault}
 use Rattle.node_core.proofs.membership.leave_one.Goals as goal
 
 pub returns-in-Ok-clause-left : goal.returns-in-Ok-clause-left

@@ -1,7 +1,8 @@
-use Rattle.node_core.proofs.Words.{◌∙◌}
-use Rattle.node_core.proofs.Said.{joined_rows_are}
+use Rattle.node_core.proofs
+use proofs.Words.{◌∙◌}
+use proofs.Said.{joined_rows_are}
 use Rattle.std.proofs.lemmas.Result.{on_err_weaker}
-use Rattle.node_core.proofs.Told.{forgotten}
+use proofs.Told.{forgotten}
 use Rattle.node_core.proofs.membership.tell_join.Goals as goal
 
 pub returns-clause-same : goal.returns-clause-same
@@ -10,5 +11,6 @@ returns-clause-same c = on_err_weaker c.tell-told.result
 
 pub returns-clause-told : goal.returns-clause-told
 returns-clause-told c =
-    let rows = c.of-rows.ensures ∙ joined_rows_are c.args.group.now c.args.pids.now c.in_ok-rows_of.field-0.items c.in_ok-rows_of.ensures.rows in
+    let rows = c.of-rows.ensures ∙ joined_rows_are c.args.group.now c.args.pids.now
+    c.in_ok-rows_of.field-0.items c.in_ok-rows_of.ensures.rows in
     rw (c.deref.ensures.value, c.in_ok-scope.ensures, rows) at c.tell-told.ensures.ok

@@ -1,4 +1,4 @@
-use Rattle.node_core.proofs.Words.{ap, cond, is_number, rules, Some, sym, true, Rule, ◌∙◌, ◌≡◌}
+use Rattle.node_core.proofs.Words.{ap, cond, is_number, Rule, rules, Some, sym, true, ◌∙◌, ◌≡◌}
 use Rattle.node_core.specs.Messages.{row_refusal}
 use Rattle.node_core.proofs.messaging.further_refusal.Goals as goal
 

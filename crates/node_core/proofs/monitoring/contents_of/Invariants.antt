@@ -1,4 +1,6 @@
-use Rattle.node_core.proofs.Words.{◌++◌, AllByRecursion, into_iter_items, IsPidListing, IsGroupListing, count_of, map}
+use Rattle.node_core.proofs
+use proofs.Words.{AllByRecursion, count_of, into_iter_items, IsGroupListing, IsPidListing, map}
+use proofs.Words.{◌++◌}
 use Rattle.node_core.proofs.monitoring.contents_of.Given as goal
 
 -- the groups so far and those to come are all, and those so far have their members
@@ -6,6 +8,8 @@ abbrev pub invariant-loop-group : goal.invariant-loop-group
 invariant-loop-group l = record {
   able : (goal.iterator-loop-group).can_next l.group-iterator;
   finite : (goal.iterator-loop-group).is_finite l.group-iterator;
-  all : IsGroupListing (count_of l.running.table) (map (λ c. c.group) l.contents.items ++ into_iter_items l.group-iterator);
-  each : AllByRecursion (λ c. IsPidListing (count_of l.running.table c.group) c.pids) l.contents.items;
+  all : IsGroupListing (count_of l.running.table)
+      (map (λ c. c.group) l.contents.items ++ into_iter_items l.group-iterator);
+  each : AllByRecursion (λ c. IsPidListing (count_of l.running.table c.group) c.pids)
+      l.contents.items;
 }

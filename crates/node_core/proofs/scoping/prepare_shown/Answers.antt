@@ -1,6 +1,7 @@
-use Rattle.node_core.proofs.Words.{◌∙◌}
+use Rattle.node_core.proofs
+use proofs.Words.{◌∙◌}
 use Rattle.std.proofs.lemmas.Result.{on_err_weaker}
-use Rattle.node_core.proofs.Told.{forgotten}
+use proofs.Told.{forgotten}
 use Rattle.node_core.proofs.scoping.prepare_shown.Goals as goal
 
 pub returns-clause-same : goal.returns-clause-same

@@ -1,5 +1,6 @@
-use Rattle.node_core.proofs.Words.{sym, ◌∙◌}
-use Rattle.node_core.proofs.AllLost.{none_ends}
+use Rattle.node_core.proofs
+use proofs.Words.{sym, ◌∙◌}
+use proofs.AllLost.{none_ends}
 use Rattle.node_core.proofs.slow.ending_with.Goals as goal
 
 pub returns-then-not-is_any_overfull : goal.returns-then-not-is_any_overfull

@@ -1,4 +1,4 @@
-use Rattle.node_core.proofs.Words.{◌≡◌, take}
+use Rattle.node_core.proofs.Words.{take, ◌≡◌}
 use Rattle.node_core.specs.Ending.{ends_of}
 use Rattle.node_core.proofs.slow.ends_of.Given as goal
 

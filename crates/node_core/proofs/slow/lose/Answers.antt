@@ -1,7 +1,8 @@
-use Rattle.node_core.proofs.Words.{append-nil, sym, [], ◌∙◌}
+use Rattle.node_core.proofs
+use proofs.Words.{append-nil, sym, [], ◌∙◌}
 use Rattle.std.proofs.lemmas.Result.{on_ok_weaker}
 use Rattle.node_core.specs.Ending.{is_stopped}
-use Rattle.node_core.proofs.AllLost.{all_lost, none_lost}
+use proofs.AllLost.{all_lost, none_lost}
 use Rattle.node_core.proofs.slow.lose.Goals as goal
 
 pub returns-then-is_stopped : goal.returns-then-is_stopped

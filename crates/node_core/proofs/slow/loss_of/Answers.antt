@@ -1,6 +1,7 @@
-use Rattle.node_core.proofs.Words.{ap, filter, not, ◌++◌, ◌∙◌}
+use Rattle.node_core.proofs
+use proofs.Words.{ap, filter, not, ◌++◌, ◌∙◌}
 use Rattle.node_core.specs.Ending.{is_stopped}
-use Rattle.node_core.proofs.AllLost.{loss_proper}
+use proofs.AllLost.{loss_proper}
 use Rattle.node_core.proofs.slow.loss_of.Goals as goal
 
 pub gathered-requires : goal.gathered-requires

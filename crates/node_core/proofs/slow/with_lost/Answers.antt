@@ -1,10 +1,11 @@
-use Rattle.node_core.proofs.Words.{Change, append-nil, arith, cond, is_empty, not, refl, sym, take}
-use Rattle.node_core.proofs.Words.{take_more, vec_len, [], ◌++◌, ◌∙◌, ◌∷◌, ◌≡◌}
+use Rattle.node_core.proofs
+use proofs.Words.{append-nil, arith, Change, cond, is_empty, not, refl, sym, take, take_more}
+use proofs.Words.{vec_len, [], ◌++◌, ◌∙◌, ◌∷◌, ◌≡◌}
 use Rattle.node_core.specs.Ending.{is_stopped}
-use Rattle.node_core.proofs.Partings.{none_by}
-use Rattle.node_core.proofs.AllLost.{one_loss}
-use Rattle.node_core.proofs.slow.with_lost.Goals.{then-not-is_empty+in_ok-try_clone+in_ok-push}
+use proofs.Partings.{none_by}
+use proofs.AllLost.{one_loss}
 use Rattle.node_core.proofs.slow.with_lost.Goals.{else-not-is_empty}
+use Rattle.node_core.proofs.slow.with_lost.Goals.{then-not-is_empty+in_ok-try_clone+in_ok-push}
 use Rattle.node_core.proofs.slow.with_lost.Goals as goal
 
 pub loop-running-preserved : goal.loop-running-preserved

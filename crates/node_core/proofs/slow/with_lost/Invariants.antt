@@ -1,5 +1,5 @@
 use Rattle.node_core.proofs.Words.{take}
-use Rattle.node_core.specs.Ending.{is_stopped, AreWithLost}
+use Rattle.node_core.specs.Ending.{AreWithLost, is_stopped}
 use Rattle.node_core.proofs.slow.with_lost.Given as goal
 
 -- the changes of the scopes so far

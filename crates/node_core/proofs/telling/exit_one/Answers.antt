@@ -1,14 +1,22 @@
-use Rattle.node_core.proofs.Words.{ap, arith, eqb-true, sym, vec_len, ◌∙◌, said_in, exit_frames, rows_left, said_to, Message}
+use Rattle.node_core.proofs
+use proofs.Words.{ap, arith, eqb-true, exit_frames, Message, rows_left, said_in, said_to, sym}
+use proofs.Words.{vec_len, ◌∙◌}
 use Rattle.std.proofs.lemmas.List.{nil_from_length}
-use Rattle.node_core.proofs.RowsGone.{few_left}
+use proofs.RowsGone.{few_left}
 use Rattle.scope_core.proofs.Outcomes.{on_err}
-use Rattle.node_core.proofs.Told.{forgot_bare, prepared_among, prepared_none}
-use Rattle.node_core.proofs.telling.exit_one.Goals.{then-not-is_empty+in_ok-rows_left+in_ok-try_clone+in_ok-told}
+use proofs.Told.{forgot_bare, prepared_among, prepared_none}
 use Rattle.node_core.proofs.telling.exit_one.Goals.{else-not-is_empty}
+use Rattle.node_core.proofs.telling.exit_one.Goals.{then-not-is_empty+in_ok-rows_left+in_ok-try_clone+in_ok-told}
 use Rattle.node_core.proofs.telling.exit_one.Goals as goal
 
 pub tell-told-requires : goal.tell-told-requires
-tell-told-requires c = rw (c.deref-then-not-is_empty.ensures.value, c.of-rows.ensures, c.in_ok-rows_left.ensures, c.deref.ensures.value)
+tell-told-requires c =
+    rw (
+      c.deref-then-not-is_empty.ensures.value,
+      c.of-rows.ensures,
+      c.in_ok-rows_left.ensures,
+      c.deref.ensures.value,
+    )
     (few_left c.args.running.now.table c.args.pid.now c.requires.own c.in_ok-groups.groups.items
     c.in_ok-groups.ensures.change _ c.requires.few)
 
@@ -33,6 +41,11 @@ returns-clause-told c =
           rw w.links-is (prepared_among (said_to c.args.running.now.told.items said) (said_in said)
           c.args.links.now.items w.tell-told.new.links.items prepared)
       | else-not-is_empty w ↦
-          let none = nil_from_length groups (let empty = eqb-true (vec_len c.in_ok-groups.groups) 0 (sym c.is_empty.ensures ∙ w.if-not-is_empty.false) in omega (arith, empty, c.in_ok-groups.groups.ok)) in
-          rw w.links-is (prepared_none (exit_frames c.args.running.now groups) (λ l parted. ap (λ g. exit_frames c.args.running.now g l parted) none) c.args.links.now.items)
+          let none = nil_from_length groups (let empty =
+          eqb-true (vec_len c.in_ok-groups.groups) 0
+          (sym c.is_empty.ensures ∙ w.if-not-is_empty.false) in
+          omega (arith, empty, c.in_ok-groups.groups.ok)) in
+          rw w.links-is (prepared_none (exit_frames c.args.running.now groups)
+          (λ l parted. ap (λ g. exit_frames c.args.running.now g l parted) none)
+          c.args.links.now.items)
     ]

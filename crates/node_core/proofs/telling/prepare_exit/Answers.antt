@@ -1,13 +1,15 @@
-use Rattle.node_core.proofs.Words.{append-nil, arith, cond, not, refl, subst, sym, take, vec_len, [], ◌++◌, ◌∙◌, ◌∷◌, ◌≡◌, take_all, is_empty, all_frames}
-use Rattle.node_core.proofs.Words.{exit_frames, take_more, AreExits}
-use Rattle.node_core.proofs.Exited.{exits_on}
-use Rattle.node_core.proofs.Partings.{none_by}
+use Rattle.node_core.proofs
+use proofs.Words.{all_frames, append-nil, AreExits, arith, cond, exit_frames, is_empty, IsOwnScope}
+use proofs.Words.{local_total, not, refl, subst, sym, take, take_all, take_more, vec_len, [], ◌++◌}
+use proofs.Words.{◌∙◌, ◌∷◌, ◌≡◌, ◌≤◌}
+use proofs.Exited.{exits_on}
+use proofs.Partings.{none_by}
 use Rattle.scope_core.proofs.Outcomes.{on_err}
-use Rattle.node_core.proofs.Words.{IsOwnScope, local_total, ◌≤◌}
-use Rattle.node_core.proofs.KeptOn.{each_at}
-use Rattle.node_core.proofs.OwnLimits.{limit_again}
-use Rattle.node_core.proofs.Told.{prepared_bare}
-use Rattle.node_core.proofs.telling.prepare_exit.Goals.{then-not-is_empty+in_ok-try_clone+in_ok-push, else-not-is_empty}
+use proofs.KeptOn.{each_at}
+use proofs.OwnLimits.{limit_again}
+use proofs.Told.{prepared_bare}
+use Rattle.node_core.proofs.telling.prepare_exit.Goals.{else-not-is_empty}
+use Rattle.node_core.proofs.telling.prepare_exit.Goals.{then-not-is_empty+in_ok-try_clone+in_ok-push}
 use Rattle.node_core.proofs.telling.prepare_exit.Goals as goal
 
 pub exit_one-requires : goal.exit_one-requires
@@ -28,29 +30,56 @@ exit_one-requires c =
     }
 
 pub returns-in_err-groups-clause-same : goal.returns-in_err-groups-clause-same
-returns-in_err-groups-clause-same c = on_err _ (c.in_err-groups.ensures.same ∙ prepared_bare (all_frames (take c.loop-running.running-index c.args.scopes.now) c.loop-running.invariant.all) c.args.links.now.items c.loop-running.links.items c.loop-running.invariant.links)
+returns-in_err-groups-clause-same c =
+    on_err _ (c.in_err-groups.ensures.same
+    ∙ prepared_bare (all_frames (take c.loop-running.running-index c.args.scopes.now)
+    c.loop-running.invariant.all) c.args.links.now.items c.loop-running.links.items
+    c.loop-running.invariant.links)
 
 pub returns-in_err-try_clone-clause-same : goal.returns-in_err-try_clone-clause-same
 returns-in_err-try_clone-clause-same c = on_err _ (
-    prepared_bare (exit_frames c.running-item.result c.in_ok-groups.groups.items) c.loop-running.links.items c.exit_one.new.links.items c.in_ok-groups.ensures.told
-    ∙ prepared_bare (all_frames (take c.loop-running.running-index c.args.scopes.now) c.loop-running.invariant.all) c.args.links.now.items c.loop-running.links.items c.loop-running.invariant.links)
+    prepared_bare (exit_frames c.running-item.result c.in_ok-groups.groups.items)
+    c.loop-running.links.items c.exit_one.new.links.items c.in_ok-groups.ensures.told
+    ∙ prepared_bare (all_frames (take c.loop-running.running-index c.args.scopes.now)
+    c.loop-running.invariant.all) c.args.links.now.items c.loop-running.links.items
+    c.loop-running.invariant.links)
 
 pub returns-in_err-push-clause-same : goal.returns-in_err-push-clause-same
 returns-in_err-push-clause-same c = on_err _ (
-    prepared_bare (exit_frames c.running-item.result c.in_ok-groups.groups.items) c.loop-running.links.items c.exit_one.new.links.items c.in_ok-groups.ensures.told
-    ∙ prepared_bare (all_frames (take c.loop-running.running-index c.args.scopes.now) c.loop-running.invariant.all) c.args.links.now.items c.loop-running.links.items c.loop-running.invariant.links)
+    prepared_bare (exit_frames c.running-item.result c.in_ok-groups.groups.items)
+    c.loop-running.links.items c.exit_one.new.links.items c.in_ok-groups.ensures.told
+    ∙ prepared_bare (all_frames (take c.loop-running.running-index c.args.scopes.now)
+    c.loop-running.invariant.all) c.args.links.now.items c.loop-running.links.items
+    c.loop-running.invariant.links)
 
 pub loop-running-preserved : goal.loop-running-preserved
 loop-running-preserved c =
-    let more = take_more c.args.scopes.now c.loop-running.running-index c.running-item.result c.loop-running-test.true in
+    let more = take_more c.args.scopes.now c.loop-running.running-index c.running-item.result
+    c.loop-running-test.true in
     let groups = c.in_ok-groups.groups.items in
-    let none = sym (none_by groups (vec_len c.in_ok-groups.groups) (omega (arith, c.in_ok-groups.groups.ok))) ∙ sym c.is_empty.ensures in
-    let grown = elim c.if-not-is_empty.branch as (λ _. c.if-not-is_empty.changes.items ≡ c.loop-running.changes.items ++ cond (not (is_empty groups)) (record { scope = c.running-item.result.scope; groups = groups } ∷ []) []) [
-      | then-not-is_empty+in_ok-try_clone+in_ok-push w ↦ rw (w.changes-is, w.in_ok-push.ensures.items, w.of.ensures, w.in_ok-try_clone.ensures, none ∙ w.if-not-is_empty.true) refl
-      | else-not-is_empty w ↦ rw (w.changes-is, none ∙ w.if-not-is_empty.false) (sym (append-nil c.loop-running.changes.items))
+    let none = sym (none_by groups (vec_len c.in_ok-groups.groups)
+    (omega (arith, c.in_ok-groups.groups.ok))) ∙ sym c.is_empty.ensures in
+    let grown = elim c.if-not-is_empty.branch as (λ _. c.if-not-is_empty.changes.items
+    ≡ c.loop-running.changes.items ++ cond (not (is_empty groups))
+    (record { scope = c.running-item.result.scope; groups = groups } ∷ []) []) [
+      | then-not-is_empty+in_ok-try_clone+in_ok-push w ↦ rw (
+        w.changes-is,
+        w.in_ok-push.ensures.items,
+        w.of.ensures,
+        w.in_ok-try_clone.ensures,
+        none ∙ w.if-not-is_empty.true,
+      ) refl
+      | else-not-is_empty w ↦ rw (w.changes-is, none ∙ w.if-not-is_empty.false)
+          (sym (append-nil c.loop-running.changes.items))
     ] in
-    rw (more, ← c.running-item.is) (exits_on c.args.pid.now (take c.loop-running.running-index c.args.scopes.now) c.running-item.result c.args.links.now.items c.loop-running.links.items c.exit_one.new.links.items
-    c.loop-running.changes.items c.if-not-is_empty.changes.items groups c.loop-running.invariant c.in_ok-groups.ensures.groups c.in_ok-groups.ensures.told grown)
+    rw (more, ← c.running-item.is)
+    (exits_on c.args.pid.now (take c.loop-running.running-index c.args.scopes.now)
+    c.running-item.result c.args.links.now.items c.loop-running.links.items
+    c.exit_one.new.links.items
+    c.loop-running.changes.items c.if-not-is_empty.changes.items groups c.loop-running.invariant
+    c.in_ok-groups.ensures.groups c.in_ok-groups.ensures.told grown)
 
 pub returns-clause-told : goal.returns-clause-told
-returns-clause-told c = subst (λ rs. AreExits c.args.pid.now rs c.args.links.now.items c.loop-running.links.items c.loop-running.changes.items) (take_all _ _ c.loop-running-test.false) c.loop-running.invariant
+returns-clause-told c =
+    subst (λ rs. AreExits c.args.pid.now rs c.args.links.now.items c.loop-running.links.items
+    c.loop-running.changes.items) (take_all _ _ c.loop-running-test.false) c.loop-running.invariant

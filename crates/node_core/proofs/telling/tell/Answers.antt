@@ -1,5 +1,6 @@
-use Rattle.node_core.proofs.Words.{sym, ◌∙◌}
-use Rattle.node_core.proofs.Said.{may_be_said}
+use Rattle.node_core.proofs
+use proofs.Words.{sym, ◌∙◌}
+use proofs.Said.{may_be_said}
 use Rattle.node_core.proofs.telling.tell.Goals as goal
 
 pub prepare-requires : goal.prepare-requires

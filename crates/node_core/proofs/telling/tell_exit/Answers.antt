@@ -1,6 +1,7 @@
-use Rattle.node_core.proofs.Words.{◌∙◌, ap}
-use Rattle.node_core.proofs.OwnChanges.{err_both, ok_both}
-use Rattle.node_core.proofs.Told.{forgotten}
+use Rattle.node_core.proofs
+use proofs.Words.{ap, ◌∙◌}
+use proofs.OwnChanges.{err_both, ok_both}
+use proofs.Told.{forgotten}
 use Rattle.node_core.proofs.telling.tell_exit.Goals as goal
 
 pub returns-clause-same : goal.returns-clause-same

@@ -1,4 +1,4 @@
-use Rattle.node_core.proofs.Words.{◌≡◌, ◌++◌, take}
+use Rattle.node_core.proofs.Words.{take, ◌++◌, ◌≡◌}
 use Rattle.node_core.proofs.waiting.put_copies.Given as goal
 
 -- copies of those so far stand behind the others

@@ -1,11 +1,13 @@
-use Rattle.std.proofs.Common.{rules, ◌≡◌, sym, ◌∙◌}
+use Rattle.node_threads.proofs
+use Rattle.node_threads.specs
+use Rattle.std.proofs.Common.{rules, sym, ◌∙◌, ◌≡◌}
 use Rattle.std.proofs.lemmas.List.{map-id}
 use Rattle.std.proofs.lemmas.Iterator.Adapters.{YieldsList-from_vec}
 use Rattle.std.proofs.lemmas.Iterator.Consumers.{YieldsList-end}
-use Rattle.node_threads.specs.declared.accepting.AcceptEnd.TheVariants as ends
-use Rattle.node_threads.specs.declared.accepting.Stop.{Stop}
-use Rattle.node_threads.proofs.Pairs.{one_more, so_far_more, all_served}
-use Rattle.node_threads.proofs.Drawn.{drawn_more, are_next, all_drawn}
+use specs.declared.accepting.Stop.{Stop}
+use proofs.Pairs.{all_served, one_more, so_far_more}
+use proofs.Drawn.{all_drawn, are_next, drawn_more}
+use specs.declared.accepting.AcceptEnd.TheVariants as ends
 use Rattle.node_threads.proofs.accepting.serve_all.Goals as goal
 
 pub loop-pair-preserved : goal.loop-pair-preserved

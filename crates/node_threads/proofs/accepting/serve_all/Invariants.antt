@@ -1,6 +1,7 @@
-use Rattle.std.proofs.Common.{◌≡◌, ◌≤◌, ℕ, List, length, vec_len, vec_capacity}
-use Rattle.node_threads.specs.Accepting.{SoFar}
-use Rattle.node_threads.specs.Challenges.{AllWillHave, DrawnSoFar}
+use Rattle.node_threads.specs
+use Rattle.std.proofs.Common.{length, List, vec_capacity, vec_len, ℕ, ◌≡◌, ◌≤◌}
+use specs.Accepting.{SoFar}
+use specs.Challenges.{AllWillHave, DrawnSoFar}
 use Rattle.node_threads.proofs.accepting.serve_all.Given as goal
 
 -- the pairs so far, room for all, and the words that were drawn for them

@@ -1,5 +1,6 @@
-use Rattle.node_threads.proofs.Pairs.{none_served}
-use Rattle.node_threads.proofs.Drawn.{none_drawn}
+use Rattle.node_threads.proofs
+use proofs.Pairs.{none_served}
+use proofs.Drawn.{none_drawn}
 use Rattle.node_threads.proofs.accepting.unserved.Goals as goal
 
 pub returns-clause-served : goal.returns-clause-served

@@ -1,12 +1,14 @@
-use Rattle.std.proofs.Common.{◌≡◌, ◌-◌, ◌<◌, ◌≤◌, List, Some, None, length, subst, sym, ◌∙◌, arith, refl}
+use Rattle.node_threads.proofs
+use Rattle.node_threads.specs
+use Rattle.std.proofs.Common.{arith, length, List, None, refl, Some, subst, sym, ◌-◌, ◌<◌, ◌∙◌, ◌≡◌}
+use Rattle.std.proofs.Common.{◌≤◌}
 use Rattle.std.proofs.lemmas.List.{length-set}
 use Rattle.policy_audit.specs.declared.entry.Entry.{Entry}
 use Rattle.policy_audit.specs.Log.{kept_at}
-use Rattle.node_threads.specs.declared.pass.Call.{Call}
-use Rattle.node_threads.specs.Closing.{at_seat, AreLast, Precede}
-use Rattle.node_threads.proofs.Settling.{at_read, precede_last, last_before, before_last}
-use Rattle.node_threads.proofs.Settling.{last_of_none}
-use Rattle.node_threads.proofs.Walked.{up_to, up_to_last, up_to_next, up_to_none, holds_kept}
+use specs.declared.pass.Call.{Call}
+use specs.Closing.{AreLast, at_seat, Precede}
+use proofs.Settling.{at_read, before_last, last_before, last_of_none, precede_last}
+use proofs.Walked.{holds_kept, up_to, up_to_last, up_to_next, up_to_none}
 use Rattle.node_threads.proofs.close.are_last.Goals as goal
 
 pub loop-entry-preserved : goal.loop-entry-preserved

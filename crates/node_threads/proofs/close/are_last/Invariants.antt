@@ -1,9 +1,10 @@
-use Rattle.std.proofs.Common.{◌≡◌, length, ◌≤◌, ◌↔◌}
+use Rattle.std.proofs.Common.{length, ◌↔◌, ◌≡◌, ◌≤◌}
 use Rattle.node_threads.specs.Closing.{AreLast, kept_entries}
 use Rattle.node_threads.proofs.Walked.{up_to}
 use Rattle.node_threads.proofs.close.are_last.Given as goal
 
--- the calls are the last ones exactly where those that are left are the last of the entries that are
+-- the calls are the last ones exactly where those that are left are the last of the entries that
+-- are
 -- left
 abbrev pub invariant-loop-entry : goal.invariant-loop-entry
 invariant-loop-entry l =

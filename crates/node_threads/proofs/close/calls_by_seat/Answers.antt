@@ -1,8 +1,8 @@
-use Rattle.std.proofs.Common.{◌≡◌, ◌<◌, ◌+◌, ℕ, take, get_or, set, subst, sym, ◌∙◌, arith}
+use Rattle.std.proofs.Common.{arith, get_or, set, subst, sym, take, ℕ, ◌+◌, ◌<◌, ◌∙◌, ◌≡◌}
 use Rattle.std.specs.List.{All}
 use Rattle.std.proofs.lemmas.List.{length-set}
 use Rattle.node_threads.specs.Calls.{Record}
-use Rattle.node_threads.proofs.Settling.{StandsIn, stand_in_more}
+use Rattle.node_threads.proofs.Settling.{stand_in_more, StandsIn}
 use Rattle.node_threads.proofs.close.calls_by_seat.Goals as goal
 
 pub loop-pass-preserved : goal.loop-pass-preserved

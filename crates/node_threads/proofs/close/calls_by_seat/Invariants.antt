@@ -1,4 +1,4 @@
-use Rattle.std.proofs.Common.{◌≡◌, length, take}
+use Rattle.std.proofs.Common.{length, take, ◌≡◌}
 use Rattle.std.specs.List.{All}
 use Rattle.node_threads.proofs.Settling.{StandsIn}
 use Rattle.node_threads.proofs.close.calls_by_seat.Given as goal

@@ -1,10 +1,11 @@
-use Rattle.std.proofs.Common.{◌≡◌, ◌↔◌, Bool, sym, ap, ◌∙◌, IsTrue, arith}
+use Rattle.node_threads.specs
+use Rattle.std.proofs.Common.{ap, arith, Bool, IsTrue, sym, ◌↔◌, ◌∙◌, ◌≡◌}
 use Rattle.std.proofs.lemmas.Grind.{common_steps}
 use Rattle.policy_audit.specs.declared.entry.Entry.{Entry}
-use Rattle.node_threads.specs.declared.pass.Call.{Call}
-use Rattle.node_threads.specs.Calls.{call_of}
+use specs.declared.pass.Call.{Call}
+use specs.Calls.{call_of}
+use Rattle.node_threads.proofs.close.is_call_of.Goals.{else-call-entry, then-call-entry}
 use Rattle.node_threads.proofs.close.is_call_of.Goals as goal
-use Rattle.node_threads.proofs.close.is_call_of.Goals.{then-call-entry, else-call-entry}
 
 -- a call is that of the entry where number, event and verdict are the same
 call_by_parts : (call : Call) (e : Entry) → call.number ≡ e.number → call.event ≡ e.event

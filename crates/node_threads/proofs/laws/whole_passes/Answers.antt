@@ -1,4 +1,4 @@
-use Rattle.node_threads.proofs.Whole.{own_has_all, all_is_own}
+use Rattle.node_threads.proofs.Whole.{all_is_own, own_has_all}
 use Rattle.node_threads.proofs.laws.whole_passes.Goals as goal
 
 pub returns : goal.returns

@@ -1,9 +1,9 @@
-use Rattle.std.proofs.Common.{◌≡◌, Ok, subst}
-use Rattle.policy_audit.specs.declared.event.Event.TheVariants as events
+use Rattle.std.proofs.Common.{Ok, subst, ◌≡◌}
 use Rattle.policy_audit.specs.declared.reply.Reply.{Reply}
 use Rattle.policy_audit.specs.declared.reply.Reply.TheVariants.{Link}
 use Rattle.node_threads.specs.Applied.{Called}
 use Rattle.node_threads.proofs.Openings.{asked_link, asked_unopened}
+use Rattle.policy_audit.specs.declared.event.Event.TheVariants as events
 use Rattle.node_threads.proofs.opening.open.Goals as goal
 
 pub returns-in-Ok-Link : goal.returns-in-Ok-Link

@@ -1,6 +1,7 @@
-use Rattle.std.proofs.Common.{Some, None}
-use Rattle.node_threads.proofs.Openings.{opens_then, not_used}
-use Rattle.node_threads.proofs.Drawn.{opened_drawn, ended_drawn}
+use Rattle.node_threads.proofs
+use Rattle.std.proofs.Common.{None, Some}
+use proofs.Openings.{not_used, opens_then}
+use proofs.Drawn.{ended_drawn, opened_drawn}
 use Rattle.node_threads.proofs.opening.open_next.Goals as goal
 
 pub returns-in-Link-clause-ok : goal.returns-in-Link-clause-ok

@@ -1,6 +1,7 @@
+use Rattle.node_threads.specs
 use Rattle.std.proofs.Common.{None}
-use Rattle.node_threads.specs.Accepting.{Opens}
-use Rattle.node_threads.specs.Drawing.{Draws, new_challenges}
+use specs.Accepting.{Opens}
+use specs.Drawing.{Draws, new_challenges}
 use Rattle.node_threads.proofs.opening.open_next.Given as goal
 
 -- those so far were refused, and had the next words

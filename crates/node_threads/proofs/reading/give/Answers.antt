@@ -1,5 +1,5 @@
 use Rattle.std.proofs.Common.{sym}
-use Rattle.node_threads.proofs.Answered.{gave_reply, gave_end}
+use Rattle.node_threads.proofs.Answered.{gave_end, gave_reply}
 use Rattle.node_threads.proofs.reading.give.Goals as goal
 
 pub returns-in-Ok : goal.returns-in-Ok

@@ -1,9 +1,9 @@
-use Rattle.std.proofs.Common.{◌≡◌, true, false, refl, sym, ◌∙◌}
+use Rattle.std.proofs.Common.{false, refl, sym, true, ◌∙◌, ◌≡◌}
 use Rattle.std.proofs.lemmas.Result.{err_from_is_err_and}
-use Rattle.node_threads.proofs.Steps.{stops_unfed, handed_none, handed_on, handed_up, handed_end}
-use Rattle.node_threads.proofs.reading.hand_in.Goals as goal
-use Rattle.node_threads.proofs.reading.hand_in.Goals.{else-branch-via-then-branch+else-not-done}
+use Rattle.node_threads.proofs.Steps.{handed_end, handed_none, handed_on, handed_up, stops_unfed}
 use Rattle.node_threads.proofs.reading.hand_in.Goals.{else-branch-via-else-branch}
+use Rattle.node_threads.proofs.reading.hand_in.Goals.{else-branch-via-then-branch+else-not-done}
+use Rattle.node_threads.proofs.reading.hand_in.Goals as goal
 
 pub returns-in_err-used : goal.returns-in_err-used
 returns-in_err-used g c =

@@ -1,4 +1,4 @@
-use Rattle.std.proofs.Common.{◌≡◌, [], ◌++◌, take, drop, refl, append_assoc}
+use Rattle.std.proofs.Common.{append_assoc, drop, refl, take, [], ◌++◌, ◌≡◌}
 use Rattle.std.proofs.lemmas.List.{take-append-drop}
 use Rattle.std.proofs.lemmas.Result.{err_from_is_err_and}
 use Rattle.node_threads.proofs.Steps.{reads_none, reads_then, stops_then}

@@ -1,4 +1,4 @@
-use Rattle.std.proofs.Common.{◌≡◌, ◌++◌, List, ℕ, length}
+use Rattle.std.proofs.Common.{length, List, ℕ, ◌++◌, ◌≡◌}
 use Rattle.node_threads.specs.Reading.{ReadsOn}
 use Rattle.node_threads.proofs.reading.hand_in_all.Given as goal
 

@@ -1,7 +1,8 @@
-use Rattle.std.proofs.Common.{ℕ, [], ◌++◌, take, refl, append-nil}
+use Rattle.node_threads.proofs
+use Rattle.std.proofs.Common.{append-nil, refl, take, ℕ, [], ◌++◌}
 use Rattle.std.specs.Io.KnownBytes.{Consumes}
-use Rattle.std.proofs.KnownBytes.{Consumes-trans, Consumes-kept}
-use Rattle.node_threads.proofs.Steps.{reads_lighter, reads_then, stops_then, reads_to_end, reads_to_stop}
+use Rattle.std.proofs.KnownBytes.{Consumes-kept, Consumes-trans}
+use proofs.Steps.{reads_lighter, reads_then, reads_to_end, reads_to_stop, stops_then}
 use Rattle.node_threads.proofs.reading.read_on.Goals as goal
 
 pub returns-in-Ok-eq0-clause-bytes : goal.returns-in-Ok-eq0-clause-bytes

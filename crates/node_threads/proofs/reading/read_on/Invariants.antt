@@ -1,7 +1,8 @@
-use Rattle.std.proofs.Common.{List, [], ℕ}
+use Rattle.node_threads.specs
+use Rattle.std.proofs.Common.{List, ℕ, []}
 use Rattle.std.specs.Io.KnownBytes.{Consumes}
-use Rattle.node_threads.specs.declared.cutter.Cutter.TheVariants.{Handshake}
-use Rattle.node_threads.specs.Reading.{ReadsOn}
+use specs.declared.cutter.Cutter.TheVariants.{Handshake}
+use specs.Reading.{ReadsOn}
 use Rattle.node_threads.proofs.reading.read_on.Given as goal
 
 -- all that came so far was read

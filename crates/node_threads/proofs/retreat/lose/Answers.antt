@@ -1,6 +1,7 @@
-use Rattle.node_threads.specs.declared.retreat.RetreatStep.TheVariants as steps
-use Rattle.node_threads.specs.Applied.{answer_now}
+use Rattle.node_threads.specs
+use specs.Applied.{answer_now}
 use Rattle.node_threads.proofs.Answered.{gives_up}
+use specs.declared.retreat.RetreatStep.TheVariants as steps
 use Rattle.node_threads.proofs.retreat.lose.Goals as goal
 
 pub returns-in-Stuck : goal.returns-in-Stuck

@@ -1,4 +1,4 @@
-use Rattle.std.proofs.Common.{◌≡◌, take}
+use Rattle.std.proofs.Common.{take, ◌≡◌}
 use Rattle.std.specs.List.{flat_map}
 use Rattle.policy_audit.specs.Wire.{wire_bytes}
 use Rattle.node_threads.proofs.writing.wire_of.Given as goal

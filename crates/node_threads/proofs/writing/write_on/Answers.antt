@@ -1,4 +1,4 @@
-use Rattle.node_threads.proofs.Written.{written_lighter, written_more, writes_to, writes_stuck}
+use Rattle.node_threads.proofs.Written.{writes_stuck, writes_to, written_lighter, written_more}
 use Rattle.node_threads.proofs.writing.write_on.Goals as goal
 
 pub returns-in-Err : goal.returns-in-Err

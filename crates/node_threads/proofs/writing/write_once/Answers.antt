@@ -1,6 +1,6 @@
-use Rattle.std.proofs.Common.{rules, refl}
+use Rattle.std.proofs.Common.{refl, rules}
+use Rattle.node_threads.proofs.Written.{took_end, took_unwritten, took_written}
 use Rattle.node_threads.specs.declared.ends.WriteEnd.TheVariants as ends
-use Rattle.node_threads.proofs.Written.{took_written, took_unwritten, took_end}
 use Rattle.node_threads.proofs.writing.write_once.Goals as goal
 
 pub returns : goal.returns

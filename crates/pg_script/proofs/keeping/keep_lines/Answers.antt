@@ -1,11 +1,12 @@
-use Rattle.std.proofs.Common.{◌≡◌, ℕ, Bool, ◌<◌, length, Err, refl, rules, ap, sym, ◌∙◌, inl, inr}
+use Rattle.pg_script.proofs
+use Rattle.pg_script.specs
+use Rattle.std.proofs.Common.{ap, Bool, Err, inl, inr, length, refl, rules, sym, ℕ, ◌<◌, ◌∙◌, ◌≡◌}
 use Rattle.std.specs.Io.BufRead.{drop_through, strip_last}
 use Rattle.std.proofs.lemmas.Option.{IfSome_then}
 use Rattle.std.proofs.lemmas.Result.{err_from_is_err_and}
-use Rattle.pg_script.specs.Transcript.{line_text, line_left, met_usually, met_text, met_left, Met}
-use Rattle.pg_script.specs.Playing.{Playing, forgotten_to}
-use Rattle.pg_script.proofs.Played.{played_start, played_next, played_told, played_end, played_part}
-use Rattle.pg_script.proofs.Played.{came, if_known}
+use specs.Transcript.{line_left, line_text, Met, met_left, met_text, met_usually}
+use specs.Playing.{forgotten_to, Playing}
+use proofs.Played.{came, if_known, played_end, played_next, played_part, played_start, played_told}
 use Rattle.pg_script.proofs.keeping.keep_lines.Goals as goal
 
 abbrev met_so : Bool → ℕ → Met
@@ -13,8 +14,12 @@ met_so lacks handed = record { lacks = lacks; handed = handed }
 
 pub loop-turn-init : goal.loop-turn-init
 loop-turn-init g c = λ o opened. if_known (g.R.Read.remaining c.args.reader.now)
-    (λ script tells.
-    (script, tells, rw opened (played_start met_usually met_text (met_left c.args.keep) o script (g.W.Write.contents c.args.writer.now))))
+    (λ script tells. (
+      script,
+      tells,
+      rw opened (played_start met_usually met_text (met_left c.args.keep) o script
+          (g.W.Write.contents c.args.writer.now)),
+    ))
 
 pub loop-turn-preserved : goal.loop-turn-preserved
 loop-turn-preserved g c = λ o opened. IfSome_then (g.R.Read.remaining c.args.reader.now)
@@ -27,12 +32,14 @@ loop-turn-preserved g c = λ o opened. IfSome_then (g.R.Read.remaining c.args.re
     let said = line_text answered.0 c.loop-turn.console c.without_feed-said.result.now in (
       drop_through 10 kept.0,
       read.1,
-      played_next kept.2 said (met_so answered.0 left.0) (came kept.0 (rw read.0 at some)) is answered.1 refl
+      played_next kept.2 said (met_so answered.0 left.0) (came kept.0 (rw read.0 at some)) is
+          answered.1 refl
           (left.1 ∙ ap (λ (p : Playing). forgotten_to c.args.keep left.0 p) answered.3) answered.2,
     ))
 
 pub returns-in_err-read_line-clause-text : goal.returns-in_err-read_line-clause-text
-returns-in_err-read_line-clause-text g c = λ o opened. IfSome_then (g.R.Read.remaining c.args.reader.now)
+returns-in_err-read_line-clause-text g c =
+    λ o opened. IfSome_then (g.R.Read.remaining c.args.reader.now)
     (c.loop-turn.invariant o opened) (λ script kept.
     let failed = err_from_is_err_and c.from_residual.result c.from_residual.ensures.1 in
     rw (failed.1, failed.2)
@@ -41,8 +48,11 @@ returns-in_err-read_line-clause-text g c = λ o opened. IfSome_then (g.R.Read.re
 
 -- the script is at its end
 pub returns-then-not-branch-clause-text : goal.returns-then-not-branch-clause-text
-returns-then-not-branch-clause-text g c = λ o opened. IfSome_then (g.R.Read.remaining c.args.reader.now)
-    (c.loop-turn.invariant o opened) (λ script kept. played_end kept.2 (rw kept.1 at c.in_ok-read_line.ensures.ended (search rules)))
+returns-then-not-branch-clause-text g c =
+    λ o opened. IfSome_then (g.R.Read.remaining c.args.reader.now)
+    (c.loop-turn.invariant o opened)
+    (λ script kept. played_end kept.2
+    (rw kept.1 at c.in_ok-read_line.ensures.ended (search rules)))
 
 -- a line that was not answered
 pub returns-in_err-answer_line-clause-text : goal.returns-in_err-answer_line-clause-text

@@ -1,7 +1,8 @@
-use Rattle.std.proofs.Common.{◌≡◌, ℕ, ◌+◌, List, Some, IfSome}
+use Rattle.pg_script.specs
+use Rattle.std.proofs.Common.{IfSome, List, Some, ℕ, ◌+◌, ◌≡◌}
 use Rattle.policy_audit.specs.declared.opening.Opening.{Opening}
-use Rattle.pg_script.specs.Playing.{opened_with}
-use Rattle.pg_script.specs.Transcript.{met_usually, met_text, met_left}
+use specs.Playing.{opened_with}
+use specs.Transcript.{met_left, met_text, met_usually}
 use Rattle.pg_script.proofs.Played.{Played}
 use Rattle.pg_script.proofs.keeping.keep_lines.Given as goal
 

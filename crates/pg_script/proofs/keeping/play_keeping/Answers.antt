@@ -1,5 +1,5 @@
-use Rattle.pg_script.specs.Transcript.{met_usually, met_text, met_left}
-use Rattle.pg_script.proofs.Played.{played_start, played_part, if_known}
+use Rattle.pg_script.specs.Transcript.{met_left, met_text, met_usually}
+use Rattle.pg_script.proofs.Played.{if_known, played_part, played_start}
 use Rattle.pg_script.proofs.keeping.play_keeping.Goals as goal
 
 pub returns-in-Ok-clause-text : goal.returns-in-Ok-clause-text

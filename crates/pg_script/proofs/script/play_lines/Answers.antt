@@ -1,19 +1,24 @@
-use Rattle.std.proofs.Common.{false, ◌<◌, length, Err, refl, rules, ap, ◌∙◌, inl, inr}
+use Rattle.pg_script.proofs
+use Rattle.std.proofs.Common.{ap, Err, false, inl, inr, length, refl, rules, ◌<◌, ◌∙◌}
 use Rattle.std.specs.Io.BufRead.{drop_through, strip_last}
 use Rattle.std.proofs.lemmas.Option.{IfSome_then}
 use Rattle.std.proofs.lemmas.Result.{err_from_is_err_and}
-use Rattle.pg_script.specs.Transcript.{line_text, line_left}
-use Rattle.pg_script.proofs.Played.{played_start, played_next, played_told, played_end, played_part}
-use Rattle.pg_script.proofs.Played.{came, if_known}
+use Rattle.pg_script.specs.Transcript.{line_left, line_text}
+use proofs.Played.{came, if_known, played_end, played_next, played_part, played_start, played_told}
 use Rattle.pg_script.proofs.script.play_lines.Goals as goal
 
 pub loop-turn-init : goal.loop-turn-init
 loop-turn-init g c = λ o opened. if_known (g.R.Read.remaining c.args.reader.now)
-    (λ script tells.
-    (script, tells, rw opened (played_start false line_text line_left o script (g.W.Write.contents c.args.writer.now))))
+    (λ script tells. (
+      script,
+      tells,
+      rw opened (played_start false line_text line_left o script
+          (g.W.Write.contents c.args.writer.now)),
+    ))
 
 pub returns-in_err-read_line-clause-text : goal.returns-in_err-read_line-clause-text
-returns-in_err-read_line-clause-text g c = λ o opened. IfSome_then (g.R.Read.remaining c.args.reader.now)
+returns-in_err-read_line-clause-text g c =
+    λ o opened. IfSome_then (g.R.Read.remaining c.args.reader.now)
     (c.loop-turn.invariant o opened) (λ script kept.
     let failed = err_from_is_err_and c.from_residual.result c.from_residual.ensures.1 in
     rw (failed.1, failed.2)
@@ -22,8 +27,11 @@ returns-in_err-read_line-clause-text g c = λ o opened. IfSome_then (g.R.Read.re
 
 -- the script is at its end
 pub returns-then-not-branch-clause-text : goal.returns-then-not-branch-clause-text
-returns-then-not-branch-clause-text g c = λ o opened. IfSome_then (g.R.Read.remaining c.args.reader.now)
-    (c.loop-turn.invariant o opened) (λ script kept. played_end kept.2 (rw kept.1 at c.in_ok-read_line.ensures.ended (search rules)))
+returns-then-not-branch-clause-text g c =
+    λ o opened. IfSome_then (g.R.Read.remaining c.args.reader.now)
+    (c.loop-turn.invariant o opened)
+    (λ script kept. played_end kept.2
+    (rw kept.1 at c.in_ok-read_line.ensures.ended (search rules)))
 
 -- a line that was not answered
 pub returns-in_err-answer_line-clause-text : goal.returns-in_err-answer_line-clause-text

@@ -1,7 +1,8 @@
-use Rattle.std.proofs.Common.{◌≡◌, ◌++◌, length}
+use Rattle.pg_text.specs
+use Rattle.std.proofs.Common.{length, ◌++◌, ◌≡◌}
 use Rattle.std.specs.Option.{option_map}
-use Rattle.pg_text.specs.Arguments.{each}
-use Rattle.pg_text.specs.WordsLeft.{words_left}
+use specs.Arguments.{each}
+use specs.WordsLeft.{words_left}
 use Rattle.pg_text.proofs.arguments.each.Given as goal
 
 -- what all words say is what was read so far, and what the others say

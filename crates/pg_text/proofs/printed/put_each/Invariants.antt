@@ -1,4 +1,4 @@
-use Rattle.std.proofs.Common.{◌≡◌, ◌++◌, take}
+use Rattle.std.proofs.Common.{take, ◌++◌, ◌≡◌}
 use Rattle.pg_text.specs.Answers.{spaced}
 use Rattle.pg_text.proofs.printed.put_each.Given as goal
 

@@ -1,6 +1,6 @@
-use Rattle.std.proofs.Common.{◌≡◌, ◌≢◌, ◌+◌, ◌-◌, length, take, drop, get_or, arith, rules}
-use Rattle.std.proofs.Common.{take_all, length-drop}
-use Rattle.pg_text.proofs.WordLemmas.{cut_none, cut_here, whole_more}
+use Rattle.std.proofs.Common.{arith, drop, get_or, length, length-drop, rules, take, take_all, ◌+◌}
+use Rattle.std.proofs.Common.{◌-◌, ◌≡◌, ◌≢◌}
+use Rattle.pg_text.proofs.WordLemmas.{cut_here, cut_none, whole_more}
 use Rattle.pg_text.proofs.values.cut.Goals as goal
 
 pub returns-then-word-i-eq47-clause-found : goal.returns-then-word-i-eq47-clause-found

@@ -1,4 +1,4 @@
-use Rattle.std.proofs.Common.{◌-◌, drop, length}
+use Rattle.std.proofs.Common.{drop, length, ◌-◌}
 use Rattle.pg_text.proofs.WordLemmas.{IsWhole}
 use Rattle.pg_text.proofs.values.cut.Given as goal
 

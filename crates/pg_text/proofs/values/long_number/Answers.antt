@@ -1,8 +1,8 @@
-use Rattle.std.proofs.Common.{◌≡◌, ◌<◌, ◌^◌, List, ℕ, decimal, sym, ap, ◌∙◌, arith, true}
+use Rattle.std.proofs.Common.{ap, arith, decimal, List, sym, true, ℕ, ◌<◌, ◌^◌, ◌∙◌, ◌≡◌}
 use Rattle.std.specs.Str.{bytes_eq}
 use Rattle.std.proofs.lemmas.Fmt.{IsAscii-decimal, parse-decimal}
 use Rattle.std.proofs.lemmas.Str.{IsUtf8-from_ascii}
-use Rattle.pg_text.proofs.WordLemmas.{number_is, number_none, bytes_eq_same, bytes_eq_refl}
+use Rattle.pg_text.proofs.WordLemmas.{bytes_eq_refl, bytes_eq_same, number_is, number_none}
 use Rattle.pg_text.proofs.values.long_number.Goals as goal
 
 pub returns-in_default : goal.returns-in_default

@@ -1,6 +1,5 @@
-use Rattle.pg_world.proofs
-use proofs.Refusals.{wires_kept}
-use proofs.laws.refusals_keep_wires.Goals as goal
+use Rattle.pg_world.proofs.Refusals.{wires_kept}
+use Rattle.pg_world.proofs.laws.refusals_keep_wires.Goals as goal
 
 pub returns : goal.returns
 returns c = wires_kept

@@ -1,6 +1,5 @@
-use Rattle.pg_world.proofs
-use proofs.Exchanged.{two_exchange, one_behind}
-use proofs.laws.two_nodes_exchange.Goals as goal
+use Rattle.pg_world.proofs.Exchanged.{one_behind, two_exchange}
+use Rattle.pg_world.proofs.laws.two_nodes_exchange.Goals as goal
 
 pub returns : goal.returns
 returns c = record { now = two_exchange; behind = one_behind }

@@ -1,6 +1,5 @@
-use Rattle.pg_world.proofs
-use proofs.Wired.{no_wires, stays_wired, end_there, opener_there}
-use proofs.laws.wires_have_nodes.Goals as goal
+use Rattle.pg_world.proofs.Wired.{end_there, no_wires, opener_there, stays_wired}
+use Rattle.pg_world.proofs.laws.wires_have_nodes.Goals as goal
 
 pub returns : goal.returns
 returns c = record

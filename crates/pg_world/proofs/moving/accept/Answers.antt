@@ -1,8 +1,8 @@
 use Rattle.pg_world.proofs
 use proofs.Words.{Err, err_from_is_err_and, Event, link_opened, Ok, plain, refl, sym, with_link}
 use proofs.Words.{world}
-use proofs.Turning.{refused, on_wire, accept_turn}
-use proofs.moving.accept.Goals as goal
+use proofs.Turning.{accept_turn, on_wire, refused}
+use Rattle.pg_world.proofs.moving.accept.Goals as goal
 use Rattle.pg_world.specs.declared.world_step.WorldStep.TheVariants as step
 
 pub returns-in_err-node : goal.returns-in_err-node

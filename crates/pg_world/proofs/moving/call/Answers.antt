@@ -1,9 +1,10 @@
+use Rattle.pg_world.specs
 use Rattle.pg_world.proofs
 use proofs.Words.{ap, asks, cond, Refuses, subst, sym, Turns, world, WorldFault, ◌∙◌}
 use proofs.Turning.{refused}
-use Rattle.pg_world.specs.Steps.{IsWorldStep}
-use proofs.moving.call.Goals as goal
-use Rattle.pg_world.specs.declared.world_step.WorldStep.TheVariants as step
+use specs.Steps.{IsWorldStep}
+use Rattle.pg_world.proofs.moving.call.Goals as goal
+use specs.declared.world_step.WorldStep.TheVariants as step
 
 pub returns-then-is_wrong : goal.returns-then-is_wrong
 returns-then-is_wrong c = λ xs. refused (world c.args.nodes.now xs)

@@ -1,8 +1,8 @@
 use Rattle.pg_world.proofs
 use proofs.Words.{changed_queue, cut_by, Err, err_from_is_err_and, Event, Ok, plain, refl, sym}
 use proofs.Words.{world}
-use proofs.Turning.{refused, on_wire, cut_turn}
-use proofs.moving.cut.Goals as goal
+use proofs.Turning.{cut_turn, on_wire, refused}
+use Rattle.pg_world.proofs.moving.cut.Goals as goal
 use Rattle.pg_world.specs.declared.world_step.WorldStep.TheVariants as step
 
 pub returns-in_err-end : goal.returns-in_err-end

@@ -1,8 +1,8 @@
 use Rattle.pg_world.proofs
 use proofs.Words.{changed_queue, Err, err_from_is_err_and, Event, get_or, left_by, oldest, plain}
 use proofs.Words.{refl, set-get_or, sym, under_way, world, WorldFault}
-use proofs.Turning.{refused, on_wire, deliver_turn, no_frame, a_frame, none_left}
-use proofs.moving.deliver.Goals as goal
+use proofs.Turning.{a_frame, deliver_turn, no_frame, none_left, on_wire, refused}
+use Rattle.pg_world.proofs.moving.deliver.Goals as goal
 use Rattle.pg_world.specs.declared.world_step.WorldStep.TheVariants as step
 
 pub returns-in_err-end : goal.returns-in_err-end

@@ -2,10 +2,10 @@ use Rattle.pg_world.proofs
 use proofs.Words.{ap, append-nil, Asks, CoreFault, Event, get_or, length, new_wire, place_dialled}
 use proofs.Words.{refl, Rule, slice_get-get_or, sym, world, WorldFault, ◌++◌, ◌∙◌}
 use proofs.Stepping.{full_step, memory_step}
-use proofs.Turning.{refused, unanswered, turned, dials_nobody, nobody_dials, dial_turn}
-use proofs.moving.dial.Goals.{then-from-nodes-via-then-from-nodes}
-use proofs.moving.dial.Goals.{then-from-nodes-via-else-from-nodes+then-to-nodes}
-use proofs.moving.dial.Goals as goal
+use proofs.Turning.{dial_turn, dials_nobody, nobody_dials, refused, turned, unanswered}
+use Rattle.pg_world.proofs.moving.dial.Goals.{then-from-nodes-via-else-from-nodes+then-to-nodes}
+use Rattle.pg_world.proofs.moving.dial.Goals.{then-from-nodes-via-then-from-nodes}
+use Rattle.pg_world.proofs.moving.dial.Goals as goal
 use Rattle.pg_world.specs.declared.world_step.WorldStep.TheVariants as step
 
 pub returns-then-from-nodes : goal.returns-then-from-nodes

@@ -1,8 +1,8 @@
 use Rattle.pg_world.proofs
 use proofs.Words.{changed_queue, count_handed, Err, err_from_is_err_and, Event, joined_by, Ok}
 use proofs.Words.{other, refl, sym, world}
-use proofs.Turning.{refused, on_wire, hand_turn}
-use proofs.moving.hand.Goals as goal
+use proofs.Turning.{hand_turn, on_wire, refused}
+use Rattle.pg_world.proofs.moving.hand.Goals as goal
 use Rattle.pg_world.specs.declared.world_step.WorldStep.TheVariants as step
 
 pub returns-in_err-end : goal.returns-in_err-end

@@ -1,7 +1,7 @@
 use Rattle.pg_world.proofs
 use proofs.Words.{world}
 use proofs.Turning.{restart_is}
-use proofs.moving.restart.Goals as goal
+use Rattle.pg_world.proofs.moving.restart.Goals as goal
 
 pub returns : goal.returns
 returns c = λ xs. restart_is (world c.args.nodes.now xs) (world c.ask.new.nodes xs) c.args.node

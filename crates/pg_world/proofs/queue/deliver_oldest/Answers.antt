@@ -2,8 +2,8 @@ use Rattle.pg_world.proofs
 use proofs.Words.{ap, cond, CoreFault, drop, Err, Event, IsStepped, oldest, refl, Rule, subst, sym}
 use proofs.Words.{◌∙◌}
 use proofs.Stepping.{full_step, memory_step}
-use proofs.queue.deliver_oldest.Goals.{then-leaves, else-leaves}
-use proofs.queue.deliver_oldest.Goals as goal
+use Rattle.pg_world.proofs.queue.deliver_oldest.Goals.{else-leaves, then-leaves}
+use Rattle.pg_world.proofs.queue.deliver_oldest.Goals as goal
 
 pub returns-then-is_full : goal.returns-then-is_full
 returns-then-is_full c = record {

@@ -1,7 +1,7 @@
 use Rattle.pg_world.proofs
 use proofs.Words.{ap, CoreFault, Err, Event, frames_in, refl, Rule, sym, ◌∙◌}
 use proofs.Stepping.{full_step, memory_step, taken}
-use proofs.queue.hand_over.Goals as goal
+use Rattle.pg_world.proofs.queue.hand_over.Goals as goal
 
 pub returns-then-is_full : goal.returns-then-is_full
 returns-then-is_full c = record {

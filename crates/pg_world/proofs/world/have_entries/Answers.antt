@@ -1,10 +1,10 @@
 use Rattle.pg_world.proofs
-use proofs.Words.{arith, below_more, histories, History, IsNew, length, slice_get}
-use proofs.Words.{slice_get_within, Some, subst, sym, ◌∙◌, ◌≡◌}
+use proofs.Words.{arith, below_more, histories, History, IsNew, length, slice_get, slice_get_within}
+use proofs.Words.{Some, subst, sym, ◌∙◌, ◌≡◌}
 use proofs.Naming.{stands}
 use proofs.Puts.{value_of}
 use Rattle.std.proofs.lemmas.List.{length-map}
-use proofs.world.have_entries.Goals as goal
+use Rattle.pg_world.proofs.world.have_entries.Goals as goal
 
 pub loop-place-preserved : goal.loop-place-preserved
 loop-place-preserved c = λ i h below it. below_more
@@ -16,9 +16,11 @@ loop-place-preserved c = λ i h below it. below_more
     (c.has_entries.ensures.no c.if-has_entries.false)) i below h it
 
 pub returns-clause-no : goal.returns-clause-no
-returns-clause-no c = λ none i h it. (let low = slice_get_within (histories c.args.nodes.now) i h it in
+returns-clause-no c =
+    λ none i h it. (let low = slice_get_within (histories c.args.nodes.now) i h it in
     let same = length-map c.args.nodes.now (λ n. n.history) in
-    let all = c.loop-place-test.false in c.loop-place.invariant i h (omega (arith, low, same, all)) it)
+    let all = c.loop-place-test.false in
+    c.loop-place.invariant i h (omega (arith, low, same, all)) it)
 
 pub returns-then-has_entries-clause-yes : goal.returns-then-has_entries-clause-yes
 returns-then-has_entries-clause-yes c = λ _. record {

@@ -1,6 +1,5 @@
-use Rattle.pg_world.proofs
-use proofs.Words.{histories, History, IsNew, slice_get, Some, ℕ, ◌<◌, ◌≡◌}
-use proofs.world.have_entries.Given as goal
+use Rattle.pg_world.proofs.Words.{histories, History, IsNew, slice_get, Some, ℕ, ◌<◌, ◌≡◌}
+use Rattle.pg_world.proofs.world.have_entries.Given as goal
 
 abbrev pub invariant-loop-place : goal.invariant-loop-place
 invariant-loop-place l = (i : ℕ) (h : History) → i < l.place

@@ -1,6 +1,5 @@
-use Rattle.pg_world.proofs
-use proofs.Words.{histories, History, slice_get, Some, ℕ, ◌<◌, ◌≡◌, ◌≢◌}
-use proofs.world.is_named_before.Given as goal
+use Rattle.pg_world.proofs.Words.{histories, History, slice_get, Some, ℕ, ◌<◌, ◌≡◌, ◌≢◌}
+use Rattle.pg_world.proofs.world.is_named_before.Given as goal
 
 abbrev pub invariant-loop-earlier : goal.invariant-loop-earlier
 invariant-loop-earlier l = (i : ℕ) (h k : History) → i < l.earlier

@@ -1,6 +1,5 @@
-use Rattle.pg_world.proofs
-use proofs.Words.{histories, History, slice_get, Some, ℕ, ◌<◌, ◌≡◌, ◌≢◌}
-use proofs.world.share_a_name.Given as goal
+use Rattle.pg_world.proofs.Words.{histories, History, slice_get, Some, ℕ, ◌<◌, ◌≡◌, ◌≢◌}
+use Rattle.pg_world.proofs.world.share_a_name.Given as goal
 
 abbrev pub invariant-loop-place : goal.invariant-loop-place
 invariant-loop-place l = (i j : ℕ) (h k : History) → i < j → j < l.place

@@ -1,8 +1,7 @@
-use Rattle.pg_world.proofs
-use proofs.Words.{histories, length, ◌++◌, ◌+◌, ◌≡◌, ◌≤◌}
+use Rattle.pg_world.proofs.Words.{histories, length, ◌++◌, ◌+◌, ◌≡◌, ◌≤◌}
 use Rattle.std.specs.Prelude.{vec_capacity, vec_len}
 use Rattle.std.specs.Vec.Iter.{into_iter_items}
-use proofs.world.take_all.Given as goal
+use Rattle.pg_world.proofs.world.take_all.Given as goal
 
 -- those so far are taken, and there is room for the others
 abbrev pub invariant-loop-core : goal.invariant-loop-core

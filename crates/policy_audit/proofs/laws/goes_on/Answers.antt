@@ -1,5 +1,6 @@
-use Rattle.policy_audit.proofs.ChangeLemmas.{change_is, next_is}
-use Rattle.policy_audit.proofs.Losses.{legal_next}
+use Rattle.policy_audit.proofs
+use proofs.ChangeLemmas.{change_is, next_is}
+use proofs.Losses.{legal_next}
 use Rattle.policy_audit.proofs.laws.goes_on.Goals as goal
 
 pub returns-clause-legal : goal.returns-clause-legal

@@ -1,4 +1,4 @@
-use Rattle.policy_audit.proofs.Begun.{framed, stopped, restarted, others, kept_peers, none_begun}
+use Rattle.policy_audit.proofs.Begun.{framed, kept_peers, none_begun, others, restarted, stopped}
 use Rattle.policy_audit.proofs.laws.kept_parts.Goals as goal
 
 pub returns : goal.returns

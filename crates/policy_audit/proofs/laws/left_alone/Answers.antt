@@ -1,7 +1,8 @@
-use Rattle.policy_audit.proofs.Words.{sym, just}
-use Rattle.policy_audit.proofs.ChangeLemmas.{no_change}
-use Rattle.policy_audit.proofs.Effects.{entry_rows, entry_link}
-use Rattle.policy_audit.proofs.Within.{rows_within}
+use Rattle.policy_audit.proofs
+use proofs.Words.{just, sym}
+use proofs.ChangeLemmas.{no_change}
+use proofs.Effects.{entry_link, entry_rows}
+use proofs.Within.{rows_within}
 use Rattle.policy_audit.proofs.laws.left_alone.Goals as goal
 
 pub returns-clause-listings : goal.returns-clause-listings

@@ -1,5 +1,6 @@
-use Rattle.policy_audit.proofs.UpLinks.{agrees}
-use Rattle.policy_audit.proofs.Whole.{up-gave}
+use Rattle.policy_audit.proofs
+use proofs.UpLinks.{agrees}
+use proofs.Whole.{up-gave}
 use Rattle.policy_audit.proofs.laws.one_link_up.Goals as goal
 
 pub returns-clause-given : goal.returns-clause-given

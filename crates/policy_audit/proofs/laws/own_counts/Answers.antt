@@ -1,4 +1,4 @@
-use Rattle.policy_audit.proofs.Effects.{entry_joined, entry_left, entry_exited}
+use Rattle.policy_audit.proofs.Effects.{entry_exited, entry_joined, entry_left}
 use Rattle.policy_audit.proofs.laws.own_counts.Goals as goal
 
 pub returns-clause-joined : goal.returns-clause-joined

@@ -1,6 +1,9 @@
-use Rattle.policy_audit.proofs.Foreign.{peer_foreign, left_foreign}
-use Rattle.policy_audit.proofs.Onward.{frame_open, unwhole_awaits}
-use Rattle.policy_audit.proofs.RowsAfter.{joined_rows, left_rows, exited_rows, started_rows, stopped_rows, restarted_rows, opened_rows, dialled_rows, unfinished_rows, up_rows, lost_rows, lost_other, disconnected_rows}
+use Rattle.policy_audit.proofs
+use proofs.Foreign.{left_foreign, peer_foreign}
+use proofs.Onward.{frame_open, unwhole_awaits}
+use proofs.RowsAfter.{dialled_rows, disconnected_rows, exited_rows, joined_rows, left_rows}
+use proofs.RowsAfter.{lost_other, lost_rows, opened_rows, restarted_rows, started_rows}
+use proofs.RowsAfter.{stopped_rows, unfinished_rows, up_rows}
 use Rattle.policy_audit.proofs.laws.rows_after.Goals as goal
 
 pub returns-clause-joined : goal.returns-clause-joined
@@ -28,16 +31,25 @@ pub returns-clause-dialled : goal.returns-clause-dialled
 returns-clause-dialled c = λ h e n c a. dialled_rows h a.legal e a.answered a.accepts n c a.is
 
 pub returns-clause-unfinished : goal.returns-clause-unfinished
-returns-clause-unfinished c = λ h e l body a w q. unfinished_rows h a.legal e a.answered a.accepts l body a.is (unwhole_awaits l h.entries (frame_open h e a.answered a.accepts l body a.is) w) q
+returns-clause-unfinished c =
+    λ h e l body a w q. unfinished_rows h a.legal e a.answered a.accepts l body a.is
+    (unwhole_awaits l h.entries (frame_open h e a.answered a.accepts l body a.is) w) q
 
 pub returns-clause-up : goal.returns-clause-up
-returns-clause-up c = λ h e l body n a q of. up_rows h a.legal e a.answered a.accepts l body a.is n q of (peer_foreign h a.legal l n of)
+returns-clause-up c =
+    λ h e l body n a q of. up_rows h a.legal e a.answered a.accepts l body a.is n q of
+    (peer_foreign h a.legal l n of)
 
 pub returns-clause-lost : goal.returns-clause-lost
-returns-clause-lost c = λ h e l n a up of. lost_rows h a.legal e a.answered a.accepts l n a.is up of (peer_foreign h a.legal l n of)
+returns-clause-lost c =
+    λ h e l n a up of. lost_rows h a.legal e a.answered a.accepts l n a.is up of
+    (peer_foreign h a.legal l n of)
 
 pub returns-clause-lost_unfinished : goal.returns-clause-lost_unfinished
-returns-clause-lost_unfinished c = λ h e l a down. lost_other h a.legal e a.answered a.accepts l a.is down
+returns-clause-lost_unfinished c =
+    λ h e l a down. lost_other h a.legal e a.answered a.accepts l a.is down
 
 pub returns-clause-disconnected : goal.returns-clause-disconnected
-returns-clause-disconnected c = λ h e n a. disconnected_rows h a.legal e a.answered a.accepts n a.is (left_foreign h a.legal e a.answered a.accepts n a.is)
+returns-clause-disconnected c =
+    λ h e n a. disconnected_rows h a.legal e a.answered a.accepts n a.is
+    (left_foreign h a.legal e a.answered a.accepts n a.is)

@@ -1,10 +1,10 @@
-use Rattle.policy_audit.proofs.LostWords.{lost_open, lost_same, lost_waiting, lost_heard, lost_told}
-use Rattle.policy_audit.proofs.Losses.{legal_played, slow_both, alone, lost_with, lost_rows_gone}
-use Rattle.policy_audit.proofs.Losses.{history_opening, made_audited, made_entered, made_legal}
-use Rattle.policy_audit.proofs.Losses.{legal_room, next_step}
-use Rattle.policy_audit.proofs.Early.{early_few}
-use Rattle.policy_audit.proofs.Silent.{all_few, tells_none}
-use Rattle.policy_audit.proofs.WithinLosses.{rows_within_losses}
+use Rattle.policy_audit.proofs
+use proofs.LostWords.{lost_heard, lost_open, lost_same, lost_told, lost_waiting}
+use proofs.Losses.{alone, history_opening, legal_played, legal_room, lost_rows_gone, lost_with}
+use proofs.Losses.{made_audited, made_entered, made_legal, next_step, slow_both}
+use proofs.Early.{early_few}
+use proofs.Silent.{all_few, tells_none}
+use proofs.WithinLosses.{rows_within_losses}
 use Rattle.policy_audit.proofs.laws.slow_links_end.Goals as goal
 
 pub returns : goal.returns

@@ -1,5 +1,6 @@
-use Rattle.policy_audit.proofs.Staged.{ups-now, opens-now}
-use Rattle.policy_audit.proofs.Whole.{name-up-is-admitted}
+use Rattle.policy_audit.proofs
+use proofs.Staged.{opens-now, ups-now}
+use proofs.Whole.{name-up-is-admitted}
 use Rattle.policy_audit.proofs.laws.up_by_events.Goals as goal
 
 pub returns-clause-up : goal.returns-clause-up

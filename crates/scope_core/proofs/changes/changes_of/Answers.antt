@@ -1,7 +1,7 @@
-use Rattle.scope_core.proofs.Words.{◌≡◌, [], ◌++◌, ◌∙◌, ap, sym, subst, arith, append_assoc}
-use Rattle.scope_core.proofs.Words.{change_unless_empty, append-nil}
-use Rattle.scope_core.proofs.Told.{Run, Told, pids, run_at, some_run, told_none, told_next}
-use Rattle.scope_core.proofs.Told.{rises_back}
+use Rattle.scope_core.proofs
+use proofs.Words.{ap, append-nil, append_assoc, arith, change_unless_empty, subst, sym, [], ◌++◌}
+use proofs.Words.{◌∙◌, ◌≡◌}
+use proofs.Told.{pids, rises_back, Run, run_at, some_run, Told, told_next, told_none}
 use Rattle.scope_core.proofs.changes.changes_of.Goals.{After-split_at-in-Some}
 use Rattle.scope_core.proofs.changes.changes_of.Goals as goal
 

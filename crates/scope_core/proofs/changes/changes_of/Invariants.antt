@@ -1,5 +1,6 @@
-use Rattle.scope_core.proofs.Words.{◌+◌, ◌++◌, List, length, Rises, counted_cmp, GroupChange}
-use Rattle.scope_core.proofs.Told.{Told}
+use Rattle.scope_core.proofs
+use proofs.Words.{counted_cmp, GroupChange, length, List, Rises, ◌++◌, ◌+◌}
+use proofs.Told.{Told}
 use Rattle.scope_core.proofs.changes.changes_of.Given as goal
 
 -- with what is told of the rows to come, all is told

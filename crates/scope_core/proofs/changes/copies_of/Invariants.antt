@@ -1,4 +1,4 @@
-use Rattle.scope_core.proofs.Words.{◌≡◌, take}
+use Rattle.scope_core.proofs.Words.{take, ◌≡◌}
 use Rattle.scope_core.proofs.changes.copies_of.Given as goal
 
 -- the copies so far

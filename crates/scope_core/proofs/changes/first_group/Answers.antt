@@ -1,7 +1,7 @@
-use Rattle.scope_core.proofs.Words.{◌≡◌, arith, false, is_gt, text_cmp, texts_total, or_left}
-use Rattle.scope_core.proofs.Words.{or_right}
-use Rattle.scope_core.proofs.Told.{none_below_first, itself, first_in}
-use Rattle.scope_core.proofs.changes.first_group.Goals.{then-lt, else-lt}
+use Rattle.scope_core.proofs
+use proofs.Words.{arith, false, is_gt, or_left, or_right, text_cmp, texts_total, ◌≡◌}
+use proofs.Told.{first_in, itself, none_below_first}
+use Rattle.scope_core.proofs.changes.first_group.Goals.{else-lt, then-lt}
 use Rattle.scope_core.proofs.changes.first_group.Goals as goal
 
 pub returns-after-lt-clause-gone : goal.returns-after-lt-clause-gone

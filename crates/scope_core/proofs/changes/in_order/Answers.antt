@@ -1,6 +1,7 @@
-use Rattle.scope_core.proofs.Words.{subst, pid_cmp, same_pid, mentions, IsPidListing, pids_total}
-use Rattle.scope_core.proofs.Words.{sorted_listing, arith}
-use Rattle.scope_core.proofs.Shares.{short_listing}
+use Rattle.scope_core.proofs
+use proofs.Words.{arith, IsPidListing, mentions, pid_cmp, pids_total, same_pid, sorted_listing}
+use proofs.Words.{subst}
+use proofs.Shares.{short_listing}
 use Rattle.scope_core.proofs.changes.in_order.Goals as goal
 
 pub returns-then-len-lt2 : goal.returns-then-len-lt2

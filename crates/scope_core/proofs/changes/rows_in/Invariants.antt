@@ -1,4 +1,4 @@
-use Rattle.scope_core.proofs.Words.{◌≡◌, map, take, row_in}
+use Rattle.scope_core.proofs.Words.{map, row_in, take, ◌≡◌}
 use Rattle.scope_core.proofs.changes.rows_in.Given as goal
 
 -- the rows so far

@@ -1,6 +1,7 @@
-use Rattle.scope_core.proofs.Words.{◌≡◌, ◌∷◌, arith, subst, row_in, AllByRecursion, same_decides}
-use Rattle.scope_core.proofs.Words.{same_row_decides, common_steps, pid_of}
-use Rattle.scope_core.proofs.GroupRows.{behind_next}
+use Rattle.scope_core.proofs
+use proofs.Words.{AllByRecursion, arith, common_steps, pid_of, row_in, same_decides}
+use proofs.Words.{same_row_decides, subst, ◌∷◌, ◌≡◌}
+use proofs.GroupRows.{behind_next}
 use Rattle.scope_core.proofs.group_members.behind.Goals as goal
 
 pub loop-preserved : goal.loop-preserved

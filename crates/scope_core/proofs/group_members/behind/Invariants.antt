@@ -1,4 +1,4 @@
-use Rattle.scope_core.proofs.Words.{◌≡◌, ◌++◌, ℕ, List, AllByRecursion, replicate, row_in, pid_of}
+use Rattle.scope_core.proofs.Words.{AllByRecursion, List, pid_of, replicate, row_in, ℕ, ◌++◌, ◌≡◌}
 use Rattle.scope_core.proofs.group_members.behind.Given as goal
 
 -- so many rows are the process's so far

@@ -1,7 +1,7 @@
-use Rattle.scope_core.proofs.Words.{◌++◌, ◌∙◌, ap, arith, append_assoc, replicate, row_in, List}
-use Rattle.scope_core.proofs.Words.{Row, pid_of}
+use Rattle.scope_core.proofs
+use proofs.Words.{ap, append_assoc, arith, List, pid_of, replicate, Row, row_in, ◌++◌, ◌∙◌}
 use Rattle.std.specs.List.Sorted.{IsStrictlySortedBy}
-use Rattle.scope_core.proofs.Outcomes.{some_any}
+use proofs.Outcomes.{some_any}
 use Rattle.scope_core.proofs.group_members.behind_all.Goals as goal
 
 pub loop-key-preserved : goal.loop-key-preserved

@@ -1,5 +1,5 @@
-use Rattle.scope_core.proofs.Words.{◌≡◌, ◌++◌, ℕ, List, AllByRecursion, Row, spread, row_in, pid_of}
-use Rattle.scope_core.proofs.Words.{entries_of}
+use Rattle.scope_core.proofs
+use proofs.Words.{AllByRecursion, entries_of, List, pid_of, Row, row_in, spread, ℕ, ◌++◌, ◌≡◌}
 use Rattle.scope_core.proofs.group_members.behind_all.Given as goal
 
 -- once those of the entries to come stand before the rest, all stand before it

@@ -1,4 +1,4 @@
-use Rattle.scope_core.proofs.Words.{◌≡◌, ◌++◌, group_rows, entries_of}
+use Rattle.scope_core.proofs.Words.{entries_of, group_rows, ◌++◌, ◌≡◌}
 use Rattle.scope_core.proofs.group_members.push_counted.Given as goal
 
 -- with those of the entries to come, all are there

@@ -1,4 +1,4 @@
-use Rattle.scope_core.proofs.Words.{◌≡◌, ◌++◌, spread, pid_of, entries_of}
+use Rattle.scope_core.proofs.Words.{entries_of, pid_of, spread, ◌++◌, ◌≡◌}
 use Rattle.scope_core.proofs.group_members.push_pids.Given as goal
 
 -- with those of the entries to come, all are there

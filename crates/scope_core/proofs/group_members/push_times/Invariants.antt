@@ -1,4 +1,4 @@
-use Rattle.scope_core.proofs.Words.{◌≡◌, ◌++◌, replicate, pid_of}
+use Rattle.scope_core.proofs.Words.{pid_of, replicate, ◌++◌, ◌≡◌}
 use Rattle.scope_core.proofs.group_members.push_times.Given as goal
 
 -- the copies so far

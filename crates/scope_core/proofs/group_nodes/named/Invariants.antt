@@ -1,4 +1,4 @@
-use Rattle.scope_core.proofs.Words.{◌≡◌, ◌++◌, named_groups, node_names}
+use Rattle.scope_core.proofs.Words.{named_groups, node_names, ◌++◌, ◌≡◌}
 use Rattle.scope_core.proofs.group_nodes.named.Given as goal
 
 -- the groups so far, and those to come, are all

@@ -1,6 +1,7 @@
-use Rattle.scope_core.proofs.Words.{texts_total}
-use Rattle.scope_core.proofs.GroupNodes.{name_found}
-use Rattle.scope_core.proofs.Searches.{gap_in}
+use Rattle.scope_core.proofs
+use proofs.Words.{texts_total}
+use proofs.GroupNodes.{name_found}
+use proofs.Searches.{gap_in}
 use Rattle.scope_core.proofs.group_nodes.place_of.Goals as goal
 
 pub returns-clause-found : goal.returns-clause-found

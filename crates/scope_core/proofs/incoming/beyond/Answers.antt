@@ -1,10 +1,9 @@
-use Rattle.scope_core.proofs.Words.{◌≡◌, ◌∷◌, ◌++◌, ◌+◌, ◌-◌, ◌∙◌, ap, sym, subst, arith, drop}
-use Rattle.scope_core.proofs.Words.{drop_more, Rises, counted_cmp, AllByRecursion, [], times_beyond}
-use Rattle.scope_core.proofs.Words.{picked}
-use Rattle.scope_core.proofs.Merges.{IsCountedAs, rises_drop, low_all, low_itself, picked_more}
-use Rattle.scope_core.proofs.Merges.{picked_none}
-use Rattle.scope_core.proofs.incoming.beyond.Goals.{then-count-gt0+in_ok-row+in_ok-push}
+use Rattle.scope_core.proofs
+use proofs.Words.{AllByRecursion, ap, arith, counted_cmp, drop, drop_more, picked, Rises, subst}
+use proofs.Words.{sym, times_beyond, [], ◌++◌, ◌+◌, ◌-◌, ◌∙◌, ◌∷◌, ◌≡◌}
+use proofs.Merges.{IsCountedAs, low_all, low_itself, picked_more, picked_none, rises_drop}
 use Rattle.scope_core.proofs.incoming.beyond.Goals.{else-count-gt0}
+use Rattle.scope_core.proofs.incoming.beyond.Goals.{then-count-gt0+in_ok-row+in_ok-push}
 use Rattle.scope_core.proofs.incoming.beyond.Goals as goal
 
 pub loop-counted-preserved : goal.loop-counted-preserved

@@ -1,6 +1,6 @@
-use Rattle.scope_core.proofs.Words.{◌≡◌, ◌++◌, drop, Rises, counted_cmp, AllByRecursion}
-use Rattle.scope_core.proofs.Words.{times_beyond, picked}
-use Rattle.scope_core.proofs.Merges.{IsCountedAs}
+use Rattle.scope_core.proofs
+use proofs.Words.{AllByRecursion, counted_cmp, drop, picked, Rises, times_beyond, ◌++◌, ◌≡◌}
+use proofs.Merges.{IsCountedAs}
 use Rattle.scope_core.proofs.incoming.beyond.Given as goal
 
 -- what is more of the rows so far and to come; those left of the others count for the latter as all

@@ -1,5 +1,6 @@
-use Rattle.scope_core.proofs.Words.{◌≡◌, ◌-◌, ◌<◌, arith, length, refl, vec_len}
-use Rattle.scope_core.proofs.Counting.{count_room, last_again, no_last, only_row}
+use Rattle.scope_core.proofs
+use proofs.Words.{arith, length, refl, vec_len, ◌-◌, ◌<◌, ◌≡◌}
+use proofs.Counting.{count_room, last_again, no_last, only_row}
 use Rattle.scope_core.proofs.incoming.count_again.Goals as goal
 
 pub overflow_add-last : goal.overflow_add-last

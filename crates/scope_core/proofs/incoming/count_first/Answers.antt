@@ -1,5 +1,6 @@
-use Rattle.scope_core.proofs.Words.{sym, true, false}
-use Rattle.scope_core.proofs.Merges.{first_counted}
+use Rattle.scope_core.proofs
+use proofs.Words.{false, sym, true}
+use proofs.Merges.{first_counted}
 use Rattle.scope_core.proofs.incoming.count_first.Goals as goal
 
 pub returns-then-eq : goal.returns-then-eq

@@ -1,9 +1,10 @@
-use Rattle.scope_core.proofs.Words.{◌≡◌, ◌∷◌, [], ◌++◌, ◌+◌, ◌-◌, ap, sym, subst, arith, drop}
-use Rattle.scope_core.proofs.Words.{drop_more, length, Rises, counted_cmp, AllByRecursion, row_cmp}
-use Rattle.scope_core.proofs.Words.{◌∙◌, Less, HoldsAt, AreCounted, Adds, Counted, HasRoomFor}
-use Rattle.scope_core.proofs.Counting.{new_last, new_tally, added_next, has_room}
-use Rattle.scope_core.proofs.incoming.counted_in_order.Goals.{in-Less+in_ok-try_clone-in-Less+in_ok-push-in-Less}
+use Rattle.scope_core.proofs
+use proofs.Words.{Adds, AllByRecursion, ap, AreCounted, arith, Counted, counted_cmp, drop}
+use proofs.Words.{drop_more, HasRoomFor, HoldsAt, length, Less, Rises, row_cmp, subst, sym, []}
+use proofs.Words.{◌++◌, ◌+◌, ◌-◌, ◌∙◌, ◌∷◌, ◌≡◌}
+use proofs.Counting.{added_next, has_room, new_last, new_tally}
 use Rattle.scope_core.proofs.incoming.counted_in_order.Goals.{in-Equal}
+use Rattle.scope_core.proofs.incoming.counted_in_order.Goals.{in-Less+in_ok-try_clone-in-Less+in_ok-push-in-Less}
 use Rattle.scope_core.proofs.incoming.counted_in_order.Goals as goal
 
 pub loop-row-preserved : goal.loop-row-preserved

@@ -1,5 +1,5 @@
-use Rattle.scope_core.proofs.Words.{◌≡◌, ◌+◌, Bool, Row, drop, how_many, tally, Rises, counted_cmp}
-use Rattle.scope_core.proofs.Words.{AreCounted}
+use Rattle.scope_core.proofs
+use proofs.Words.{AreCounted, Bool, counted_cmp, drop, how_many, Rises, Row, tally, ◌+◌, ◌≡◌}
 use Rattle.scope_core.proofs.incoming.counted_in_order.Given as goal
 
 -- those so far rise, and are counted; with the rows to come they are all

@@ -1,5 +1,6 @@
-use Rattle.scope_core.proofs.Words.{◌∙◌, ap, arith, ◌+◌, is_of_node}
-use Rattle.scope_core.proofs.Counting.{sorted_as_many}
+use Rattle.scope_core.proofs
+use proofs.Words.{ap, arith, is_of_node, ◌+◌, ◌∙◌}
+use proofs.Counting.{sorted_as_many}
 use Rattle.scope_core.proofs.incoming.counted_rows.Goals as goal
 
 pub counted_in_order-requires-2 : goal.counted_in_order-requires-2

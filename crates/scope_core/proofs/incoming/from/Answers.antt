@@ -1,6 +1,7 @@
-use Rattle.scope_core.proofs.Words.{◌≡◌, arith, subst, Less, Rises, counted_cmp, AllByRecursion}
-use Rattle.scope_core.proofs.Words.{drop, row_cmp, sym, ◌≢◌}
-use Rattle.scope_core.proofs.Merges.{above_all}
+use Rattle.scope_core.proofs
+use proofs.Words.{AllByRecursion, arith, counted_cmp, drop, Less, Rises, row_cmp, subst, sym, ◌≡◌}
+use proofs.Words.{◌≢◌}
+use proofs.Merges.{above_all}
 use Rattle.scope_core.proofs.incoming.from.Goals as goal
 
 pub returns-then-ge-clause-first : goal.returns-then-ge-clause-first

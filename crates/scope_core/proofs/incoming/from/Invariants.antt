@@ -1,5 +1,5 @@
-use Rattle.scope_core.proofs.Words.{◌≡◌, Less, length, Row, row_cmp, Rises, counted_cmp, tally}
-use Rattle.scope_core.proofs.Words.{is_row, ◌≢◌}
+use Rattle.scope_core.proofs
+use proofs.Words.{counted_cmp, is_row, length, Less, Rises, Row, row_cmp, tally, ◌≡◌, ◌≢◌}
 use Rattle.scope_core.proofs.incoming.from.Given as goal
 
 -- those left rise, and rows that aren't lower are counted among them as among all

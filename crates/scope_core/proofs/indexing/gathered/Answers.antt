@@ -1,5 +1,6 @@
-use Rattle.scope_core.proofs.Words.{arith, mentions}
-use Rattle.scope_core.proofs.Indexed.{gather_more}
+use Rattle.scope_core.proofs
+use proofs.Words.{arith, mentions}
+use proofs.Indexed.{gather_more}
 use Rattle.scope_core.proofs.indexing.gathered.Goals as goal
 
 pub loop-node-preserved : goal.loop-node-preserved

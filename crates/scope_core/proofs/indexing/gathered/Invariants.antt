@@ -1,5 +1,6 @@
-use Rattle.scope_core.proofs.Words.{◌≡◌, ◌≤◌, [], cond, nat_lt, how_many, same, take, mentions}
-use Rattle.scope_core.proofs.Words.{tally, is_row, Pid, Ascends, pid_cmp}
+use Rattle.scope_core.proofs
+use proofs.Words.{Ascends, cond, how_many, is_row, mentions, nat_lt, Pid, pid_cmp, same, take}
+use proofs.Words.{tally, [], ◌≡◌, ◌≤◌}
 use Rattle.scope_core.proofs.indexing.gathered.Given as goal
 
 -- the processes of the nodes so far; those of the first in order

@@ -1,6 +1,7 @@
-use Rattle.scope_core.proofs.Words.{times_named}
-use Rattle.scope_core.proofs.Outcomes.{on_err}
-use Rattle.scope_core.proofs.Indexed.{put_some}
+use Rattle.scope_core.proofs
+use proofs.Words.{times_named}
+use proofs.Outcomes.{on_err}
+use proofs.Indexed.{put_some}
 use Rattle.scope_core.proofs.indexing.put_all.Goals as goal
 
 pub returns-in_err-put-clause-some : goal.returns-in_err-put-clause-some

@@ -1,4 +1,4 @@
-use Rattle.scope_core.proofs.Words.{◌≡◌, ◌&&◌, cond, same, take, List, ℕ, times_named, is_named}
+use Rattle.scope_core.proofs.Words.{cond, is_named, List, same, take, times_named, ℕ, ◌&&◌, ◌≡◌}
 use Rattle.scope_core.proofs.indexing.put_all.Given as goal
 
 -- the node is one of each so far

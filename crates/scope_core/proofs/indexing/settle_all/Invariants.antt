@@ -1,5 +1,5 @@
-use Rattle.scope_core.proofs.Words.{◌≡◌, ◌&&◌, cond, not, same, take, List, ℕ, times_named}
-use Rattle.scope_core.proofs.Words.{has_members, is_named}
+use Rattle.scope_core.proofs
+use proofs.Words.{cond, has_members, is_named, List, not, same, take, times_named, ℕ, ◌&&◌, ◌≡◌}
 use Rattle.scope_core.proofs.indexing.settle_all.Given as goal
 
 -- those so far are settled

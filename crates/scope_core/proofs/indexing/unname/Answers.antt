@@ -1,6 +1,6 @@
-use Rattle.scope_core.proofs.Words.{◌≡◌, ◌∙◌, ap, arith, true, has_members, list_any, same}
-use Rattle.scope_core.proofs.Words.{same_decides}
-use Rattle.scope_core.proofs.Indexed.{got_named}
+use Rattle.scope_core.proofs
+use proofs.Words.{ap, arith, has_members, list_any, same, same_decides, true, ◌∙◌, ◌≡◌}
+use proofs.Indexed.{got_named}
 use Rattle.scope_core.proofs.indexing.unname.Goals as goal
 
 pub returns-clause-own : goal.returns-clause-own

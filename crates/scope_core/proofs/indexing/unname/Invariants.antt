@@ -1,4 +1,4 @@
-use Rattle.scope_core.proofs.Words.{◌≡◌, ◌&&◌, cond, list_any, same, List, ℕ, times_named}
+use Rattle.scope_core.proofs.Words.{cond, List, list_any, same, times_named, ℕ, ◌&&◌, ◌≡◌}
 use Rattle.scope_core.proofs.indexing.unname.Given as goal
 
 -- once the node is taken out of the groups to come too, it is out of all

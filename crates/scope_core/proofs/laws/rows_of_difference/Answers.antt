@@ -1,4 +1,4 @@
-use Rattle.scope_core.proofs.Members.{left_listing, joined_listing}
+use Rattle.scope_core.proofs.Members.{joined_listing, left_listing}
 use Rattle.scope_core.proofs.laws.rows_of_difference.Goals as goal
 
 pub returns : goal.returns

@@ -1,5 +1,6 @@
-use Rattle.scope_core.proofs.Words.{take_all, ◌∙◌}
-use Rattle.scope_core.proofs.Between.{all_emptied}
+use Rattle.scope_core.proofs
+use proofs.Words.{take_all, ◌∙◌}
+use proofs.Between.{all_emptied}
 use Rattle.scope_core.proofs.leaving.all_gone.Goals as goal
 
 pub returns : goal.returns

@@ -1,4 +1,4 @@
-use Rattle.scope_core.proofs.Words.{◌≡◌, map, take, AllByRecursion, IsEmptied}
+use Rattle.scope_core.proofs.Words.{AllByRecursion, IsEmptied, map, take, ◌≡◌}
 use Rattle.scope_core.proofs.leaving.all_gone.Given as goal
 
 -- the groups so far are emptied

@@ -1,6 +1,7 @@
-use Rattle.scope_core.proofs.Words.{arith, ap, sym, subst, ◌∙◌, ◌+◌, ◌++◌, min, Pid, pid_cmp}
-use Rattle.scope_core.proofs.Words.{Ascends, mentions, tally, is_row}
-use Rattle.scope_core.proofs.Mentioned.{ascends_on, counts_on}
+use Rattle.scope_core.proofs
+use proofs.Words.{ap, arith, Ascends, is_row, mentions, min, Pid, pid_cmp, subst, sym, tally, ◌++◌}
+use proofs.Words.{◌+◌, ◌∙◌}
+use proofs.Mentioned.{ascends_on, counts_on}
 use Rattle.scope_core.proofs.leaving.gone_in_order.Goals as goal
 
 pub loop-pid-preserved : goal.loop-pid-preserved

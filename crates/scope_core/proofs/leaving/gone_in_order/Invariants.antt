@@ -1,5 +1,5 @@
-use Rattle.scope_core.proofs.Words.{◌≡◌, ◌+◌, ◌++◌, min, length, Pid, pid_cmp, Ascends, mentions}
-use Rattle.scope_core.proofs.Words.{tally, is_row}
+use Rattle.scope_core.proofs
+use proofs.Words.{Ascends, is_row, length, mentions, min, Pid, pid_cmp, tally, ◌++◌, ◌+◌, ◌≡◌}
 use Rattle.scope_core.proofs.leaving.gone_in_order.Given as goal
 
 -- those that are gone so far, and those of the rest that go, are all that go

@@ -1,5 +1,6 @@
-use Rattle.scope_core.proofs.Words.{rules, IsPartitionPoint-from_clause, same_pid}
-use Rattle.scope_core.proofs.Mentioned.{run_partitions, front_is, front_counts}
+use Rattle.scope_core.proofs
+use proofs.Words.{IsPartitionPoint-from_clause, rules, same_pid}
+use proofs.Mentioned.{front_counts, front_is, run_partitions}
 use Rattle.scope_core.proofs.leaving.run_of.Goals as goal
 
 pub returns : goal.returns

@@ -1,4 +1,4 @@
-use Rattle.scope_core.proofs.Words.{◌≤◌, take, length, IsLowered}
+use Rattle.scope_core.proofs.Words.{IsLowered, length, take, ◌≤◌}
 use Rattle.scope_core.proofs.lowering.can_lower.Given as goal
 
 -- the first rows are lowered still

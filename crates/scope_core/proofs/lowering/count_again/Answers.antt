@@ -1,5 +1,6 @@
-use Rattle.scope_core.proofs.Words.{sym}
-use Rattle.scope_core.proofs.HashedWrites.{set_absent}
+use Rattle.scope_core.proofs
+use proofs.Words.{sym}
+use proofs.HashedWrites.{set_absent}
 use Rattle.scope_core.proofs.lowering.count_again.Goals as goal
 
 pub returns-in_default : goal.returns-in_default

@@ -1,6 +1,7 @@
-use Rattle.scope_core.proofs.Words.{◌≡◌, ◌∙◌, ◌-◌, ap, sym, arith, suc, Some, same_row, is_some}
-use Rattle.scope_core.proofs.Words.{unwrap_or, lookup, set_value}
-use Rattle.scope_core.proofs.HashedWrites.{set_back, set_twice, lookup_set}
+use Rattle.scope_core.proofs
+use proofs.Words.{ap, arith, is_some, lookup, same_row, set_value, Some, suc, sym, unwrap_or, ◌-◌}
+use proofs.Words.{◌∙◌, ◌≡◌}
+use proofs.HashedWrites.{lookup_set, set_back, set_twice}
 use Rattle.scope_core.proofs.lowering.lower.Goals as goal
 
 pub returns-then-count-eq0-clause-none : goal.returns-then-count-eq0-clause-none

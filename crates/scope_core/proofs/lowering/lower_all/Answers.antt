@@ -1,5 +1,6 @@
-use Rattle.scope_core.proofs.Words.{◌≡◌, ◌+◌, ap, sym, subst, arith, get_or}
-use Rattle.scope_core.proofs.LoweredRows.{lowered_more}
+use Rattle.scope_core.proofs
+use proofs.Words.{ap, arith, get_or, subst, sym, ◌+◌, ◌≡◌}
+use proofs.LoweredRows.{lowered_more}
 use Rattle.scope_core.proofs.lowering.lower_all.Goals as goal
 
 pub loop-row-preserved : goal.loop-row-preserved

@@ -1,4 +1,4 @@
-use Rattle.scope_core.proofs.Words.{◌≡◌, take, IsLowered}
+use Rattle.scope_core.proofs.Words.{IsLowered, take, ◌≡◌}
 use Rattle.scope_core.proofs.lowering.lower_all.Given as goal
 
 -- all rows so far are lowered

@@ -1,5 +1,6 @@
-use Rattle.scope_core.proofs.Words.{ap, sym, Some, None, ◌∙◌, is_some, eq_by_cmp}
-use Rattle.scope_core.proofs.NestedMaps.{set_at, same_at, after_two}
+use Rattle.scope_core.proofs
+use proofs.Words.{ap, eq_by_cmp, is_some, None, Some, sym, ◌∙◌}
+use proofs.NestedMaps.{after_two, same_at, set_at}
 use Rattle.scope_core.proofs.nested_map.pop.Goals as goal
 
 pub returns-in_default-pop_first-clause-same : goal.returns-in_default-pop_first-clause-same

@@ -1,5 +1,6 @@
-use Rattle.scope_core.proofs.Words.{ap, sym, Some, on_err_weaker, on_ok_weaker, is_some, eq_by_cmp}
-use Rattle.scope_core.proofs.NestedMaps.{set_at, same_at}
+use Rattle.scope_core.proofs
+use proofs.Words.{ap, eq_by_cmp, is_some, on_err_weaker, on_ok_weaker, Some, sym}
+use proofs.NestedMaps.{same_at, set_at}
 use Rattle.scope_core.proofs.nested_map.put.Goals as goal
 
 pub returns-clause-ok : goal.returns-clause-ok

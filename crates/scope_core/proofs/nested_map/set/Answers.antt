@@ -1,5 +1,6 @@
-use Rattle.scope_core.proofs.Words.{ap, sym, Some, is_some, eq_by_cmp}
-use Rattle.scope_core.proofs.NestedMaps.{set_at}
+use Rattle.scope_core.proofs
+use proofs.Words.{ap, eq_by_cmp, is_some, Some, sym}
+use proofs.NestedMaps.{set_at}
 use Rattle.scope_core.proofs.nested_map.set.Goals as goal
 
 pub returns : goal.returns

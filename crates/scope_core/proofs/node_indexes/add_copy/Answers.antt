@@ -1,12 +1,11 @@
-use Rattle.scope_core.proofs.Words.{◌≡◌, ◌||◌, ◌&&◌, ◌-◌, ◌+◌, ◌<◌, ◌∷◌, [], ◌++◌, ◌∙◌, ap, sym}
-use Rattle.scope_core.proofs.Words.{on_ok_weaker, subst, arith, refl, length, vec_len, Rises}
-use Rattle.scope_core.proofs.Words.{AllByRecursion, Less, set, row_cmp, keys_of, eq_by_cmp, is_eq}
-use Rattle.scope_core.proofs.Words.{ProcessKey, key_cmp, is_held, IsLastKey, One}
+use Rattle.scope_core.proofs
+use proofs.Words.{AllByRecursion, ap, arith, eq_by_cmp, is_eq, is_held, IsLastKey, key_cmp, keys_of}
+use proofs.Words.{length, Less, on_ok_weaker, One, ProcessKey, refl, Rises, row_cmp, set, subst}
+use proofs.Words.{sym, vec_len, [], ◌&&◌, ◌++◌, ◌+◌, ◌-◌, ◌<◌, ◌||◌, ◌∙◌, ◌∷◌, ◌≡◌}
 use Rattle.std.proofs.lemmas.List.{set-get_or}
-use Rattle.scope_core.proofs.HashedRows.{keys_total, same_key_decides}
-use Rattle.scope_core.proofs.Pushed.{all_below, rises_push, last_pushed}
-use Rattle.scope_core.proofs.Copies.{held_set, keys_set, last_key, keys_push, held_push}
-use Rattle.scope_core.proofs.Copies.{behind_last, none_below}
+use proofs.HashedRows.{keys_total, same_key_decides}
+use proofs.Pushed.{all_below, last_pushed, rises_push}
+use proofs.Copies.{behind_last, held_push, held_set, keys_push, keys_set, last_key, none_below}
 use Rattle.scope_core.proofs.node_indexes.add_copy.Goals.{in-Some+else-eq, in_default}
 use Rattle.scope_core.proofs.node_indexes.add_copy.Goals as goal
 

@@ -1,4 +1,4 @@
-use Rattle.scope_core.proofs.Words.{◌≡◌, take, keyed}
+use Rattle.scope_core.proofs.Words.{keyed, take, ◌≡◌}
 use Rattle.scope_core.proofs.node_indexes.copies_of.Given as goal
 
 -- those of the rows so far

@@ -1,5 +1,6 @@
-use Rattle.scope_core.proofs.Words.{◌∙◌, same_row, insert_entry-new}
-use Rattle.scope_core.proofs.RowEntries.{next_fresh, next_in}
+use Rattle.scope_core.proofs
+use proofs.Words.{insert_entry-new, same_row, ◌∙◌}
+use proofs.RowEntries.{next_fresh, next_in}
 use Rattle.scope_core.proofs.node_indexes.counts_of.Goals as goal
 
 pub loop-row-preserved : goal.loop-row-preserved

@@ -1,4 +1,4 @@
-use Rattle.scope_core.proofs.Words.{◌≡◌, ◌++◌, entries_in}
+use Rattle.scope_core.proofs.Words.{entries_in, ◌++◌, ◌≡◌}
 use Rattle.scope_core.proofs.node_indexes.counts_of.Given as goal
 
 -- with those to come, all are there

@@ -1,5 +1,6 @@
-use Rattle.scope_core.proofs.Words.{◌≡◌, ◌||◌, false, is_gt, AllByRecursion, Rises, Ascends, Row}
-use Rattle.scope_core.proofs.Words.{keys_of, ProcessKey, key_cmp, is_held, is_keyed, IsLastKey}
+use Rattle.scope_core.proofs
+use proofs.Words.{AllByRecursion, Ascends, false, is_gt, is_held, is_keyed, IsLastKey, key_cmp}
+use proofs.Words.{keys_of, ProcessKey, Rises, Row, ◌||◌, ◌≡◌}
 use Rattle.std.specs.Vec.Iter.{into_iter_items}
 use Rattle.scope_core.proofs.node_indexes.folded.Given as goal
 

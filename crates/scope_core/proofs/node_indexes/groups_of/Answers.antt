@@ -1,7 +1,8 @@
-use Rattle.scope_core.proofs.Words.{◌≡◌, ◌∷◌, [], ◌++◌, ◌∙◌, ap, sym, subst, arith, append_assoc}
-use Rattle.scope_core.proofs.Words.{is_gt, false, text_cmp, append-nil, found, key_cmp}
-use Rattle.scope_core.proofs.Told.{Run, run_at, rises_front, rises_back, none_below_first, itself}
-use Rattle.scope_core.proofs.Making.{Indexes, indexes_none, indexes_next, first_above}
+use Rattle.scope_core.proofs
+use proofs.Words.{ap, append-nil, append_assoc, arith, false, found, is_gt, key_cmp, subst, sym}
+use proofs.Words.{text_cmp, [], ◌++◌, ◌∙◌, ◌∷◌, ◌≡◌}
+use proofs.Told.{itself, none_below_first, rises_back, rises_front, Run, run_at}
+use proofs.Making.{first_above, Indexes, indexes_next, indexes_none}
 use Rattle.scope_core.proofs.node_indexes.groups_of.Goals.{After-split_at}
 use Rattle.scope_core.proofs.node_indexes.groups_of.Goals as goal
 

@@ -1,5 +1,6 @@
-use Rattle.scope_core.proofs.Words.{ℕ, List, ◌++◌, length, Rises, counted_cmp, ProcessKey, SmallMap}
-use Rattle.scope_core.proofs.Making.{Indexes}
+use Rattle.scope_core.proofs
+use proofs.Words.{counted_cmp, length, List, ProcessKey, Rises, SmallMap, ℕ, ◌++◌}
+use proofs.Making.{Indexes}
 use Rattle.scope_core.proofs.node_indexes.groups_of.Given as goal
 
 -- with an index of the rows to come, there is one of all

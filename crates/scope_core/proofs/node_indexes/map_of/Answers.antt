@@ -1,8 +1,8 @@
-use Rattle.scope_core.proofs.Words.{◌∙◌, refl, arith, eq_by_cmp}
+use Rattle.scope_core.proofs.Words.{arith, eq_by_cmp, refl, ◌∙◌}
 use Rattle.std.specs.BTreeMap.{IsFromIterResult}
 use Rattle.std.proofs.lemmas.Map.Made.{update_all_none}
 use Rattle.std.proofs.lemmas.Cmp.{eq_by_cmp_equiv}
-use Rattle.std.proofs.lemmas.Iterator.Adapters.{YieldsList-from_vec, fact_from_collect}
+use Rattle.std.proofs.lemmas.Iterator.Adapters.{fact_from_collect, YieldsList-from_vec}
 use Rattle.scope_core.proofs.node_indexes.map_of.Goals as goal
 
 pub returns : goal.returns

@@ -1,4 +1,4 @@
-use Rattle.scope_core.proofs.Words.{◌≡◌, take, keyed_maps}
+use Rattle.scope_core.proofs.Words.{keyed_maps, take, ◌≡◌}
 use Rattle.scope_core.proofs.node_indexes.maps_of.Given as goal
 
 -- those of the rows so far

@@ -1,8 +1,8 @@
-use Rattle.scope_core.proofs.Words.{◌∷◌, [], ◌∙◌, ap, sym, subst, arith, cond, Some, None, same_row}
-use Rattle.scope_core.proofs.Words.{take_all, lookup, keys_of, eq_by_cmp, is_eq, pid_of, key_cmp}
-use Rattle.scope_core.proofs.Words.{entries_in}
+use Rattle.scope_core.proofs
+use proofs.Words.{ap, arith, cond, entries_in, eq_by_cmp, is_eq, key_cmp, keys_of, lookup, None}
+use proofs.Words.{pid_of, same_row, Some, subst, sym, take_all, [], ◌∙◌, ◌∷◌}
 use Rattle.std.specs.List.{IsDistinct}
-use Rattle.scope_core.proofs.Making.{OfOne, pairs, pairs_lookup, pairs_apart, alone}
+use proofs.Making.{alone, OfOne, pairs, pairs_apart, pairs_lookup}
 use Rattle.scope_core.proofs.node_indexes.members_of.Goals as goal
 
 pub returns-in-len1 : goal.returns-in-len1

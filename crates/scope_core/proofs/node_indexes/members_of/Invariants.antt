@@ -1,5 +1,6 @@
-use Rattle.scope_core.proofs.Words.{◌≡◌, take}
-use Rattle.scope_core.proofs.Making.{pairs}
+use Rattle.scope_core.proofs
+use proofs.Words.{take, ◌≡◌}
+use proofs.Making.{pairs}
 use Rattle.scope_core.proofs.node_indexes.members_of.Given as goal
 
 -- those of the rows so far

@@ -1,7 +1,7 @@
-use Rattle.scope_core.proofs.Words.{◌∙◌, ap, sym, subst, refl, rules, Rises, always_returns_same}
-use Rattle.scope_core.proofs.Words.{keys_of, get, key_cmp, is_held}
-use Rattle.scope_core.proofs.Copies.{copies_found, keyed_sorted, sorted_keys, maps_are}
-use Rattle.scope_core.proofs.Copies.{keys_of_maps}
+use Rattle.scope_core.proofs
+use proofs.Words.{always_returns_same, ap, get, is_held, key_cmp, keys_of, refl, Rises, rules}
+use proofs.Words.{subst, sym, ◌∙◌}
+use proofs.Copies.{copies_found, keyed_sorted, keys_of_maps, maps_are, sorted_keys}
 use Rattle.scope_core.proofs.node_indexes.processes_of.Goals as goal
 
 pub returns-then-processes_rise : goal.returns-then-processes_rise

@@ -1,6 +1,7 @@
-use Rattle.scope_core.proofs.Words.{◌≡◌, ◌∷◌, ◌++◌, ◌+◌, ◌∙◌, ap, sym, subst, arith, drop}
-use Rattle.scope_core.proofs.Words.{drop_more, Rises, refl, option_to_list, key_cmp, process_keys}
-use Rattle.scope_core.proofs.Copies.{rises_next}
+use Rattle.scope_core.proofs
+use proofs.Words.{ap, arith, drop, drop_more, key_cmp, option_to_list, process_keys, refl, Rises}
+use proofs.Words.{subst, sym, ◌++◌, ◌+◌, ◌∙◌, ◌∷◌, ◌≡◌}
+use proofs.Copies.{rises_next}
 use Rattle.scope_core.proofs.node_indexes.processes_rise.Goals as goal
 
 pub loop-counted-preserved : goal.loop-counted-preserved

@@ -1,4 +1,4 @@
-use Rattle.scope_core.proofs.Words.{◌++◌, drop, Rises, option_to_list, key_cmp, process_keys}
+use Rattle.scope_core.proofs.Words.{drop, key_cmp, option_to_list, process_keys, Rises, ◌++◌}
 use Rattle.scope_core.proofs.node_indexes.processes_rise.Given as goal
 
 -- where the last key and those to come rise, all do

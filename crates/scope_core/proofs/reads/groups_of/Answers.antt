@@ -1,5 +1,6 @@
-use Rattle.scope_core.proofs.Words.{drop_more, drop, ◌+◌, arith}
-use Rattle.scope_core.proofs.Groups.{heads_next}
+use Rattle.scope_core.proofs
+use proofs.Words.{arith, drop, drop_more, ◌+◌}
+use proofs.Groups.{heads_next}
 use Rattle.scope_core.proofs.reads.groups_of.Goals as goal
 
 pub loop-counted-preserved : goal.loop-counted-preserved

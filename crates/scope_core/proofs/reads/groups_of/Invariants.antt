@@ -1,4 +1,4 @@
-use Rattle.scope_core.proofs.Words.{drop, ◌≡◌, ◌++◌, None, heads, last_of}
+use Rattle.scope_core.proofs.Words.{drop, heads, last_of, None, ◌++◌, ◌≡◌}
 use Rattle.scope_core.proofs.reads.groups_of.Given as goal
 
 -- the groups so far, and those of the rows to come, are all

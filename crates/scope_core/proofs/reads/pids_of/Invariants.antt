@@ -1,4 +1,4 @@
-use Rattle.scope_core.proofs.Words.{drop, ◌≡◌, ◌++◌, spread}
+use Rattle.scope_core.proofs.Words.{drop, spread, ◌++◌, ◌≡◌}
 use Rattle.scope_core.proofs.reads.pids_of.Given as goal
 
 -- the processes of the rows so far, and of those to come

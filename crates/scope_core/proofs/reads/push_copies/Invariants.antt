@@ -1,4 +1,4 @@
-use Rattle.scope_core.proofs.Words.{◌≡◌, ◌++◌, replicate}
+use Rattle.scope_core.proofs.Words.{replicate, ◌++◌, ◌≡◌}
 use Rattle.scope_core.proofs.reads.push_copies.Given as goal
 
 -- the copies so far

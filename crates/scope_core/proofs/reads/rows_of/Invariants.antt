@@ -1,4 +1,4 @@
-use Rattle.scope_core.proofs.Words.{drop, ◌≡◌, ◌++◌, spread}
+use Rattle.scope_core.proofs.Words.{drop, spread, ◌++◌, ◌≡◌}
 use Rattle.scope_core.proofs.reads.rows_of.Given as goal
 
 -- the copies so far, and those to come

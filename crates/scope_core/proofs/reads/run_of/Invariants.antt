@@ -1,4 +1,4 @@
-use Rattle.scope_core.proofs.Words.{◌≡◌, true, AllWithin, is_in}
+use Rattle.scope_core.proofs.Words.{AllWithin, is_in, true, ◌≡◌}
 use Rattle.scope_core.proofs.reads.run_of.Given as goal
 
 -- the rows so far are of the group

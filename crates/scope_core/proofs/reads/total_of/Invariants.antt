@@ -1,4 +1,4 @@
-use Rattle.scope_core.proofs.Words.{drop, ◌≡◌, ◌+◌, total}
+use Rattle.scope_core.proofs.Words.{drop, total, ◌+◌, ◌≡◌}
 use Rattle.scope_core.proofs.reads.total_of.Given as goal
 
 -- the total so far, and that of the rows to come

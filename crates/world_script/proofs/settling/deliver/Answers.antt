@@ -1,6 +1,6 @@
 use Rattle.std.proofs.Common.{refl}
 use Rattle.pg_world.specs.declared.world_step.WorldStep.{WorldStep}
-use Rattle.world_script.proofs.Settled.{moves, comes, comes_not}
+use Rattle.world_script.proofs.Settled.{comes, comes_not, moves}
 use Rattle.world_script.proofs.settling.deliver.Goals as goal
 
 pub returns-clause-ok : goal.returns-clause-ok

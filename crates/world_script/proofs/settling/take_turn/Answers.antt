@@ -1,5 +1,5 @@
-use Rattle.std.proofs.Common.{if◌then◌else◌, arith}
-use Rattle.world_script.proofs.Settled.{settles_on, on_err}
+use Rattle.std.proofs.Common.{arith, if◌then◌else◌}
+use Rattle.world_script.proofs.Settled.{on_err, settles_on}
 use Rattle.world_script.proofs.settling.take_turn.Goals as goal
 
 pub returns-in_err-came-clause-memory : goal.returns-in_err-came-clause-memory

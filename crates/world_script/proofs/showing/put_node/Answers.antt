@@ -1,4 +1,4 @@
-use Rattle.std.proofs.Common.{◌≡◌, ◌++◌, ◌∙◌, Err, OnOk, sym, subst}
+use Rattle.std.proofs.Common.{Err, OnOk, subst, sym, ◌++◌, ◌∙◌, ◌≡◌}
 use Rattle.policy_audit.specs.declared.event.Event.{Event}
 use Rattle.node_core.specs.Reading.{IsAnswer}
 use Rattle.world_script.specs.Showing.{node_text}

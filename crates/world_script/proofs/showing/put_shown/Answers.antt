@@ -1,4 +1,4 @@
-use Rattle.std.proofs.Common.{◌++◌, [], ◌∙◌, ap, codes, arith}
+use Rattle.std.proofs.Common.{ap, arith, codes, [], ◌++◌, ◌∙◌}
 use Rattle.std.specs.Option.{option_map_or}
 use Rattle.world_script.specs.Showing.{shown_text}
 use Rattle.world_script.proofs.Shown.{shows_on}

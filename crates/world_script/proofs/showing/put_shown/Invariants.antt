@@ -1,4 +1,4 @@
-use Rattle.std.proofs.Common.{◌≡◌, ◌++◌, take, codes}
+use Rattle.std.proofs.Common.{codes, take, ◌++◌, ◌≡◌}
 use Rattle.std.specs.List.{flat_map}
 use Rattle.world_script.specs.Showing.{shown_text}
 use Rattle.world_script.proofs.showing.put_shown.Given as goal

@@ -1,6 +1,7 @@
-use Rattle.std.proofs.Common.{sym, ◌∙◌, true≢false}
-use Rattle.admission_rules.proofs.NameLists.{allowed_decides}
-use Rattle.admission_rules.proofs.admission.Admission.is_allowed.Goals as goal
+use Rattle.admission_rules.proofs
+use Rattle.std.proofs.Common.{sym, true≢false, ◌∙◌}
+use proofs.NameLists.{allowed_decides}
+use proofs.admission.Admission.is_allowed.Goals as goal
 
 pub returns : goal.returns
 returns c =

@@ -1,9 +1,10 @@
-use Rattle.std.proofs.Common.{sym, ◌∙◌, arith, ap, is_some, true≢false}
+use Rattle.admission_rules.proofs
+use Rattle.std.proofs.Common.{ap, arith, is_some, sym, true≢false, ◌∙◌}
 use Rattle.std.proofs.lemmas.Result.{err_from_is_err_and}
-use Rattle.admission_rules.proofs.Peers.{more_peers}
-use Rattle.admission_rules.proofs.admission.Admission.set_cookie_for.Goals as goal
-use goal.{else-len-ge-MAX_PEERS-via-then-len-ge-MAX_PEERS+else-not-contains_key}
+use proofs.Peers.{more_peers}
 use goal.{else-len-ge-MAX_PEERS-via-else-len-ge-MAX_PEERS}
+use goal.{else-len-ge-MAX_PEERS-via-then-len-ge-MAX_PEERS+else-not-contains_key}
+use proofs.admission.Admission.set_cookie_for.Goals as goal
 
 pub returns-then-not-contains_key-clause-refused : goal.returns-then-not-contains_key-clause-refused
 returns-then-not-contains_key-clause-refused c = let more = more_peers _ _ c.args.node c.args.cookie

@@ -1,7 +1,8 @@
-use Rattle.std.proofs.Common.{◌≡◌, ◌++◌, ◌∷◌, [], ℕ, subst}
+use Rattle.group_monitors.proofs
+use Rattle.std.proofs.Common.{subst, ℕ, [], ◌++◌, ◌∷◌, ◌≡◌}
 use Rattle.group_monitors.specs.declared.monitor.Monitor.{Monitor}
-use Rattle.group_monitors.proofs.Words.{◌∙◌, nat_eq, insert_entry-new}
-use Rattle.group_monitors.proofs.Found.{free_not_found}
+use proofs.Words.{insert_entry-new, nat_eq, ◌∙◌}
+use proofs.Found.{free_not_found}
 use Rattle.group_monitors.proofs.monitors.Monitors.add.Goals as goal
 
 pub returns-clause-ok : goal.returns-clause-ok

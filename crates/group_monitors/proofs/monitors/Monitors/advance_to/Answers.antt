@@ -1,6 +1,7 @@
-use Rattle.group_monitors.proofs.Words.{◌≡◌, ◌∙◌, sym, ap, nat_eq, Some, is_some, monitor_of}
+use Rattle.group_monitors.proofs
+use proofs.Words.{ap, is_some, monitor_of, nat_eq, Some, sym, ◌∙◌, ◌≡◌}
 use Rattle.std.proofs.lemmas.Map.Steps.{set_value_same}
-use Rattle.group_monitors.proofs.Found.{own_found, other_found, none_found, moved}
+use proofs.Found.{moved, none_found, other_found, own_found}
 use Rattle.group_monitors.proofs.monitors.Monitors.advance_to.Goals as goal
 
 pub returns-in_default-clause-refused : goal.returns-in_default-clause-refused

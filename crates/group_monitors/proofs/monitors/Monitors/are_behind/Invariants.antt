@@ -1,4 +1,4 @@
-use Rattle.std.proofs.Common.{◌≡◌, nat_le}
+use Rattle.std.proofs.Common.{nat_le, ◌≡◌}
 use Rattle.std.specs.List.{list_all}
 use Rattle.group_monitors.specs.declared.monitor.Monitor.{Monitor}
 use Rattle.group_monitors.proofs.monitors.Monitors.are_behind.Given as goal

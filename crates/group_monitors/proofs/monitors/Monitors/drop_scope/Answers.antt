@@ -1,4 +1,4 @@
-use Rattle.group_monitors.proofs.Words.{rules, filter-RetainsPairs}
+use Rattle.group_monitors.proofs.Words.{filter-RetainsPairs, rules}
 use Rattle.group_monitors.proofs.monitors.Monitors.drop_scope.Goals as goal
 
 pub returns-clause-dropped : goal.returns-clause-dropped

@@ -1,7 +1,8 @@
-use Rattle.group_monitors.proofs.Words.{sym}
-use Rattle.group_monitors.proofs.Found.{own_found, other_found, none_found}
-use Rattle.group_monitors.proofs.monitors.Monitors.find.Goals as goal
+use Rattle.group_monitors.proofs
+use proofs.Words.{sym}
+use proofs.Found.{none_found, other_found, own_found}
 use goal.{in_default-via-in-Some+else-monitor-seat, in_default-via-in_default}
+use Rattle.group_monitors.proofs.monitors.Monitors.find.Goals as goal
 
 pub returns-in-Some-clause-ok : goal.returns-in-Some-clause-ok
 returns-in-Some-clause-ok c =

@@ -1,5 +1,6 @@
-use Rattle.group_monitors.proofs.Words.{◌≡◌, ◌∙◌, ap, Some, is_some, monitor_of}
-use Rattle.group_monitors.proofs.Found.{taken_away}
+use Rattle.group_monitors.proofs
+use proofs.Words.{ap, is_some, monitor_of, Some, ◌∙◌, ◌≡◌}
+use proofs.Found.{taken_away}
 use Rattle.group_monitors.proofs.monitors.Monitors.remove.Goals as goal
 
 pub returns-clause-ok : goal.returns-clause-ok

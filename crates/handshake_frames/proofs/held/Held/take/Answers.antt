@@ -1,6 +1,7 @@
+use Rattle.handshake_frames.proofs
 use Rattle.std.proofs.Common.{rules}
-use Rattle.handshake_frames.proofs.HeldLemmas.{body_begins}
-use Rattle.handshake_frames.proofs.held.Held.take.Goals as goal
+use proofs.HeldLemmas.{body_begins}
+use proofs.held.Held.take.Goals as goal
 
 pub returns-in_ok-taken-in-Length-clause-ok : goal.returns-in_ok-taken-in-Length-clause-ok
 returns-in_ok-taken-in-Length-clause-ok c =

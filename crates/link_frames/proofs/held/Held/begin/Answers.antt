@@ -1,6 +1,7 @@
-use Rattle.link_frames.proofs.Words.{arith, rules, ComesTooLong}
-use Rattle.link_frames.proofs.LinkLemmas.{length_not_too_long}
-use Rattle.link_frames.proofs.HeldLemmas.{body_begins}
+use Rattle.link_frames.proofs
+use proofs.Words.{arith, ComesTooLong, rules}
+use proofs.LinkLemmas.{length_not_too_long}
+use proofs.HeldLemmas.{body_begins}
 use Rattle.link_frames.specs.Held.{held_bytes}
 use Rattle.link_frames.proofs.held.Held.begin.Goals as goal
 

@@ -1,5 +1,6 @@
-use Rattle.link_frames.proofs.Words.{rules, ComesTooLong}
-use Rattle.link_frames.proofs.HeldLemmas.{body_goes_on, length_goes_on, body_not_too_long}
+use Rattle.link_frames.proofs
+use proofs.Words.{ComesTooLong, rules}
+use proofs.HeldLemmas.{body_goes_on, body_not_too_long, length_goes_on}
 use Rattle.link_frames.specs.Held.{held_bytes}
 use Rattle.link_frames.proofs.held.Held.take.Goals as goal
 

@@ -1,4 +1,4 @@
-use Rattle.link_frames.proofs.Words.{◌+◌, ◌++◌, ◌∙◌, ap, length, length-append, ℕ, arith, take_at}
+use Rattle.link_frames.proofs.Words.{ap, arith, length, length-append, take_at, ℕ, ◌++◌, ◌+◌, ◌∙◌}
 use Rattle.std.proofs.lemmas.Slice.{take-put_mid}
 use Rattle.link_frames.proofs.length_bytes.LengthBytes.of.Goals as goal
 

@@ -1,5 +1,6 @@
-use Rattle.node_core.proofs.Words.{same, sym, ◌∙◌, dialled_peer, KeptLink}
-use Rattle.node_core.proofs.LinkTests.{any_some}
+use Rattle.node_core.proofs
+use proofs.Words.{dialled_peer, KeptLink, same, sym, ◌∙◌}
+use proofs.LinkTests.{any_some}
 use Rattle.node_core.proofs.beside.BesideOtherLinks.is_dialled.Goals as goal
 
 pub returns : goal.returns

@@ -1,7 +1,7 @@
-use Rattle.node_core.proofs.Words.{ap, false, is_some, option_map_or, same, sym, ◌∙◌}
-use Rattle.node_core.proofs.Words.{up_peer, KeptLink}
-use Rattle.node_core.proofs.Found.{place_found}
-use Rattle.node_core.proofs.LinkTests.{any_some}
+use Rattle.node_core.proofs
+use proofs.Words.{ap, false, is_some, KeptLink, option_map_or, same, sym, up_peer, ◌∙◌}
+use proofs.Found.{place_found}
+use proofs.LinkTests.{any_some}
 use Rattle.node_core.proofs.beside.BesideOtherLinks.is_up.Goals as goal
 
 pub returns : goal.returns

@@ -1,9 +1,10 @@
-use Rattle.node_core.proofs.Words.{arith, ◌++◌, allow_list, different, le-leb, lt-leb, audit_of}
-use Rattle.node_core.proofs.Words.{follows_other, refl, Event, Reply, Rule}
-use Rattle.node_core.proofs.Answering.{accepts, refuses}
-use Rattle.node_core.proofs.Cookies.{names_follow, names_counted}
-use Rattle.node_core.proofs.Calm.{entered}
-use Rattle.node_core.proofs.Entered.{audit_next}
+use Rattle.node_core.proofs
+use proofs.Words.{allow_list, arith, audit_of, different, Event, follows_other, le-leb, lt-leb}
+use proofs.Words.{refl, Reply, Rule, ◌++◌}
+use proofs.Answering.{accepts, refuses}
+use proofs.Cookies.{names_counted, names_follow}
+use proofs.Calm.{entered}
+use proofs.Entered.{audit_next}
 use Rattle.node_core.proofs.kept.Kept.allow.Goals as goal
 
 pub returns-in-Ok : goal.returns-in-Ok
@@ -14,7 +15,9 @@ returns-in-Ok g c =
     let few = rw (c.in-Ok.ensures.ok, c.as_slice.ensures) at c.in-Ok.ensures.limits in
     accepts c.requires _ _ refl _ _ _ c.done.ensures refl
     (rw (c.in-Ok.ensures.ok, c.as_slice.ensures)
-    (entered t g.call.seat (Event.Allow names) refl c.requires.space (rw (le-leb (different (names ++ allow_list g.call.past)) 1024 (omega (arith, is, few)))) refl
+    (entered t g.call.seat (Event.Allow names) refl c.requires.space
+    (rw (le-leb (different (names ++ allow_list g.call.past)) 1024 (omega (arith, is, few))))
+    refl
     (λ its. (
       names_follow g.call.past c.args.self.now.admission t.admission g.call.seat Reply.Done
           names,
@@ -24,6 +27,11 @@ returns-in-Ok g c =
 
 pub returns-in-Err-AllowFull : goal.returns-in-Err-AllowFull
 returns-in-Err-AllowFull g c =
-    let over = rw (c.in-Err-AllowFull.field-0-is, c.as_slice.ensures) at c.in-Err-AllowFull.ensures.refused in
-    let is = names_counted g.call.past c.args.self.now.admission c.requires.keeps.follows.admission c.args.names.now in
-    rw c.in-Err-AllowFull.ensures.same (refuses c.requires _ Rule.AllowFull (rw (lt-leb (different (c.args.names.now ++ allow_list g.call.past)) 1024 (omega (arith, is, over)))) refl)
+    let over = rw (c.in-Err-AllowFull.field-0-is, c.as_slice.ensures) at
+    c.in-Err-AllowFull.ensures.refused in
+    let is = names_counted g.call.past c.args.self.now.admission c.requires.keeps.follows.admission
+    c.args.names.now in
+    rw c.in-Err-AllowFull.ensures.same
+    (refuses c.requires _ Rule.AllowFull
+    (rw (lt-leb (different (c.args.names.now ++ allow_list g.call.past)) 1024
+    (omega (arith, is, over)))) refl)

@@ -1,15 +1,17 @@
-use Rattle.node_core.proofs.Words.{audit_of, follows_removed, refl, Event, Rule}
+use Rattle.node_core.proofs
+use proofs.Words.{audit_of, Event, follows_removed, refl, Rule}
 use Rattle.group_monitors.proofs.FromPolicy.{follows_checked, follows_refused}
-use Rattle.node_core.proofs.Answering.{accepts, refuses}
-use Rattle.node_core.proofs.Calm.{entered}
-use Rattle.node_core.proofs.Entered.{audit_next}
+use proofs.Answering.{accepts, refuses}
+use proofs.Calm.{entered}
+use proofs.Entered.{audit_next}
 use Rattle.node_core.proofs.kept.Kept.demonitor.Goals as goal
 
 pub returns-in-Ok : goal.returns-in-Ok
 returns-in-Ok g c =
     let h = g.call.past in
     let t = c.requires.0.keeps.follows in
-    let holds = (follows_checked h c.args.self.now.monitors t.monitors g.call.seat c.args.number (rw c.requires.1 at c.in-Ok.ensures.ok.0)).1 in
+    let holds = (follows_checked h c.args.self.now.monitors t.monitors g.call.seat c.args.number
+    (rw c.requires.1 at c.in-Ok.ensures.ok.0)).1 in
     accepts c.requires.0 _ _ refl _ _ _ c.done.ensures refl (rw (c.in-Ok.ensures.ok.1, c.requires.1)
     (entered t g.call.seat (Event.Demonitor c.args.number) refl c.requires.0.space holds refl
     (λ its. (
@@ -20,4 +22,5 @@ returns-in-Ok g c =
 
 pub returns-in-Err : goal.returns-in-Err
 returns-in-Err g c = rw c.in-Err.ensures.same (refuses c.requires.0 _ Rule.NoMonitor
-    (follows_refused g.call.past c.args.self.now.monitors c.requires.0.keeps.follows.monitors g.call.seat c.args.number (rw c.requires.1 at c.in-Err.ensures.refused)).1 refl)
+    (follows_refused g.call.past c.args.self.now.monitors c.requires.0.keeps.follows.monitors
+    g.call.seat c.args.number (rw c.requires.1 at c.in-Err.ensures.refused)).1 refl)

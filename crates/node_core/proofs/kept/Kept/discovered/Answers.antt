@@ -1,9 +1,10 @@
-use Rattle.node_core.proofs.Words.{refl, ◌∙◌, Rule, sym}
-use Rattle.node_core.proofs.Answering.{accepts_alone, accepts_ending, refuses, wanted}
-use Rattle.node_core.proofs.MessageRefused.{calm}
-use Rattle.node_core.proofs.MessageRoom.{roomed_links, same_scope, follows_with, answered_now}
-use Rattle.node_core.proofs.MessageRoom.{asked_calm, few_told, holds}
-use Rattle.node_core.proofs.MessageSlow.{few_enough, fell_behind}
+use Rattle.node_core.proofs
+use proofs.Words.{refl, Rule, sym, ◌∙◌}
+use proofs.Answering.{accepts_alone, accepts_ending, refuses, wanted}
+use proofs.MessageRefused.{calm}
+use proofs.MessageRoom.{answered_now, asked_calm, few_told, follows_with, holds, roomed_links}
+use proofs.MessageRoom.{same_scope}
+use proofs.MessageSlow.{fell_behind, few_enough}
 use Rattle.node_core.proofs.kept.Kept.discovered.Goals as goal
 
 pub returns-then-not-can_be_told : goal.returns-then-not-can_be_told

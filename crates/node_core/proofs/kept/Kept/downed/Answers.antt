@@ -1,11 +1,12 @@
-use Rattle.node_core.proofs.Words.{refl}
-use Rattle.node_core.proofs.Answering.{accepts, wanted}
-use Rattle.node_core.proofs.MessagePlaces.{up_here}
-use Rattle.node_core.proofs.MessageKept.{unasked}
-use Rattle.node_core.proofs.MessageParts.{roomy}
-use Rattle.node_core.proofs.MessageRefused.{has_peer}
-use Rattle.node_core.proofs.MessageRoom.{follows_with, same_links, still_scope}
-use Rattle.node_core.proofs.MessageScopes.{downed}
+use Rattle.node_core.proofs
+use proofs.Words.{refl}
+use proofs.Answering.{accepts, wanted}
+use proofs.MessagePlaces.{up_here}
+use proofs.MessageKept.{unasked}
+use proofs.MessageParts.{roomy}
+use proofs.MessageRefused.{has_peer}
+use proofs.MessageRoom.{follows_with, same_links, still_scope}
+use proofs.MessageScopes.{downed}
 use Rattle.node_core.proofs.kept.Kept.downed.Goals as goal
 
 pub unreachable-requires : goal.unreachable-requires

@@ -1,16 +1,19 @@
-use Rattle.node_core.proofs.Words.{ap, arith, rules, length, refl, ◌≤◌, ◌∙◌}
+use Rattle.node_core.proofs
+use proofs.Words.{ap, arith, length, refl, rules, ◌∙◌, ◌≤◌}
 use Rattle.std.specs.List.{insert}
-use Rattle.node_core.proofs.Answering.{accepts, ends, wanted, wants}
-use Rattle.node_core.proofs.EarlyFrame.{handshakes, early_never_up, early_few, early_went_on, early_broke}
-use Rattle.node_core.proofs.HeardFrames.{unwhole_quiet}
-use Rattle.node_core.proofs.HeldLink.{IsHeld, held_ready, held_restored, room_follows, taken_unbegun}
+use proofs.Answering.{accepts, ends, wanted, wants}
+use proofs.EarlyFrame.{early_broke, early_few, early_never_up, early_went_on, handshakes}
+use proofs.HeardFrames.{unwhole_quiet}
+use proofs.HeldLink.{held_ready, held_restored, IsHeld, room_follows, taken_unbegun}
 use Rattle.node_core.proofs.kept.Kept.early_frame.Given.{Over}
 use Rattle.node_core.proofs.kept.Kept.early_frame.Goals.{After-into_parts-state}
 use Rattle.node_core.proofs.kept.Kept.early_frame.Goals as goal
 
 -- the link, with room, taken out and apart from its state
-held : (g : Over) (c : After-into_parts-state g) → IsHeld g.call.past c.args.self.now.links.items c.args.number c.args.place
-    c.index_mut.result.now c.make_room.new.self c.remove.result c.into_parts-state.result.0 c.into_parts-state.result.1 c.remove.new.self.items
+held : (g : Over) (c : After-into_parts-state g)
+    → IsHeld g.call.past c.args.self.now.links.items c.args.number c.args.place
+    c.index_mut.result.now c.make_room.new.self c.remove.result c.into_parts-state.result.0
+    c.into_parts-state.result.1 c.remove.new.self.items
 held g c = search rules
 
 pub into_parts-state-requires : goal.into_parts-state-requires

@@ -1,29 +1,42 @@
-use Rattle.node_core.proofs.Words.{None, Some, cond, not, refl, sym, ap, ◌∙◌, link_words, lives_of}
-use Rattle.node_core.proofs.Words.{Rule, Reply, all_frames, committed, map}
-use Rattle.node_core.proofs.Answering.{accepts_ending, refuses, wanted}
-use Rattle.node_core.proofs.Ended.{turns_on}
-use Rattle.node_core.proofs.Joining.{local_by}
-use Rattle.node_core.proofs.OwnChanges.{dropped, partings_proper}
-use Rattle.node_core.proofs.Told.{alike_again, follow_idle}
-use Rattle.node_core.proofs.Exited.{exit_own, exit_now, exits_wait}
+use Rattle.node_core.proofs
+use proofs.Words.{all_frames, ap, committed, cond, link_words, lives_of, map, None, not, refl}
+use proofs.Words.{Reply, Rule, Some, sym, ◌∙◌}
+use proofs.Answering.{accepts_ending, refuses, wanted}
+use proofs.Ended.{turns_on}
+use proofs.Joining.{local_by}
+use proofs.OwnChanges.{dropped, partings_proper}
+use proofs.Told.{alike_again, follow_idle}
+use proofs.Exited.{exit_now, exit_own, exits_wait}
 use Rattle.node_core.proofs.kept.Kept.exit.Goals as goal
 
 pub returns-then-not-is_local : goal.returns-then-not-is_local
 returns-then-not-is_local g c = refuses c.requires _ Rule.NotLocal
-    (rw (sym (local_by c.requires.keeps c.args.pid.now) ∙ sym c.is_local.ensures ∙ c.if-not-is_local.true)) refl
+    (rw (sym (local_by c.requires.keeps c.args.pid.now) ∙ sym c.is_local.ensures
+    ∙ c.if-not-is_local.true)) refl
 
 pub returns-then-not-is_live : goal.returns-then-not-is_live
 returns-then-not-is_live g c =
     let pid = c.args.pid.now in
-    let local = sym (local_by c.requires.keeps pid) ∙ sym c.is_local.ensures ∙ c.if-not-is_local.false in
-    let dead = lives_of g.call.past pid local ∙ sym (c.requires.keeps.follows.processes.live pid.number) ∙ sym c.is_live.ensures ∙ c.if-not-is_live.true in
-    refuses c.requires _ Rule.NoProcess (λ i. cond (not (local i)) (Some Rule.NotLocal) (cond (not (dead i)) (Some Rule.NoProcess) None)) refl
+    let local = sym (local_by c.requires.keeps pid) ∙ sym c.is_local.ensures
+    ∙ c.if-not-is_local.false in
+    let dead = lives_of g.call.past pid local
+    ∙ sym (c.requires.keeps.follows.processes.live pid.number) ∙ sym c.is_live.ensures
+    ∙ c.if-not-is_live.true in
+    refuses c.requires _ Rule.NoProcess
+    (λ i. cond (not (local i)) (Some Rule.NotLocal)
+    (cond (not (dead i)) (Some Rule.NoProcess) None)) refl
 
 pub tell_exit-requires-clause-own : goal.tell_exit-requires-clause-own
-tell_exit-requires-clause-own g c = rw c.deref.ensures.value (exit_own g.call.past g.call.seat _ c.requires.keeps.follows c.args.pid.now (sym (local_by c.requires.keeps c.args.pid.now) ∙ sym c.is_local.ensures ∙ c.if-not-is_local.false))
+tell_exit-requires-clause-own g c =
+    rw c.deref.ensures.value
+    (exit_own g.call.past g.call.seat _ c.requires.keeps.follows c.args.pid.now
+    (sym (local_by c.requires.keeps c.args.pid.now) ∙ sym c.is_local.ensures
+    ∙ c.if-not-is_local.false))
 
 pub tell_exit-requires-clause-idle : goal.tell_exit-requires-clause-idle
-tell_exit-requires-clause-idle g c = follow_idle (link_words g.call.past) c.args.self.now.links.items c.requires.keeps.follows.links.each
+tell_exit-requires-clause-idle g c =
+    follow_idle (link_words g.call.past) c.args.self.now.links.items
+    c.requires.keeps.follows.links.each
 
 pub returns-in_err-own : goal.returns-in_err-own
 returns-in_err-own g c = wanted c.requires _ _ refl
@@ -53,7 +66,8 @@ returns g c =
     let h = g.call.past in
     let t = c.requires.keeps.follows in
     let pid = c.args.pid.now in
-    let local = sym (local_by c.requires.keeps pid) ∙ sym c.is_local.ensures ∙ c.if-not-is_local.false in
+    let local = sym (local_by c.requires.keeps pid) ∙ sym c.is_local.ensures
+    ∙ c.if-not-is_local.false in
     let own = c.in_ok-own.own.items in
     let prepared = c.tell_exit.new.links.items in
     let idle = follow_idle (link_words h) c.args.self.now.links.items t.links.each in

@@ -1,18 +1,21 @@
-use Rattle.node_core.proofs.Words.{ap, sym, refl, link_words, Rule, Reply, committed, map, said_to}
-use Rattle.node_core.proofs.Words.{Opening, own_most, said_in, join_of, ◌∙◌}
-use Rattle.node_core.proofs.Answering.{accepts_ending, refuses, failed, wanted}
-use Rattle.node_core.proofs.Ended.{turns_on}
-use Rattle.node_core.proofs.Moved.{moved_so, unmoved}
-use Rattle.node_core.proofs.MessagePlaces.{runs_here, scope_here, stopped_here}
-use Rattle.node_core.proofs.OwnChanges.{one_place}
-use Rattle.node_core.proofs.Told.{alike_again, dropped_again, follow_idle, prepared_told}
-use Rattle.node_core.proofs.Joining.{join_own, join_calm, joins_own, joins_told, joined}
-use Rattle.node_core.proofs.Joining.{limit_here}
-use Rattle.node_core.proofs.Searched.{scopes_ascend}
+use Rattle.node_core.proofs
+use proofs.Words.{ap, committed, join_of, link_words, map, Opening, own_most, refl, Reply, Rule}
+use proofs.Words.{said_in, said_to, sym, ◌∙◌}
+use proofs.Answering.{accepts_ending, failed, refuses, wanted}
+use proofs.Ended.{turns_on}
+use proofs.Moved.{moved_so, unmoved}
+use proofs.MessagePlaces.{runs_here, scope_here, stopped_here}
+use proofs.OwnChanges.{one_place}
+use proofs.Told.{alike_again, dropped_again, follow_idle, prepared_told}
+use proofs.Joining.{join_calm, join_own, joined, joins_own, joins_told, limit_here}
+use proofs.Searched.{scopes_ascend}
 use Rattle.node_core.proofs.kept.Kept.join.Goals as goal
 
 pub returns-in_default : goal.returns-in_default
-returns-in_default g c = refuses c.requires _ Rule.NoScope (rw (stopped_here c.requires.keeps.follows c.args.scope.now (sym (rw c.deref.ensures.value at c.in_default.ensures)))) refl
+returns-in_default g c =
+    refuses c.requires _ Rule.NoScope
+    (rw (stopped_here c.requires.keeps.follows c.args.scope.now
+    (sym (rw c.deref.ensures.value at c.in_default.ensures)))) refl
 
 pub returns-in-Some-join_refusal : goal.returns-in-Some-join_refusal
 returns-in-Some-join_refusal g c =
@@ -24,7 +27,9 @@ returns-in-Some-join_refusal g c =
     refuses c.requires _ c.in-Some-join_refusal.rule
     (join_own g.call.past g.call.seat c.args.scope.now c.args.group.now c.args.pids.now
     c.own_limit-limit.result limit
-    (runs_here c.requires.keeps.follows c.args.scope.now c.in-Some.place (sym (rw c.deref.ensures.value at c.in-Some.ensures))) c.in-Some-join_refusal.rule (sym (rw c.as_slice-pids.ensures at c.in-Some-join_refusal.ensures))) refl
+    (runs_here c.requires.keeps.follows c.args.scope.now c.in-Some.place
+    (sym (rw c.deref.ensures.value at c.in-Some.ensures))) c.in-Some-join_refusal.rule
+    (sym (rw c.as_slice-pids.ensures at c.in-Some-join_refusal.ensures))) refl
 
 pub tell_join-requires-clause-idle : goal.tell_join-requires-clause-idle
 tell_join-requires-clause-idle g c =

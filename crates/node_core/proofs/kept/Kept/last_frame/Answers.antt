@@ -1,24 +1,27 @@
-use Rattle.node_core.proofs.Words.{arith, ap, rules, length, length-map, refl, ◌∙◌, ◌≡◌, ◌≤◌, ◌+◌}
-use Rattle.node_core.proofs.Words.{Reply, beside}
+use Rattle.node_core.proofs
+use proofs.Words.{ap, arith, beside, length, length-map, refl, Reply, rules, ◌+◌, ◌∙◌, ◌≡◌, ◌≤◌}
 use Rattle.std.specs.List.{insert}
-use Rattle.node_core.proofs.Answering.{accepts, ends, wanted, wants}
-use Rattle.node_core.proofs.HeldLink.{IsHeld, held_ready, held_restored, room_follows, last_unwhole, taken_unbegun}
-use Rattle.node_core.proofs.LastHeard.{handshakes, last_has_peer, last_quiet, last_never_on}
-use Rattle.node_core.proofs.LastHeard.{last_few, last_broke, last_next, last_came_up}
+use proofs.Answering.{accepts, ends, wanted, wants}
+use proofs.HeldLink.{held_ready, held_restored, IsHeld, last_unwhole, room_follows, taken_unbegun}
+use proofs.LastHeard.{handshakes, last_broke, last_came_up, last_few, last_has_peer, last_never_on}
+use proofs.LastHeard.{last_next, last_quiet}
 use Rattle.node_core.proofs.kept.Kept.last_frame.Given.{Over}
 use Rattle.node_core.proofs.kept.Kept.last_frame.Goals.{After-into_parts-state}
 use Rattle.node_core.proofs.kept.Kept.last_frame.Goals as goal
 
 -- the link, with room, taken out and apart from its state
-held : (g : Over) (c : After-into_parts-state g) → IsHeld g.call.past c.args.self.now.links.items c.args.number c.args.place
-    c.index_mut.result.now c.make_room.new.self c.remove.result c.into_parts-state.result.0 c.into_parts-state.result.1 c.remove.new.self.items
+held : (g : Over) (c : After-into_parts-state g)
+    → IsHeld g.call.past c.args.self.now.links.items c.args.number c.args.place
+    c.index_mut.result.now c.make_room.new.self c.remove.result c.into_parts-state.result.0
+    c.into_parts-state.result.1 c.remove.new.self.items
 held g c = search rules
 
 pub into_parts-state-requires : goal.into_parts-state-requires
 into_parts-state-requires g c =
     taken_unbegun c.requires.link.called.keeps.follows c.args.number {out = c.remove.result}
     c.requires.link.here
-    (last_unwhole c.args.number g.call.past.entries c.requires.last) c.index_mut.ensures.value c.make_room.ensures.same (search rules)
+    (last_unwhole c.args.number g.call.past.entries c.requires.last) c.index_mut.ensures.value
+    c.make_room.ensures.same (search rules)
 
 pub returns-in_err-make_room : goal.returns-in_err-make_room
 returns-in_err-make_room g c =

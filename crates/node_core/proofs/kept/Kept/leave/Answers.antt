@@ -1,22 +1,31 @@
-use Rattle.node_core.proofs.Words.{ap, sym, refl, ◌∙◌, link_words, Rule, Reply, committed, map}
-use Rattle.node_core.proofs.Words.{said_to, said_in, leave_of}
-use Rattle.node_core.proofs.Answering.{accepts_ending, refuses, failed, wanted}
-use Rattle.node_core.proofs.Ended.{turns_on}
-use Rattle.node_core.proofs.Moved.{moved_so, unmoved}
-use Rattle.node_core.proofs.MessagePlaces.{runs_here, scope_here, stopped_here}
-use Rattle.node_core.proofs.OwnChanges.{one_place}
-use Rattle.node_core.proofs.OwnLimits.{few_told}
-use Rattle.node_core.proofs.Told.{alike_again, dropped_again, follow_idle, prepared_told}
-use Rattle.node_core.proofs.Joining.{leave_foreign, leaves_own, leave_calm, left}
-use Rattle.node_core.proofs.Searched.{scopes_ascend}
+use Rattle.node_core.proofs
+use proofs.Words.{ap, committed, leave_of, link_words, map, refl, Reply, Rule, said_in, said_to}
+use proofs.Words.{sym, ◌∙◌}
+use proofs.Answering.{accepts_ending, failed, refuses, wanted}
+use proofs.Ended.{turns_on}
+use proofs.Moved.{moved_so, unmoved}
+use proofs.MessagePlaces.{runs_here, scope_here, stopped_here}
+use proofs.OwnChanges.{one_place}
+use proofs.OwnLimits.{few_told}
+use proofs.Told.{alike_again, dropped_again, follow_idle, prepared_told}
+use proofs.Joining.{leave_calm, leave_foreign, leaves_own, left}
+use proofs.Searched.{scopes_ascend}
 use Rattle.node_core.proofs.kept.Kept.leave.Goals as goal
 
 pub returns-in_default : goal.returns-in_default
-returns-in_default g c = refuses c.requires _ Rule.NoScope (rw (stopped_here c.requires.keeps.follows c.args.scope.now (sym (rw c.deref.ensures.value at c.in_default.ensures)))) refl
+returns-in_default g c =
+    refuses c.requires _ Rule.NoScope
+    (rw (stopped_here c.requires.keeps.follows c.args.scope.now
+    (sym (rw c.deref.ensures.value at c.in_default.ensures)))) refl
 
 pub returns-then-not-are_local : goal.returns-then-not-are_local
-returns-then-not-are_local g c = refuses c.requires _ Rule.NotLocal (leave_foreign g.call.seat c.requires.keeps.follows c.args.scope.now c.args.group.now c.args.pids.now
-    (runs_here c.requires.keeps.follows c.args.scope.now c.in-Some.place (sym (rw c.deref.ensures.value at c.in-Some.ensures))) (sym (rw c.as_slice-pids.ensures at c.are_local.ensures) ∙ c.if-not-are_local.true)) refl
+returns-then-not-are_local g c =
+    refuses c.requires _ Rule.NotLocal
+    (leave_foreign g.call.seat c.requires.keeps.follows c.args.scope.now c.args.group.now
+    c.args.pids.now
+    (runs_here c.requires.keeps.follows c.args.scope.now c.in-Some.place
+    (sym (rw c.deref.ensures.value at c.in-Some.ensures)))
+    (sym (rw c.as_slice-pids.ensures at c.are_local.ensures) ∙ c.if-not-are_local.true)) refl
 
 pub tell_leave-requires-clause-idle : goal.tell_leave-requires-clause-idle
 tell_leave-requires-clause-idle g c =

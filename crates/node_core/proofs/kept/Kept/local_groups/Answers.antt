@@ -1,14 +1,18 @@
-use Rattle.node_core.proofs.Words.{refl, sym, ap, audit_of, follows_other, Event, Reply, Rule, ◌∙◌}
-use Rattle.node_core.proofs.Answering.{accepts, refuses}
-use Rattle.node_core.proofs.Calm.{entered}
-use Rattle.node_core.proofs.Entered.{audit_next}
-use Rattle.node_core.proofs.MessagePlaces.{runs_here, scope_here, stopped_here}
-use Rattle.node_core.proofs.Scopes.{local_groups_are}
-use Rattle.node_core.proofs.Searched.{scopes_ascend}
+use Rattle.node_core.proofs
+use proofs.Words.{ap, audit_of, Event, follows_other, refl, Reply, Rule, sym, ◌∙◌}
+use proofs.Answering.{accepts, refuses}
+use proofs.Calm.{entered}
+use proofs.Entered.{audit_next}
+use proofs.MessagePlaces.{runs_here, scope_here, stopped_here}
+use proofs.Scopes.{local_groups_are}
+use proofs.Searched.{scopes_ascend}
 use Rattle.node_core.proofs.kept.Kept.local_groups.Goals as goal
 
 pub returns-in_default : goal.returns-in_default
-returns-in_default g c = refuses c.requires _ Rule.NoScope (rw (stopped_here c.requires.keeps.follows c.args.scope.now (sym (rw c.deref.ensures.value at c.in_default.ensures)))) refl
+returns-in_default g c =
+    refuses c.requires _ Rule.NoScope
+    (rw (stopped_here c.requires.keeps.follows c.args.scope.now
+    (sym (rw c.deref.ensures.value at c.in_default.ensures)))) refl
 
 pub returns : goal.returns
 returns g c =

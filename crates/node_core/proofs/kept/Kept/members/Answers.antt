@@ -1,15 +1,19 @@
-use Rattle.node_core.proofs.Words.{refl, sym, ap, audit_of, follows_other, Event, Reply, Rule}
-use Rattle.node_core.proofs.Answering.{accepts, refuses}
-use Rattle.node_core.proofs.Calm.{entered}
-use Rattle.node_core.proofs.Entered.{audit_next}
-use Rattle.node_core.proofs.MessagePlaces.{runs_here, scope_here, stopped_here}
-use Rattle.node_core.proofs.Moved.{unmoved}
-use Rattle.node_core.proofs.Scopes.{members_are}
-use Rattle.node_core.proofs.Searched.{scopes_ascend}
+use Rattle.node_core.proofs
+use proofs.Words.{ap, audit_of, Event, follows_other, refl, Reply, Rule, sym}
+use proofs.Answering.{accepts, refuses}
+use proofs.Calm.{entered}
+use proofs.Entered.{audit_next}
+use proofs.MessagePlaces.{runs_here, scope_here, stopped_here}
+use proofs.Moved.{unmoved}
+use proofs.Scopes.{members_are}
+use proofs.Searched.{scopes_ascend}
 use Rattle.node_core.proofs.kept.Kept.members.Goals as goal
 
 pub returns-in_default : goal.returns-in_default
-returns-in_default g c = refuses c.requires _ Rule.NoScope (rw (stopped_here c.requires.keeps.follows c.args.scope.now (sym (rw c.deref.ensures.value at c.in_default.ensures)))) refl
+returns-in_default g c =
+    refuses c.requires _ Rule.NoScope
+    (rw (stopped_here c.requires.keeps.follows c.args.scope.now
+    (sym (rw c.deref.ensures.value at c.in_default.ensures)))) refl
 
 pub returns : goal.returns
 returns g c =
@@ -19,8 +23,15 @@ returns g c =
     let placed = sym (rw c.deref.ensures.value at c.in-Some.ensures) in
     let there = scope_here t scope placed c.index_mut.ensures.value in
     let r = c.index_mut.result.now in
-    let list = members_are h scope r there.named there.running c.args.group.now _ c.in_ok-pids.ensures.value in
-    let still = unmoved t c.in-Some.place c.index_mut.ensures.value (λ i. record { scope = r.scope; table = c.in_ok-pids.ensures.same i; heard = r.heard; told = r.told }) refl in
+    let list = members_are h scope r there.named there.running c.args.group.now _
+    c.in_ok-pids.ensures.value in
+    let still = unmoved t c.in-Some.place c.index_mut.ensures.value
+    (λ i. record {
+      scope = r.scope;
+      table = c.in_ok-pids.ensures.same i;
+      heard = r.heard;
+      told = r.told;
+    }) refl in
     accepts c.requires _ _ refl _ _ _ c.in_ok-with.ensures refl
     (entered still g.call.seat (Event.Members scope c.args.group.now) refl c.requires.space
     (rw (runs_here t scope c.in-Some.place placed)) (ap Reply.Pids (sym list))

@@ -1,17 +1,20 @@
-use Rattle.node_core.proofs.Words.{just, Accepted, [], ◌++◌, ◌∷◌, Some, ap, refl, subst, sym, ◌∙◌}
-use Rattle.node_core.proofs.Words.{audit_of, IsFree, follows_free, follows_group, next_number}
-use Rattle.node_core.proofs.Words.{Event, Reply, Rule}
+use Rattle.node_core.proofs
+use proofs.Words.{Accepted, ap, audit_of, Event, follows_free, follows_group, IsFree, just}
+use proofs.Words.{next_number, refl, Reply, Rule, Some, subst, sym, [], ◌++◌, ◌∙◌, ◌∷◌}
 use Rattle.group_monitors.specs.Follows.{FollowsPolicy}
-use Rattle.node_core.proofs.Answering.{accepts, refuses}
-use Rattle.node_core.proofs.Calm.{entered}
-use Rattle.node_core.proofs.Entered.{audit_next, made}
-use Rattle.node_core.proofs.MessagePlaces.{runs_here, scope_here, stopped_here}
-use Rattle.node_core.proofs.Scopes.{members_are}
-use Rattle.node_core.proofs.Searched.{scopes_ascend}
+use proofs.Answering.{accepts, refuses}
+use proofs.Calm.{entered}
+use proofs.Entered.{audit_next, made}
+use proofs.MessagePlaces.{runs_here, scope_here, stopped_here}
+use proofs.Scopes.{members_are}
+use proofs.Searched.{scopes_ascend}
 use Rattle.node_core.proofs.kept.Kept.monitor.Goals as goal
 
 pub returns-in_default : goal.returns-in_default
-returns-in_default g c = refuses c.requires.called _ Rule.NoScope (rw (stopped_here c.requires.called.keeps.follows c.args.scope.now (sym (rw c.deref.ensures.value at c.in_default.ensures)))) refl
+returns-in_default g c =
+    refuses c.requires.called _ Rule.NoScope
+    (rw (stopped_here c.requires.called.keeps.follows c.args.scope.now
+    (sym (rw c.deref.ensures.value at c.in_default.ensures)))) refl
 
 pub add_group-requires : goal.add_group-requires
 add_group-requires g c =
@@ -28,12 +31,20 @@ returns g c =
     let group = c.args.group.now in
     let placed = sym (rw c.deref.ensures.value at c.in-Some.ensures) in
     let there = scope_here t scope placed c.index.ensures in
-    let all = c.in_ok-pids.ensures ∙ members_are h scope c.index.result.now there.named there.running group _ c.in_ok-members.ensures in
+    let all = c.in_ok-pids.ensures ∙ members_are h scope c.index.result.now there.named
+    there.running group _ c.in_ok-members.ensures in
     let entry = made h g.call.seat (Event.Monitor scope group)
     (Accepted (Reply.Ref (next_number h) c.in_ok-pids.pids)) [] in
     accepts c.requires.called _ _ refl _ _ _ c.in_ok-answered.ensures refl
-    (rw (c.in_ok-add_group.ensures.ok, c.in_ok-scope.ensures, c.in_ok-group.ensures, c.requires.seat_is, c.requires.number_is)
-    (entered t g.call.seat (Event.Monitor scope group) refl c.requires.called.space (rw (runs_here t scope c.in-Some.place placed)) (ap (Reply.Ref (next_number h)) (sym all))
+    (rw (
+      c.in_ok-add_group.ensures.ok,
+      c.in_ok-scope.ensures,
+      c.in_ok-group.ensures,
+      c.requires.seat_is,
+      c.requires.number_is,
+    )
+    (entered t g.call.seat (Event.Monitor scope group) refl c.requires.called.space
+    (rw (runs_here t scope c.in-Some.place placed)) (ap (Reply.Ref (next_number h)) (sym all))
     (λ its. (
       t.admission,
       t.processes,

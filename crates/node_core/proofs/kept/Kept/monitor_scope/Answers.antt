@@ -1,17 +1,20 @@
-use Rattle.node_core.proofs.Words.{just, Accepted, [], ◌++◌, ◌∷◌, None, ap, refl, subst, sym, ◌∙◌}
-use Rattle.node_core.proofs.Words.{audit_of, IsFree, follows_free, follows_scope, next_number}
-use Rattle.node_core.proofs.Words.{Event, Reply, Rule}
+use Rattle.node_core.proofs
+use proofs.Words.{Accepted, ap, audit_of, Event, follows_free, follows_scope, IsFree, just}
+use proofs.Words.{next_number, None, refl, Reply, Rule, subst, sym, [], ◌++◌, ◌∙◌, ◌∷◌}
 use Rattle.group_monitors.specs.Follows.{FollowsPolicy}
-use Rattle.node_core.proofs.Answering.{accepts, refuses}
-use Rattle.node_core.proofs.Calm.{entered}
-use Rattle.node_core.proofs.Entered.{audit_next, made}
-use Rattle.node_core.proofs.MessagePlaces.{runs_here, scope_here, stopped_here}
-use Rattle.node_core.proofs.Scopes.{contents_are}
-use Rattle.node_core.proofs.Searched.{scopes_ascend}
+use proofs.Answering.{accepts, refuses}
+use proofs.Calm.{entered}
+use proofs.Entered.{audit_next, made}
+use proofs.MessagePlaces.{runs_here, scope_here, stopped_here}
+use proofs.Scopes.{contents_are}
+use proofs.Searched.{scopes_ascend}
 use Rattle.node_core.proofs.kept.Kept.monitor_scope.Goals as goal
 
 pub returns-in_default : goal.returns-in_default
-returns-in_default g c = refuses c.requires.called _ Rule.NoScope (rw (stopped_here c.requires.called.keeps.follows c.args.scope.now (sym (rw c.deref.ensures.value at c.in_default.ensures)))) refl
+returns-in_default g c =
+    refuses c.requires.called _ Rule.NoScope
+    (rw (stopped_here c.requires.called.keeps.follows c.args.scope.now
+    (sym (rw c.deref.ensures.value at c.in_default.ensures)))) refl
 
 pub add_scope-requires : goal.add_scope-requires
 add_scope-requires g c =
@@ -27,12 +30,20 @@ returns g c =
     let scope = c.args.scope.now in
     let placed = sym (rw c.deref.ensures.value at c.in-Some.ensures) in
     let there = scope_here t scope placed c.index.ensures in
-    let all = contents_are h scope c.index.result.now there.named there.running c.in_ok-groups.groups c.in_ok-groups.ensures.groups c.in_ok-groups.ensures.pids in
+    let all = contents_are h scope c.index.result.now there.named there.running
+    c.in_ok-groups.groups c.in_ok-groups.ensures.groups c.in_ok-groups.ensures.pids in
     let entry = made h g.call.seat (Event.MonitorScope scope)
     (Accepted (Reply.ScopeRef (next_number h) c.in_ok-groups.groups)) [] in
     accepts c.requires.called _ _ refl _ _ _ c.in_ok-answered.ensures refl
-    (rw (c.in_ok-add_scope.ensures.ok, c.in_ok-scope.ensures, c.requires.seat_is, c.requires.number_is)
-    (entered t g.call.seat (Event.MonitorScope scope) refl c.requires.called.space (rw (runs_here t scope c.in-Some.place placed)) (ap (Reply.ScopeRef (next_number h)) (sym all))
+    (rw (
+      c.in_ok-add_scope.ensures.ok,
+      c.in_ok-scope.ensures,
+      c.requires.seat_is,
+      c.requires.number_is,
+    )
+    (entered t g.call.seat (Event.MonitorScope scope) refl c.requires.called.space
+    (rw (runs_here t scope c.in-Some.place placed))
+    (ap (Reply.ScopeRef (next_number h)) (sym all))
     (λ its. (
       t.admission,
       t.processes,

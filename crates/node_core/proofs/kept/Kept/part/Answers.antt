@@ -1,10 +1,11 @@
-use Rattle.node_core.proofs.Words.{ap, refl, ◌∙◌, up_peer, KeptLink}
-use Rattle.node_core.proofs.Answering.{accepts, fails, wanted}
-use Rattle.node_core.proofs.MessagePlaces.{scope_here, up_here}
-use Rattle.node_core.proofs.MessageKept.{unasked}
-use Rattle.node_core.proofs.MessageParts.{part_calm, part_kept, taken_back}
-use Rattle.node_core.proofs.MessageRefused.{gathered_rows, has_peer}
-use Rattle.node_core.proofs.MessageRoom.{follows_with, same_links, same_scope, still_scope}
+use Rattle.node_core.proofs
+use proofs.Words.{ap, KeptLink, refl, up_peer, ◌∙◌}
+use proofs.Answering.{accepts, fails, wanted}
+use proofs.MessagePlaces.{scope_here, up_here}
+use proofs.MessageKept.{unasked}
+use proofs.MessageParts.{part_calm, part_kept, taken_back}
+use proofs.MessageRefused.{gathered_rows, has_peer}
+use proofs.MessageRoom.{follows_with, same_links, same_scope, still_scope}
 use Rattle.node_core.proofs.kept.Kept.part.Goals as goal
 
 pub returns-in_err-undo : goal.returns-in_err-undo

@@ -1,10 +1,14 @@
-use Rattle.node_core.proofs.Words.{ap, refl, sym, ℕ, ◌+◌, ◌∙◌, Rule}
-use Rattle.node_core.proofs.Answering.{accepts, refuses}
-use Rattle.node_core.proofs.Anew.{creation_spent, anew_now}
+use Rattle.node_core.proofs
+use proofs.Words.{ap, refl, Rule, sym, ℕ, ◌+◌, ◌∙◌}
+use proofs.Answering.{accepts, refuses}
+use proofs.Anew.{anew_now, creation_spent}
 use Rattle.node_core.proofs.kept.Kept.restart.Goals as goal
 
 pub returns-then-creation : goal.returns-then-creation
-returns-then-creation g c = refuses c.requires _ Rule.CreationSpent (creation_spent g.call.past g.call.seat (sym c.requires.keeps.follows.admission.creation ∙ sym c.creation.ensures ∙ c.if-creation.true)) refl
+returns-then-creation g c =
+    refuses c.requires _ Rule.CreationSpent
+    (creation_spent g.call.past g.call.seat (sym c.requires.keeps.follows.admission.creation
+    ∙ sym c.creation.ensures ∙ c.if-creation.true)) refl
 
 pub returns : goal.returns
 returns g c =
@@ -19,5 +23,7 @@ returns g c =
       c.clear-2.ensures.items,
       c.clear-3.ensures,
     )
-    (anew_now h g.call.seat _ t c.in_ok-changes.changes.items gone c.requires.space c.creation.result (c.creation.ensures ∙ t.admission.creation) c.if-creation.false
-    c.args.self.now.opening (c.creation-creation.result + 1) c.requires.keeps.opening (ap (λ (n : ℕ). n + 1) c.creation-creation.ensures)))
+    (anew_now h g.call.seat _ t c.in_ok-changes.changes.items gone c.requires.space
+    c.creation.result (c.creation.ensures ∙ t.admission.creation) c.if-creation.false
+    c.args.self.now.opening (c.creation-creation.result + 1) c.requires.keeps.opening
+    (ap (λ (n : ℕ). n + 1) c.creation-creation.ensures)))

@@ -1,8 +1,9 @@
-use Rattle.node_core.proofs.Words.{audit_of, follows_other, refl, Event, Reply}
-use Rattle.node_core.proofs.Answering.{accepts}
-use Rattle.node_core.proofs.Cookies.{cookie_follows}
-use Rattle.node_core.proofs.Calm.{entered}
-use Rattle.node_core.proofs.Entered.{audit_next}
+use Rattle.node_core.proofs
+use proofs.Words.{audit_of, Event, follows_other, refl, Reply}
+use proofs.Answering.{accepts}
+use proofs.Cookies.{cookie_follows}
+use proofs.Calm.{entered}
+use proofs.Entered.{audit_next}
 use Rattle.node_core.proofs.kept.Kept.set_cookie.Goals as goal
 
 pub returns : goal.returns

@@ -1,29 +1,43 @@
-use Rattle.node_core.proofs.Words.{arith, length, refl, subst, sym, ◌<◌, ◌∙◌, Rises, text_cmp}
-use Rattle.node_core.proofs.Words.{running_rises, link_words, ap, Rule, Reply, committed, map}
-use Rattle.node_core.proofs.Words.{shown_numbers, said_in, Message}
-use Rattle.node_core.proofs.Answering.{accepts_ending, refuses, wanted}
-use Rattle.node_core.proofs.Ended.{turns_on}
-use Rattle.node_core.proofs.MessagePlaces.{placed_is}
-use Rattle.node_core.proofs.Told.{alike_again, dropped_again, follow_idle, prepared_told}
-use Rattle.node_core.proofs.Starting.{start_now, scopes_full}
-use Rattle.node_core.proofs.Searched.{scopes_ascend}
+use Rattle.node_core.proofs
+use proofs.Words.{ap, arith, committed, length, link_words, map, Message, refl, Reply, Rises, Rule}
+use proofs.Words.{running_rises, said_in, shown_numbers, subst, sym, text_cmp, ◌<◌, ◌∙◌}
+use proofs.Answering.{accepts_ending, refuses, wanted}
+use proofs.Ended.{turns_on}
+use proofs.MessagePlaces.{placed_is}
+use proofs.Told.{alike_again, dropped_again, follow_idle, prepared_told}
+use proofs.Starting.{scopes_full, start_now}
+use proofs.Searched.{scopes_ascend}
 use Rattle.node_core.proofs.kept.Kept.start_scope.Goals as goal
 
 pub returns-then-is_some : goal.returns-then-is_some
 returns-then-is_some g c = refuses c.requires _ Rule.ScopeRunning
-    (rw (sym (placed_is c.requires.keeps.follows c.args.scope.now) ∙ sym (rw (c.place_of.ensures, c.deref.ensures.value) at c.is_some.ensures) ∙ c.if-is_some.true)) refl
+    (rw (sym (placed_is c.requires.keeps.follows c.args.scope.now)
+    ∙ sym (rw (c.place_of.ensures, c.deref.ensures.value) at c.is_some.ensures)
+    ∙ c.if-is_some.true)) refl
 
 pub returns-then-len-ge-MAX_SCOPES : goal.returns-then-len-ge-MAX_SCOPES
 returns-then-len-ge-MAX_SCOPES g c =
-    let stopped = sym (placed_is c.requires.keeps.follows c.args.scope.now) ∙ sym (rw (c.place_of.ensures, c.deref.ensures.value) at c.is_some.ensures) ∙ c.if-is_some.false in
-    refuses c.requires _ Rule.ScopesFull (scopes_full g.call.past g.call.seat c.args.scope.now _ c.requires.keeps.follows stopped (omega (arith, c.len.ensures, c.if-len-ge-MAX_SCOPES.true))) refl
+    let stopped = sym (placed_is c.requires.keeps.follows c.args.scope.now)
+    ∙ sym (rw (c.place_of.ensures, c.deref.ensures.value) at c.is_some.ensures)
+    ∙ c.if-is_some.false in
+    refuses c.requires _ Rule.ScopesFull
+    (scopes_full g.call.past g.call.seat c.args.scope.now _ c.requires.keeps.follows stopped
+    (omega (arith, c.len.ensures, c.if-len-ge-MAX_SCOPES.true))) refl
 
 pub asked_scope-requires : goal.asked_scope-requires
-asked_scope-requires g c = follow_idle (link_words g.call.past) c.args.self.now.links.items c.requires.keeps.follows.links.each
+asked_scope-requires g c =
+    follow_idle (link_words g.call.past) c.args.self.now.links.items
+    c.requires.keeps.follows.links.each
 
 pub returns-in_err-running : goal.returns-in_err-running
-returns-in_err-running g c = wanted c.requires _ (record c.args.self.now { scopes = c.reserve.new.self; links = c.asked_scope.new.links }) refl
-    (rw c.in_ok-reserve.ensures.items (alike_again g.call.past _ c.requires.keeps.follows c.asked_scope.new.links.items c.in_err-running.ensures.same)) _ c.from_residual-in_err-running.ensures.1
+returns-in_err-running g c =
+    wanted c.requires _ (record c.args.self.now {
+      scopes = c.reserve.new.self;
+      links = c.asked_scope.new.links;
+    }) refl
+    (rw c.in_ok-reserve.ensures.items
+    (alike_again g.call.past _ c.requires.keeps.follows c.asked_scope.new.links.items
+    c.in_err-running.ensures.same)) _ c.from_residual-in_err-running.ensures.1
 
 pub ending_with-ending-requires : goal.ending_with-ending-requires
 ending_with-ending-requires g c = rw (c.deref-4.ensures.value, c.new-own.ensures.items) tt
@@ -42,15 +56,22 @@ returns-in_err-ending g c =
     _ c.from_residual-in_err-ending.ensures.1
 
 pub put_in-requires-clause-ascending : goal.put_in-requires-clause-ascending
-put_in-requires-clause-ascending g c = rw c.in_ok-reserve.ensures.items (subst (Rises text_cmp) (sym c.requires.keeps.follows.scopes.running) (running_rises g.call.past))
+put_in-requires-clause-ascending g c =
+    rw c.in_ok-reserve.ensures.items
+    (subst (Rises text_cmp) (sym c.requires.keeps.follows.scopes.running)
+    (running_rises g.call.past))
 
 pub returns : goal.returns
 returns g c =
     let h = g.call.past in
     let t = c.requires.keeps.follows in
     let scope = c.args.scope.now in
-    let stopped = sym (placed_is t scope) ∙ sym (rw (c.place_of.ensures, c.deref.ensures.value) at c.is_some.ensures) ∙ c.if-is_some.false in
-    let few : length c.args.self.now.scopes.items < 64 = omega (arith, c.len.ensures, c.if-len-ge-MAX_SCOPES.false) in
+    let stopped =
+    sym (placed_is t scope)
+    ∙ sym (rw (c.place_of.ensures, c.deref.ensures.value) at c.is_some.ensures)
+    ∙ c.if-is_some.false in
+    let few : length c.args.self.now.scopes.items < 64 =
+    omega (arith, c.len.ensures, c.if-len-ge-MAX_SCOPES.false) in
     let new = c.in_ok-running.ensures in
     let old = c.args.self.now.links.items in
     let prepared = c.asked_scope.new.links.items in

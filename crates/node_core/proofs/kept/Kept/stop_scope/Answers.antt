@@ -1,21 +1,26 @@
-use Rattle.node_core.proofs.Words.{ap, refl, subst, sym, IsDifference, no_count, link_words, Rule}
-use Rattle.node_core.proofs.Words.{Reply, committed, map, shown_numbers, said_in, Message}
-use Rattle.node_core.proofs.Answering.{accepts_ending, refuses, wanted}
-use Rattle.node_core.proofs.Ended.{turns_on}
-use Rattle.node_core.proofs.MessagePlaces.{runs_here, scope_here, stopped_here}
-use Rattle.node_core.proofs.OwnChanges.{one_proper}
-use Rattle.node_core.proofs.Scopes.{counts_listed}
-use Rattle.node_core.proofs.Told.{alike_again, dropped_again, follow_idle, prepared_told}
-use Rattle.node_core.proofs.Stopping.{both_ways, ends_unbroken, stop_now}
-use Rattle.node_core.proofs.Words.{broken_off}
-use Rattle.node_core.proofs.Searched.{scopes_ascend}
+use Rattle.node_core.proofs
+use proofs.Words.{ap, broken_off, committed, IsDifference, link_words, map, Message, no_count, refl}
+use proofs.Words.{Reply, Rule, said_in, shown_numbers, subst, sym}
+use proofs.Answering.{accepts_ending, refuses, wanted}
+use proofs.Ended.{turns_on}
+use proofs.MessagePlaces.{runs_here, scope_here, stopped_here}
+use proofs.OwnChanges.{one_proper}
+use proofs.Scopes.{counts_listed}
+use proofs.Told.{alike_again, dropped_again, follow_idle, prepared_told}
+use proofs.Stopping.{both_ways, ends_unbroken, stop_now}
+use proofs.Searched.{scopes_ascend}
 use Rattle.node_core.proofs.kept.Kept.stop_scope.Goals as goal
 
 pub returns-in_default : goal.returns-in_default
-returns-in_default g c = refuses c.requires _ Rule.NoScope (rw (stopped_here c.requires.keeps.follows c.args.scope.now (sym (rw c.deref.ensures.value at c.in_default.ensures)))) refl
+returns-in_default g c =
+    refuses c.requires _ Rule.NoScope
+    (rw (stopped_here c.requires.keeps.follows c.args.scope.now
+    (sym (rw c.deref.ensures.value at c.in_default.ensures)))) refl
 
 pub tell_stop-requires : goal.tell_stop-requires
-tell_stop-requires g c = follow_idle (link_words g.call.past) c.args.self.now.links.items c.requires.keeps.follows.links.each
+tell_stop-requires g c =
+    follow_idle (link_words g.call.past) c.args.self.now.links.items
+    c.requires.keeps.follows.links.each
 
 pub returns-in_err-own : goal.returns-in_err-own
 returns-in_err-own g c = wanted c.requires _ _ refl
@@ -46,7 +51,9 @@ returns g c =
     let placed = sym (rw c.deref.ensures.value at c.in-Some.ensures) in
     let there = scope_here t scope placed c.index.ensures in
     let runs = runs_here t scope c.in-Some.place placed in
-    let groups = subst (λ f. IsDifference f no_count c.in_ok-groups.groups.items) (counts_listed h scope c.index.result.now there.named there.running) c.in_ok-groups.ensures in
+    let groups = subst (λ f. IsDifference f no_count c.in_ok-groups.groups.items)
+    (counts_listed h scope c.index.result.now there.named there.running)
+    c.in_ok-groups.ensures in
     let old = c.args.self.now.links.items in
     let prepared = c.tell_stop.new.links.items in
     let told = prepared_told (shown_numbers old) (said_in (Message.Down scope)) old prepared

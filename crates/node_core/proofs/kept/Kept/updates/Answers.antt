@@ -1,22 +1,26 @@
-use Rattle.node_core.proofs.Words.{ap, arith, length, refl, subst, sym, ℕ, List, None, Ok, Err, OnErr, OnOk, Option, Result, Some, suc, ◌≡◌, IsSome, lie}
-use Rattle.node_core.proofs.Words.{no_value, ◌∙◌, audit_of, audited, option_map, follows_moved}
-use Rattle.node_core.proofs.Words.{Event, Reply, Rule, with_place}
+use Rattle.node_core.proofs
+use proofs.Words.{ap, arith, audit_of, audited, Err, Event, follows_moved, IsSome, length, lie}
+use proofs.Words.{List, no_value, None, Ok, OnErr, OnOk, Option, option_map, refl, Reply, Result}
+use proofs.Words.{Rule, Some, subst, suc, sym, with_place, ℕ, ◌∙◌, ◌≡◌}
 use Rattle.group_monitors.specs.declared.monitor.Monitor.{Monitor}
 use Rattle.group_monitors.specs.Monitors.{monitor_of, updates_behind}
 use Rattle.group_monitors.proofs.FromPolicy.{follows_refused, follows_seen, follows_told}
 use Rattle.group_monitors.proofs.Reached.{reach_found}
-use Rattle.node_core.proofs.Answering.{accepts, refuses}
-use Rattle.node_core.proofs.Calm.{entered}
-use Rattle.node_core.proofs.Entered.{audit_next}
+use proofs.Answering.{accepts, refuses}
+use proofs.Calm.{entered}
+use proofs.Entered.{audit_next}
 use Rattle.node_core.proofs.kept.Kept.updates.Goals as goal
 
 -- the place of a monitor that is there is moved
-advanced : {E : Type 0} (o : Result (Unit {0}) E) (found : Option Monitor) (ms new : List (ℕ × Monitor)) → IsSome found → OnOk o (IsSome found × (new ≡ ms)) → OnErr o (found ≡ None) → new ≡ ms
+advanced : {E : Type 0} (o : Result (Unit {0}) E) (found : Option Monitor)
+    (ms new : List (ℕ × Monitor)) → IsSome found → OnOk o (IsSome found × (new ≡ ms))
+    → OnErr o (found ≡ None) → new ≡ ms
 advanced (Ok u) found ms new some ok refused = ok.1
 advanced (Err e) found ms new some ok refused = lie (sym (subst IsSome refused some))
 
 -- what is told is told of a monitor
-told_one : {A : Type 0} (f : Monitor → A) (found : Option Monitor) (a : A) → option_map f found ≡ Some a → IsSome found
+told_one : {A : Type 0} (f : Monitor → A) (found : Option Monitor) (a : A)
+    → option_map f found ≡ Some a → IsSome found
 told_one f None a is = no_value (sym is)
 told_one f (Some m) a is = refl
 
@@ -35,7 +39,11 @@ updates-requires-clause-seen g c =
 
 pub returns-in-Err-NoMonitor : goal.returns-in-Err-NoMonitor
 returns-in-Err-NoMonitor g c = refuses c.requires.0.called _ Rule.NoMonitor
-    (follows_refused g.call.past c.args.self.now.monitors c.requires.0.called.keeps.follows.monitors g.call.seat c.args.number (rw (c.in-Err-NoMonitor.field-0-is, c.requires.0.seat_is) at c.in-Err-NoMonitor.ensures.refused)).0 refl
+    (follows_refused g.call.past c.args.self.now.monitors c.requires.0.called.keeps.follows.monitors
+    g.call.seat c.args.number (rw (
+      c.in-Err-NoMonitor.field-0-is,
+      c.requires.0.seat_is,
+    ) at c.in-Err-NoMonitor.ensures.refused)).0 refl
 
 pub returns : goal.returns
 returns g c =
@@ -43,13 +51,17 @@ returns g c =
     let t = c.requires.0.called.keeps.follows in
     let monitors = c.args.self.now.monitors in
     let behind = rw (c.requires.1.0, c.requires.0.seat_is) at c.in-Ok.ensures.ok in
-    let told = follows_told h monitors t.monitors g.call.seat c.args.number c.in-Ok.updates behind in
+    let told = follows_told h monitors t.monitors g.call.seat c.args.number c.in-Ok.updates
+    behind in
     let some = told_one (updates_behind (audited h.entries))
     (monitor_of monitors g.call.seat c.args.number) c.in-Ok.updates behind in
     let place : c.args.place
     ≡ suc (length (audited h.entries)) = (let is = c.requires.0.number_is ∙ audit_next h in
     omega (arith, is)) in
-    let moved = advanced c.advance_to.result (monitor_of monitors g.call.seat c.args.number) (with_place g.call.seat c.args.number c.args.place monitors) c.advance_to.new.self some (rw c.requires.0.seat_is at c.advance_to.ensures.ok) (rw c.requires.0.seat_is at c.advance_to.ensures.refused) in
+    let moved = advanced c.advance_to.result (monitor_of monitors g.call.seat c.args.number)
+    (with_place g.call.seat c.args.number c.args.place monitors) c.advance_to.new.self some
+    (rw c.requires.0.seat_is at c.advance_to.ensures.ok)
+    (rw c.requires.0.seat_is at c.advance_to.ensures.refused) in
     accepts c.requires.0.called _ _ refl _ _ _ c.in_ok-answered.ensures refl (rw (moved, place)
     (entered t g.call.seat (Event.Updates c.args.number) refl c.requires.0.called.space told.0
     (ap Reply.Updates told.1)

@@ -1,11 +1,12 @@
-use Rattle.node_core.proofs.Words.{refl, true}
-use Rattle.node_core.proofs.Answering.{accepts, failed}
-use Rattle.node_core.proofs.MessagePlaces.{up_here}
-use Rattle.node_core.proofs.MessageKept.{unasked}
-use Rattle.node_core.proofs.MessageParts.{roomy}
-use Rattle.node_core.proofs.MessageRefused.{has_peer, its_rows, peer_is}
-use Rattle.node_core.proofs.MessageRoom.{follows_with, same_links, same_scope}
-use Rattle.node_core.proofs.MessageScopes.{refused_calm, went_on}
+use Rattle.node_core.proofs
+use proofs.Words.{refl, true}
+use proofs.Answering.{accepts, failed}
+use proofs.MessagePlaces.{up_here}
+use proofs.MessageKept.{unasked}
+use proofs.MessageParts.{roomy}
+use proofs.MessageRefused.{has_peer, its_rows, peer_is}
+use proofs.MessageRoom.{follows_with, same_links, same_scope}
+use proofs.MessageScopes.{refused_calm, went_on}
 use Rattle.node_core.proofs.kept.Kept.whole.Goals as goal
 
 pub unreachable-requires : goal.unreachable-requires

@@ -1,7 +1,8 @@
-use Rattle.node_core.proofs.Words.{ap, sym}
+use Rattle.node_core.proofs
+use proofs.Words.{ap, sym}
 use Rattle.policy_audit.proofs.Losses.{made_audited, made_entered, made_legal}
-use Rattle.node_core.proofs.Entered.{seen}
-use Rattle.node_core.proofs.StepAnswers.{core_count, core_limit, its_history}
+use proofs.Entered.{seen}
+use proofs.StepAnswers.{core_count, core_limit, its_history}
 use Rattle.node_core.proofs.node.NodeCore.audit.Goals as goal
 
 pub returns-clause-entries : goal.returns-clause-entries

@@ -1,7 +1,8 @@
-use Rattle.node_core.proofs.Words.{◌+◌, length, refl}
+use Rattle.node_core.proofs
+use proofs.Words.{length, refl, ◌+◌}
 use Rattle.policy_audit.specs.Pages.{page_size}
 use Rattle.policy_audit.proofs.Losses.{made_audited}
-use Rattle.node_core.proofs.HandedOut.{handed_out, not_none, spare_here}
+use proofs.HandedOut.{handed_out, not_none, spare_here}
 use Rattle.node_core.proofs.node.NodeCore.forget.Goals as goal
 
 pub invariant_of-self : goal.invariant_of-self

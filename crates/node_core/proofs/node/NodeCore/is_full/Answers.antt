@@ -1,5 +1,6 @@
-use Rattle.node_core.proofs.Words.{ap, nat_le, ◌∙◌}
-use Rattle.node_core.proofs.StepAnswers.{core_full, its_history}
+use Rattle.node_core.proofs
+use proofs.Words.{ap, nat_le, ◌∙◌}
+use proofs.StepAnswers.{core_full, its_history}
 use Rattle.node_core.proofs.node.NodeCore.is_full.Goals as goal
 
 pub returns : goal.returns

@@ -1,7 +1,8 @@
-use Rattle.node_core.proofs.Words.{◌∙◌, ◌+◌, ◌<◌, arith, length, sym}
+use Rattle.node_core.proofs
+use proofs.Words.{arith, length, sym, ◌+◌, ◌<◌, ◌∙◌}
 use Rattle.std.proofs.lemmas.Bool.Decides.{nat_tests}
 use Rattle.policy_audit.specs.Pages.{page_size}
-use Rattle.node_core.proofs.HandedOut.{spare_kept, spare_now}
+use proofs.HandedOut.{spare_kept, spare_now}
 use Rattle.node_core.proofs.node.NodeCore.is_spare.Goals as goal
 
 pub returns-then-number-len : goal.returns-then-number-len

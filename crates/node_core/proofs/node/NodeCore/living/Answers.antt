@@ -1,6 +1,7 @@
-use Rattle.node_core.proofs.Words.{arith, false, lives_of, sym, ◌∙◌, ◌≡◌, is_local}
-use Rattle.node_core.proofs.Entered.{seen}
-use Rattle.node_core.proofs.StepAnswers.{core_local, its_history}
+use Rattle.node_core.proofs
+use proofs.Words.{arith, false, is_local, lives_of, sym, ◌∙◌, ◌≡◌}
+use proofs.Entered.{seen}
+use proofs.StepAnswers.{core_local, its_history}
 use Rattle.node_core.proofs.node.NodeCore.living.Goals as goal
 
 pub returns-then-is_local : goal.returns-then-is_local

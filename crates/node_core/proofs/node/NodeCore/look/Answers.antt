@@ -1,12 +1,16 @@
-use Rattle.node_core.proofs.Words.{None, Some, ap, cond, not, sym, ◌∙◌, Reply, Rule}
+use Rattle.node_core.proofs
+use proofs.Words.{ap, cond, None, not, Reply, Rule, Some, sym, ◌∙◌}
 use Rattle.policy_audit.proofs.Losses.{legal_played}
-use Rattle.node_core.proofs.Scopes.{members_are, local_members_are, groups_are, local_groups_are}
+use proofs.Scopes.{groups_are, local_groups_are, local_members_are, members_are}
 use Rattle.node_core.proofs.node.NodeCore.look.Goals as goal
 
 pub returns-in_ok-of-in-Members : goal.returns-in_ok-of-in-Members
 returns-in_ok-of-in-Members c = rw c.in-Members.is (λ seat. (
   ap (λ b. cond (not b) (Some Rule.NoScope) None) c.in-Some.ensures.found.2,
-  ap Reply.Pids (sym (c.in_ok-of-in-Members.ensures ∙ members_are c.args.self.now.history c.args.scope.now c.in-Some.running.now c.in-Some.ensures.found.0 c.in-Some.ensures.found.1 c.in-Members.group.now _ c.in_ok-members-in-Members.ensures)),
+  ap Reply.Pids
+      (sym (c.in_ok-of-in-Members.ensures ∙ members_are c.args.self.now.history c.args.scope.now
+      c.in-Some.running.now c.in-Some.ensures.found.0 c.in-Some.ensures.found.1
+      c.in-Members.group.now _ c.in_ok-members-in-Members.ensures)),
 ))
 
 pub returns-in_ok-of-in-LocalMembers : goal.returns-in_ok-of-in-LocalMembers
@@ -23,7 +27,10 @@ returns-in_ok-of-in-LocalMembers c = rw c.in-LocalMembers.is (λ seat. (
 pub returns-in_ok-of-in-Groups : goal.returns-in_ok-of-in-Groups
 returns-in_ok-of-in-Groups c = rw c.in-Groups.is (λ seat. (
   ap (λ b. cond (not b) (Some Rule.NoScope) None) c.in-Some.ensures.found.2,
-  ap Reply.Groups (sym (c.in_ok-of-in-Groups.ensures ∙ groups_are c.args.self.now.history c.args.scope.now c.in-Some.running.now c.in-Some.ensures.found.0 c.in-Some.ensures.found.1 _ c.in_ok-groups-in-Groups.ensures)),
+  ap Reply.Groups
+      (sym (c.in_ok-of-in-Groups.ensures ∙ groups_are c.args.self.now.history c.args.scope.now
+      c.in-Some.running.now c.in-Some.ensures.found.0 c.in-Some.ensures.found.1 _
+      c.in_ok-groups-in-Groups.ensures)),
 ))
 
 pub returns-in_ok-of-in-LocalGroups : goal.returns-in_ok-of-in-LocalGroups

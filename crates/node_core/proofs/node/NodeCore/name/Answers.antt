@@ -1,5 +1,6 @@
-use Rattle.node_core.proofs.Words.{ap, sym}
-use Rattle.node_core.proofs.StepAnswers.{core_opening, its_history}
+use Rattle.node_core.proofs
+use proofs.Words.{ap, sym}
+use proofs.StepAnswers.{core_opening, its_history}
 use Rattle.node_core.proofs.node.NodeCore.name.Goals as goal
 
 pub returns : goal.returns

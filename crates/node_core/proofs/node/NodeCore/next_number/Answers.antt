@@ -1,7 +1,8 @@
-use Rattle.node_core.proofs.Words.{ap, arith, sym, ◌+◌, ◌<◌, ◌∙◌, ◌^◌}
-use Rattle.node_core.proofs.StepAnswers.{core_count, core_space, its_history}
-use Rattle.node_core.proofs.node.NodeCore.next_number.Goals as goal
+use Rattle.node_core.proofs
+use proofs.Words.{ap, arith, sym, ◌+◌, ◌<◌, ◌^◌, ◌∙◌}
+use proofs.StepAnswers.{core_count, core_space, its_history}
 use Rattle.node_core.proofs.node.NodeCore.next_number.Goals.{After-len}
+use Rattle.node_core.proofs.node.NodeCore.next_number.Goals as goal
 
 few : (c : After-len) → c.len.result + 1 < 2 ^ 32
 few c = let space = core_space c.self.invariant (its_history c.self.view_is) c.requires in

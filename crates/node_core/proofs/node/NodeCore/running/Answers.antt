@@ -1,7 +1,8 @@
-use Rattle.node_core.proofs.Words.{history}
+use Rattle.node_core.proofs
+use proofs.Words.{history}
 use Rattle.policy_audit.proofs.Losses.{made_legal}
-use Rattle.node_core.proofs.Scopes.{running_here, not_running}
-use Rattle.node_core.proofs.Searched.{scopes_ascend}
+use proofs.Scopes.{not_running, running_here}
+use proofs.Searched.{scopes_ascend}
 use Rattle.node_core.proofs.node.NodeCore.running.Goals as goal
 
 pub returns-clause-found : goal.returns-clause-found

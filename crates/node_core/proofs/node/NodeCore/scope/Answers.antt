@@ -1,10 +1,12 @@
-use Rattle.node_core.proofs.Words.{arith, ap, option_map, ℕ, List, None, Some, Option, ◌∙◌, ◌≡◌}
-use Rattle.node_core.proofs.Words.{running_scopes, History}
+use Rattle.node_core.proofs
+use Rattle.node_core.specs
+use proofs.Words.{ap, arith, History, List, None, Option, option_map, running_scopes, Some, ℕ, ◌∙◌}
+use proofs.Words.{◌≡◌}
 use Rattle.std.proofs.Common.{slice_get}
 use Rattle.std.proofs.lemmas.Grind.{common_steps}
 use Rattle.std.proofs.lemmas.Option.{gets, slice_get-map, slice_get_past}
-use Rattle.node_core.specs.declared.running.Running.{Running}
-use Rattle.node_core.specs.ScopeFacts.{ScopesFollow, scope_words}
+use specs.declared.running.Running.{Running}
+use specs.ScopeFacts.{scope_words, ScopesFollow}
 use Rattle.node_core.proofs.node.NodeCore.scope.Goals as goal
 
 -- the name of the scope at a place

@@ -1,12 +1,13 @@
-use Rattle.node_core.proofs.Words.{ap, refl, sym, ◌∙◌, ◌≡◌, is_full, history, false, Bool, Opening, Kept}
+use Rattle.node_core.proofs
+use proofs.Words.{ap, Bool, false, history, is_full, Kept, Opening, refl, sym, ◌∙◌, ◌≡◌}
 use Rattle.policy_audit.specs.Log.{Log}
 use Rattle.policy_audit.proofs.Losses.{made_audited}
 use Rattle.node_core.specs.Core.{IsCore}
-use Rattle.node_core.proofs.StepAnswers.{core_count, core_keeps, core_limit, not_full}
-use Rattle.node_core.proofs.StepAnswers.{unentered_step, step_so, core_so, its_history}
-use Rattle.node_core.proofs.Searched.{scopes_ascend}
-use Rattle.node_core.proofs.node.NodeCore.step.Goals as goal
+use proofs.StepAnswers.{core_count, core_keeps, core_limit, core_so, its_history, not_full, step_so}
+use proofs.StepAnswers.{unentered_step}
+use proofs.Searched.{scopes_ascend}
 use Rattle.node_core.proofs.node.NodeCore.step.Goals.{In_default}
+use Rattle.node_core.proofs.node.NodeCore.step.Goals as goal
 
 roomy : {o : Opening} {audit : Log} {kept : Kept} {room : Bool} → IsCore o audit kept
     → IsCore o (record {

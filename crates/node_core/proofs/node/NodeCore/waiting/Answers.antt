@@ -1,12 +1,13 @@
-use Rattle.node_core.proofs.Words.{ap, arith, cond, length, subst, sym, Bool, None, Some, ℕ, ◌∙◌}
-use Rattle.node_core.proofs.Words.{◌≡◌, ◌≤◌, is_kept, waiting, IsLegal}
+use Rattle.node_core.proofs
+use proofs.Words.{ap, arith, Bool, cond, is_kept, IsLegal, length, None, Some, subst, sym, waiting}
+use proofs.Words.{ℕ, ◌∙◌, ◌≡◌, ◌≤◌}
 use Rattle.policy_audit.specs.Owed.{max_waiting}
 use Rattle.policy_audit.proofs.Losses.{made_legal}
 use Rattle.policy_audit.proofs.Silent.{all_few}
-use Rattle.node_core.proofs.Entered.{seen}
-use Rattle.node_core.proofs.MessagePlaces.{waits_none, waits_some}
-use Rattle.node_core.proofs.Searched.{links_in_order}
-use Rattle.node_core.proofs.StepAnswers.{its_history}
+use proofs.Entered.{seen}
+use proofs.MessagePlaces.{waits_none, waits_some}
+use proofs.Searched.{links_in_order}
+use proofs.StepAnswers.{its_history}
 use Rattle.node_core.proofs.node.NodeCore.waiting.Goals as goal
 
 pub returns-in_err-place-clause-waiting : goal.returns-in_err-place-clause-waiting

@@ -1,4 +1,4 @@
-use Rattle.std.proofs.Common.{◌∙◌, sym, ap}
+use Rattle.std.proofs.Common.{ap, sym, ◌∙◌}
 use Rattle.node_threads.specs.Calls.{gone_calls, kept_calls}
 use Rattle.node_threads.proofs.LetGo.{kept_behind}
 use Rattle.node_threads.proofs.pass.Pass.calls.Goals as goal

@@ -1,13 +1,14 @@
-use Rattle.std.proofs.Common.{◌≡◌, ◌∙◌, ◌<◌, ap, sym, subst, false, length, List, arith}
+use Rattle.node_threads.proofs
+use Rattle.node_threads.specs
+use Rattle.std.proofs.Common.{ap, arith, false, length, List, subst, sym, ◌<◌, ◌∙◌, ◌≡◌}
 use Rattle.std.proofs.lemmas.List.{get_or_default}
 use Rattle.policy_audit.specs.declared.entry.Entry.{Entry}
 use Rattle.policy_audit.specs.History.{audited}
 use Rattle.policy_audit.specs.Policy.{is_full, next_number}
-use Rattle.node_threads.specs.Calls.{entries_of}
-use Rattle.node_threads.specs.Room.{Room, IsSound}
-use Rattle.node_threads.specs.Applied.{room_after}
-use Rattle.node_threads.proofs.Counted.{audited_after, number_after, entries_of_le, room_moved}
-use Rattle.node_threads.proofs.Counted.{sound_moved}
+use specs.Calls.{entries_of}
+use specs.Room.{IsSound, Room}
+use specs.Applied.{room_after}
+use proofs.Counted.{audited_after, entries_of_le, number_after, room_moved, sound_moved}
 use Rattle.node_threads.proofs.shared.Shared.advance.Goals as goal
 
 -- a count is at most that of all entries before, and those are fewer than 2^32
@@ -15,7 +16,8 @@ pub overflow_add-index_mut : goal.overflow_add-index_mut
 overflow_add-index_mut c =
     let free : is_full c.self.inside.core.history ≡ false = ap (λ (r : Room). is_full r.history)
     c.self.view_is ∙ c.requires.free in
-    let entries = audited_after c.self.inside.core.history c.judge.new.core.history c.args.seat c.args.event free
+    let entries = audited_after c.self.inside.core.history c.judge.new.core.history c.args.seat
+    c.args.event free
     c.in_ok-verdict.ensures.entered in
     let within = subst (λ (r : Room). c.args.seat < length r.counts) (sym c.self.view_is)
     c.requires.seat in

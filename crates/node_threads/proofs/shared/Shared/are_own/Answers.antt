@@ -1,4 +1,4 @@
-use Rattle.node_threads.proofs.Settling.{own_from_last, last_from_own}
+use Rattle.node_threads.proofs.Settling.{last_from_own, own_from_last}
 use Rattle.node_threads.proofs.shared.Shared.are_own.Goals as goal
 
 pub returns-then-all_fit : goal.returns-then-all_fit

@@ -1,10 +1,11 @@
-use Rattle.std.proofs.Common.{◌≡◌, ◌∙◌, List, ◌++◌, append_assoc, ap, sym, refl, false}
+use Rattle.node_threads.specs
+use Rattle.std.proofs.Common.{ap, append_assoc, false, List, refl, sym, ◌++◌, ◌∙◌, ◌≡◌}
 use Rattle.policy_audit.specs.Policy.{is_full}
-use Rattle.node_threads.specs.declared.pass.Call.{Call}
-use Rattle.node_threads.specs.Calls.{Record, gone_calls, last_reply}
-use Rattle.node_threads.specs.Room.{Room}
-use Rattle.node_threads.specs.Applied.{IsAnswered}
-use Rattle.node_threads.proofs.Kept.{answered, told_ok, told_refusal, last_reply_push}
+use specs.declared.pass.Call.{Call}
+use specs.Calls.{gone_calls, last_reply, Record}
+use specs.Room.{Room}
+use specs.Applied.{IsAnswered}
+use Rattle.node_threads.proofs.Kept.{answered, last_reply_push, told_ok, told_refusal}
 use Rattle.node_threads.proofs.shared.Shared.enter.Goals as goal
 
 abbrev first : goal.After-keep → List Call

@@ -1,6 +1,6 @@
-use Rattle.std.proofs.Common.{◌≡◌, ◌∙◌, ap, subst, sym, Option, Some, None, OnSome, IfNone}
-use Rattle.node_core.specs.Recorded.{Recorded, IsSpare}
-use Rattle.node_threads.specs.Room.{Room, recorded, room_of}
+use Rattle.std.proofs.Common.{ap, IfNone, None, OnSome, Option, Some, subst, sym, ◌∙◌, ◌≡◌}
+use Rattle.node_core.specs.Recorded.{IsSpare, Recorded}
+use Rattle.node_threads.specs.Room.{recorded, Room, room_of}
 use Rattle.node_threads.proofs.shared.Shared.forget.Goals as goal
 
 weaker : {A P Q : Type 0} (o : Option A) → (P → Q) → IfNone o P → IfNone o Q

@@ -1,6 +1,6 @@
-use Rattle.std.proofs.Common.{◌≡◌, List, [], ℕ, refl, sym, subst, replicate, arith}
+use Rattle.std.proofs.Common.{arith, List, refl, replicate, subst, sym, ℕ, [], ◌≡◌}
 use Rattle.policy_audit.specs.declared.entry.Entry.{Entry}
-use Rattle.policy_audit.specs.History.{past, audited}
+use Rattle.policy_audit.specs.History.{audited, past}
 use Rattle.policy_audit.specs.Policy.{IsLegal}
 use Rattle.node_threads.specs.Room.{AreCounted}
 use Rattle.node_threads.proofs.Counted.{AreCounted_none}

@@ -1,10 +1,11 @@
-use Rattle.std.proofs.Common.{◌≡◌, ◌+◌, ◌≤◌, ℕ, arith, subst}
+use Rattle.pg_script.proofs
+use Rattle.std.proofs.Common.{arith, subst, ℕ, ◌+◌, ◌≡◌, ◌≤◌}
 use Rattle.policy_audit.specs.History.{audited, entered}
 use Rattle.policy_audit.specs.Pages.{IsPageBehind, page_size}
 use Rattle.node_core.specs.Recorded.{IsSpare}
-use Rattle.pg_script.specs.Playing.{Playing, forgotten_to}
-use Rattle.pg_script.proofs.StepLemmas.{seated}
-use Rattle.pg_script.proofs.Kept.{left_is}
+use Rattle.pg_script.specs.Playing.{forgotten_to, Playing}
+use proofs.StepLemmas.{seated}
+use proofs.Kept.{left_is}
 use Rattle.pg_script.proofs.console.Console.forget.Goals as goal
 
 pub returns-clause-left : goal.returns-clause-left

@@ -1,8 +1,9 @@
-use Rattle.std.proofs.Common.{◌≡◌, ◌++◌, ℕ, Bool, List, ap, subst, ◌∙◌, OnOk}
+use Rattle.pg_script.specs
+use Rattle.std.proofs.Common.{ap, Bool, List, OnOk, subst, ℕ, ◌++◌, ◌∙◌, ◌≡◌}
+use specs.Playing.{Playing}
+use specs.Transcript.{answer_to, left_by}
+use Rattle.pg_script.proofs.StepLemmas.{on_ok, seated, stepped_line}
 use Rattle.pg_text.specs.declared.command.Command.TheVariants as command
-use Rattle.pg_script.specs.Playing.{Playing}
-use Rattle.pg_script.specs.Transcript.{answer_to, left_by}
-use Rattle.pg_script.proofs.StepLemmas.{seated, stepped_line, on_ok}
 use Rattle.pg_script.proofs.console.Console.step.Goals as goal
 
 pub returns : goal.returns

@@ -1,9 +1,8 @@
-use Rattle.pg_world.proofs
-use proofs.Words.{History, subst}
+use Rattle.pg_world.proofs.Words.{History, subst}
 use Rattle.std.proofs.lemmas.Option.{IfSome_then}
 use Rattle.policy_audit.specs.History.{audited}
 use Rattle.policy_audit.specs.Pages.{IsPageBehind}
-use proofs.node.Node.forget.Goals as goal
+use Rattle.pg_world.proofs.node.Node.forget.Goals as goal
 
 pub returns-clause-page : goal.returns-clause-page
 returns-clause-page c = IfSome_then c.forget.result c.forget.ensures.page (λ page p. (

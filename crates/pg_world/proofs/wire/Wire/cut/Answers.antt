@@ -1,7 +1,7 @@
 use Rattle.pg_world.proofs
 use proofs.Words.{cut_by, refl, Side}
 use proofs.Queues.{put}
-use proofs.wire.Wire.cut.Goals as goal
+use Rattle.pg_world.proofs.wire.Wire.cut.Goals as goal
 
 pub returns-in-Dialler : goal.returns-in-Dialler
 returns-in-Dialler c = let it = c.cut_off.ensures in record {

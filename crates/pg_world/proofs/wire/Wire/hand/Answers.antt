@@ -1,7 +1,7 @@
 use Rattle.pg_world.proofs
 use proofs.Words.{ap, joined_by, other, refl, Side}
 use proofs.Queues.{put}
-use proofs.wire.Wire.hand.Goals as goal
+use Rattle.pg_world.proofs.wire.Wire.hand.Goals as goal
 
 pub returns-in-Dialler : goal.returns-in-Dialler
 returns-in-Dialler c = let it = c.hand_over.ensures in record {

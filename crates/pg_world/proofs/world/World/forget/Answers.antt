@@ -3,7 +3,7 @@ use proofs.Words.{ap, History, length, Nodes, slice_get, slice_get-get_or, Some,
 use proofs.Words.{◌∙◌, ◌≡◌}
 use Rattle.std.proofs.Common.{rules}
 use Rattle.std.proofs.lemmas.Option.{IfSome_then}
-use proofs.world.World.forget.Goals as goal
+use Rattle.pg_world.proofs.world.World.forget.Goals as goal
 
 pub returns-clause-page : goal.returns-clause-page
 returns-clause-page c =

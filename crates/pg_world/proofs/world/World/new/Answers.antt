@@ -1,7 +1,7 @@
 use Rattle.pg_world.proofs
 use proofs.Words.{AreNew, DifferInName, histories, IsWorld, subst, sym, world}
 use proofs.Starting.{starts}
-use proofs.world.World.new.Goals as goal
+use Rattle.pg_world.proofs.world.World.new.Goals as goal
 
 pub returns-clause-unused : goal.returns-clause-unused
 returns-clause-unused c = subst (λ ns. AreNew (histories ns)) c.as_slice-2.ensures.value

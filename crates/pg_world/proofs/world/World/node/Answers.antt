@@ -1,7 +1,7 @@
 use Rattle.pg_world.proofs
 use proofs.Words.{ListMoments, ListNow, subst}
 use proofs.Moments.{lists_moments, lists_now}
-use proofs.world.World.node.Goals as goal
+use Rattle.pg_world.proofs.world.World.node.Goals as goal
 
 pub returns-clause-moments : goal.returns-clause-moments
 returns-clause-moments c = subst ListMoments c.self.view_is (lists_moments _ c.self.invariant)

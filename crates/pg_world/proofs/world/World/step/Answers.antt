@@ -3,7 +3,7 @@ use proofs.Words.{drop, IsWorld, IsWorldStep, length, subst, sym, take, take_at,
 use proofs.Words.{◌≡◌}
 use proofs.Staying.{stays}
 use proofs.Moments.{lists_moments, lists_now}
-use proofs.world.World.step.Goals as goal
+use Rattle.pg_world.proofs.world.World.step.Goals as goal
 
 -- the nodes behind the loan of their list
 nodes_are : (c : goal.After-self-1) → take c.self.inside.nodes.len (c.make_step.new.nodes ++ drop

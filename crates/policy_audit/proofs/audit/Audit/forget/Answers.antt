@@ -1,8 +1,9 @@
+use Rattle.policy_audit.proofs
 use Rattle.std.proofs.Common.{arith, length, ◌≤◌}
 use Rattle.std.proofs.lemmas.Grind.{common_steps}
 use Rattle.policy_audit.specs.Pages.{entries_past}
-use Rattle.policy_audit.proofs.InPages.{at_most}
-use Rattle.policy_audit.proofs.Handed.{oldest}
+use proofs.InPages.{at_most}
+use proofs.Handed.{oldest}
 use Rattle.policy_audit.proofs.audit.Audit.forget.Goals as goal
 
 pub returns-clause-page : goal.returns-clause-page

@@ -1,9 +1,10 @@
-use Rattle.std.proofs.Common.{arith, suc, length, ◌≡◌, ◌+◌}
+use Rattle.policy_audit.proofs
+use Rattle.std.proofs.Common.{arith, length, suc, ◌+◌, ◌≡◌}
 use Rattle.std.proofs.lemmas.Grind.{common_steps}
 use Rattle.std.proofs.lemmas.Option.{gets}
 use Rattle.policy_audit.specs.Pages.{entries_past}
-use Rattle.policy_audit.proofs.InPages.{found, past}
-use Rattle.policy_audit.proofs.Handed.{at_kept}
+use proofs.InPages.{found, past}
+use proofs.Handed.{at_kept}
 use Rattle.policy_audit.proofs.audit.Audit.get.Goals as goal
 
 pub returns-in_err-page : goal.returns-in_err-page

@@ -1,4 +1,4 @@
-use Rattle.std.proofs.Common.{◌≡◌, length}
+use Rattle.std.proofs.Common.{length, ◌≡◌}
 use Rattle.std.specs.List.{filter}
 use Rattle.policy_audit.specs.Log.{changes_rows}
 use Rattle.policy_audit.proofs.changing.ChangingIterator.next.Given as goal

@@ -1,4 +1,4 @@
-use Rattle.std.proofs.Common.{◌≡◌, ◌++◌, length}
+use Rattle.std.proofs.Common.{length, ◌++◌, ◌≡◌}
 use Rattle.policy_audit.specs.Pages.{entries_in}
 use Rattle.policy_audit.proofs.later.LaterIterator.next.Given as goal
 

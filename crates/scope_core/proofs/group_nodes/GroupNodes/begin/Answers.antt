@@ -1,6 +1,6 @@
-use Rattle.scope_core.proofs.Words.{◌≡◌, ◌∙◌, ap, cond, same, List, ℕ, Some, arith, times_named}
-use Rattle.scope_core.proofs.Words.{lookup}
-use Rattle.scope_core.proofs.GroupNodes.{set_times, set_rises}
+use Rattle.scope_core.proofs
+use proofs.Words.{ap, arith, cond, List, lookup, same, Some, times_named, ℕ, ◌∙◌, ◌≡◌}
+use proofs.GroupNodes.{set_rises, set_times}
 use Rattle.scope_core.proofs.group_nodes.GroupNodes.begin.Goals as goal
 
 pub invariant_of-self-2 : goal.invariant_of-self-2

@@ -1,5 +1,6 @@
-use Rattle.scope_core.proofs.Words.{◌∙◌, sym, ap, None, times_named}
-use Rattle.scope_core.proofs.GroupNodes.{set_same_times, set_rises}
+use Rattle.scope_core.proofs
+use proofs.Words.{ap, None, sym, times_named, ◌∙◌}
+use proofs.GroupNodes.{set_rises, set_same_times}
 use Rattle.scope_core.proofs.group_nodes.GroupNodes.forget.Goals as goal
 
 pub invariant_of-self : goal.invariant_of-self

@@ -1,7 +1,7 @@
-use Rattle.scope_core.proofs.Words.{sym, ◌∙◌, ap, arith, text_cmp, same, texts_total}
-use Rattle.scope_core.proofs.Words.{sorted_listing, is_among, occurrences}
-use Rattle.scope_core.proofs.GroupNodes.{names_apart, names_rise, found_name, only_name}
-use Rattle.scope_core.proofs.GroupNodes.{still_among}
+use Rattle.scope_core.proofs
+use proofs.Words.{ap, arith, is_among, occurrences, same, sorted_listing, sym, text_cmp}
+use proofs.Words.{texts_total, ◌∙◌}
+use proofs.GroupNodes.{found_name, names_apart, names_rise, only_name, still_among}
 use Rattle.scope_core.proofs.group_nodes.GroupNodes.groups.Goals as goal
 
 pub returns-clause-rises : goal.returns-clause-rises

@@ -1,5 +1,6 @@
-use Rattle.scope_core.proofs.Words.{sym, ap}
-use Rattle.scope_core.proofs.GroupNodes.{found_nodes, none_times, times, times_once}
+use Rattle.scope_core.proofs
+use proofs.Words.{ap, sym}
+use proofs.GroupNodes.{found_nodes, none_times, times, times_once}
 use Rattle.scope_core.proofs.group_nodes.GroupNodes.of.Goals as goal
 
 pub returns-in-Some-clause-nodes : goal.returns-in-Some-clause-nodes

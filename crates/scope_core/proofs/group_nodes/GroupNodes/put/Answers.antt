@@ -1,7 +1,6 @@
-use Rattle.scope_core.proofs.Words.{◌∙◌, sym, ap, cond, same, Some, on_err_weaker, on_ok_weaker}
-use Rattle.scope_core.proofs.Words.{is_some}
-use Rattle.scope_core.proofs.GroupNodes.{set_times, set_same_times, set_rises, found_nodes}
-use Rattle.scope_core.proofs.GroupNodes.{none_times, times}
+use Rattle.scope_core.proofs
+use proofs.Words.{ap, cond, is_some, on_err_weaker, on_ok_weaker, same, Some, sym, ◌∙◌}
+use proofs.GroupNodes.{found_nodes, none_times, set_rises, set_same_times, set_times, times}
 use Rattle.scope_core.proofs.group_nodes.GroupNodes.put.Goals as goal
 
 pub begin-requires : goal.begin-requires

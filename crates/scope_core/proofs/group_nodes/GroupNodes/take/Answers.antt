@@ -1,7 +1,6 @@
-use Rattle.scope_core.proofs.Words.{◌∙◌, sym, ap, arith, cond, same, Some, same_decides, is_some}
-use Rattle.scope_core.proofs.Words.{common_steps}
-use Rattle.scope_core.proofs.GroupNodes.{set_times, set_rises, set_none, none_times, found_nodes}
-use Rattle.scope_core.proofs.GroupNodes.{times}
+use Rattle.scope_core.proofs
+use proofs.Words.{ap, arith, common_steps, cond, is_some, same, same_decides, Some, sym, ◌∙◌}
+use proofs.GroupNodes.{found_nodes, none_times, set_none, set_rises, set_times, times}
 use Rattle.scope_core.proofs.group_nodes.GroupNodes.take.Goals as goal
 
 pub returns-in_default : goal.returns-in_default

@@ -1,6 +1,7 @@
-use Rattle.scope_core.proofs.Words.{◌∙◌, ◌++◌, ap, sym, subst, AllByRecursion}
-use Rattle.scope_core.proofs.GroupRows.{SortedMembers}
-use Rattle.scope_core.proofs.GroupIndex.{all_gone, all_leave}
+use Rattle.scope_core.proofs
+use proofs.Words.{AllByRecursion, ap, subst, sym, ◌++◌, ◌∙◌}
+use proofs.GroupRows.{SortedMembers}
+use proofs.GroupIndex.{all_gone, all_leave}
 use Rattle.scope_core.proofs.hashed_rows.HashedRows.all_left.Goals as goal
 
 pub returns : goal.returns

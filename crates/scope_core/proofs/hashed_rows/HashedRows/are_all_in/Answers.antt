@@ -1,5 +1,6 @@
-use Rattle.scope_core.proofs.Words.{[], arith, subst, sym, HasRoomFor, NodeTable, counted_in}
-use Rattle.scope_core.proofs.LoweredRows.{row_le_node}
+use Rattle.scope_core.proofs
+use proofs.Words.{arith, counted_in, HasRoomFor, NodeTable, subst, sym, []}
+use proofs.LoweredRows.{row_le_node}
 use Rattle.scope_core.proofs.hashed_rows.HashedRows.are_all_in.Goals as goal
 
 pub can_lower-requires-clause-few : goal.can_lower-requires-clause-few

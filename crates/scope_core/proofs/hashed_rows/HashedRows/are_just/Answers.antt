@@ -1,7 +1,8 @@
-use Rattle.scope_core.proofs.Words.{◌≡◌, ◌∙◌, ◌++◌, ap, sym, subst, arith, List, [], Row}
-use Rattle.scope_core.proofs.Words.{AllByRecursion, append_assoc, NodeTable, entries_of}
-use Rattle.scope_core.proofs.GroupRows.{SortedMembers}
-use Rattle.scope_core.proofs.GroupIndex.{repeated, members_repeated, all_repeated, no_rows}
+use Rattle.scope_core.proofs
+use proofs.Words.{AllByRecursion, ap, append_assoc, arith, entries_of, List, NodeTable, Row, subst}
+use proofs.Words.{sym, [], ◌++◌, ◌∙◌, ◌≡◌}
+use proofs.GroupRows.{SortedMembers}
+use proofs.GroupIndex.{all_repeated, members_repeated, no_rows, repeated}
 use Rattle.scope_core.proofs.hashed_rows.HashedRows.are_just.Goals as goal
 
 pub loop-group-preserved : goal.loop-group-preserved

@@ -1,6 +1,7 @@
-use Rattle.scope_core.proofs.Words.{◌≡◌, ◌++◌, List, AllByRecursion, Row}
-use Rattle.scope_core.proofs.GroupRows.{SortedMembers}
-use Rattle.scope_core.proofs.GroupIndex.{repeated}
+use Rattle.scope_core.proofs
+use proofs.Words.{AllByRecursion, List, Row, ◌++◌, ◌≡◌}
+use proofs.GroupRows.{SortedMembers}
+use proofs.GroupIndex.{repeated}
 use Rattle.scope_core.proofs.hashed_rows.HashedRows.are_just.Given as goal
 
 -- once those of the groups to come stand before the rest, all stand before it

@@ -1,6 +1,7 @@
-use Rattle.scope_core.proofs.Words.{◌≡◌, ◌∙◌, ap, sym, arith, tally, is_row, same_row, unwrap_or}
-use Rattle.scope_core.proofs.Words.{lookup, common_steps, NodeTable}
-use Rattle.scope_core.proofs.HashedRows.{count_is}
+use Rattle.scope_core.proofs
+use proofs.Words.{ap, arith, common_steps, is_row, lookup, NodeTable, same_row, sym, tally}
+use proofs.Words.{unwrap_or, ◌∙◌, ◌≡◌}
+use proofs.HashedRows.{count_is}
 use Rattle.scope_core.proofs.hashed_rows.HashedRows.count.Goals as goal
 
 pub returns : goal.returns

@@ -1,6 +1,7 @@
-use Rattle.scope_core.proofs.Words.{◌≡◌, ◌∙◌, ap, sym, arith, tally, is_row, same_row, Row}
-use Rattle.scope_core.proofs.Words.{unwrap_or, lookup, common_steps, NodeTable, pid_of}
-use Rattle.scope_core.proofs.HashedRows.{count_is}
+use Rattle.scope_core.proofs
+use proofs.Words.{ap, arith, common_steps, is_row, lookup, NodeTable, pid_of, Row, same_row, sym}
+use proofs.Words.{tally, unwrap_or, ◌∙◌, ◌≡◌}
+use proofs.HashedRows.{count_is}
 use Rattle.scope_core.proofs.hashed_rows.HashedRows.count_in.Goals as goal
 
 pub returns : goal.returns

@@ -1,4 +1,4 @@
-use Rattle.scope_core.proofs.Words.{◌≡◌, ◌++◌, keys_of, entries_of, with_counts}
+use Rattle.scope_core.proofs.Words.{entries_of, keys_of, with_counts, ◌++◌, ◌≡◌}
 use Rattle.scope_core.proofs.hashed_rows.HashedRows.counted_all.Given as goal
 
 -- with those of the entries to come, all are there

@@ -1,4 +1,4 @@
-use Rattle.scope_core.proofs.Words.{◌≡◌, length, take}
+use Rattle.scope_core.proofs.Words.{length, take, ◌≡◌}
 use Rattle.scope_core.proofs.hashed_rows.HashedRows.cut.Given as goal
 
 -- the first rows stay

@@ -1,7 +1,8 @@
-use Rattle.scope_core.proofs.Words.{◌≡◌, ◌∙◌, ap, sym, subst, arith, true, has_members, text_cmp}
-use Rattle.scope_core.proofs.Words.{NodeTable, key_cmp, found, get}
-use Rattle.scope_core.proofs.HashedWrites.{none_there}
-use Rattle.scope_core.proofs.Outcomes.{some_of}
+use Rattle.scope_core.proofs
+use proofs.Words.{ap, arith, found, get, has_members, key_cmp, NodeTable, subst, sym, text_cmp}
+use proofs.Words.{true, ◌∙◌, ◌≡◌}
+use proofs.HashedWrites.{none_there}
+use proofs.Outcomes.{some_of}
 use Rattle.scope_core.proofs.hashed_rows.HashedRows.groups.Goals as goal
 
 pub returns : goal.returns

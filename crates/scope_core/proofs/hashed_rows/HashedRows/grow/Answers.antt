@@ -1,6 +1,7 @@
-use Rattle.scope_core.proofs.Words.{◌∙◌, ap, sym, tally, take, NodeTable}
-use Rattle.scope_core.proofs.Outcomes.{from_not_err}
-use Rattle.scope_core.proofs.Tallies.{tally_append}
+use Rattle.scope_core.proofs
+use proofs.Words.{ap, NodeTable, sym, take, tally, ◌∙◌}
+use proofs.Outcomes.{from_not_err}
+use proofs.Tallies.{tally_append}
 use Rattle.scope_core.proofs.hashed_rows.HashedRows.grow.Goals as goal
 
 pub returns-clause-ok : goal.returns-clause-ok

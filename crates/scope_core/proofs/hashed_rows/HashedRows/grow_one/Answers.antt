@@ -1,6 +1,7 @@
-use Rattle.scope_core.proofs.Words.{◌≡◌, ◌∙◌, ap, sym, arith, true, false, on_ok_weaker}
-use Rattle.scope_core.proofs.Words.{common_steps, NodeTable, stands}
-use Rattle.scope_core.proofs.HashedRows.{stands_is}
+use Rattle.scope_core.proofs
+use proofs.Words.{ap, arith, common_steps, false, NodeTable, on_ok_weaker, stands, sym, true, ◌∙◌}
+use proofs.Words.{◌≡◌}
+use proofs.HashedRows.{stands_is}
 use Rattle.scope_core.proofs.hashed_rows.HashedRows.grow_one.Goals as goal
 
 pub returns-then-contains_key-clause-ok : goal.returns-then-contains_key-clause-ok

@@ -1,6 +1,7 @@
-use Rattle.scope_core.proofs.Words.{◌≡◌, ◌∙◌, ap, sym, subst, refl, arith, true, false, Bool, not}
-use Rattle.scope_core.proofs.Words.{has_members, AreCounted, ProcessKey, is_some, NodeTable}
-use Rattle.scope_core.proofs.HashedWrites.{none_there, some_there}
+use Rattle.scope_core.proofs
+use proofs.Words.{ap, AreCounted, arith, Bool, false, has_members, is_some, NodeTable, not}
+use proofs.Words.{ProcessKey, refl, subst, sym, true, ◌∙◌, ◌≡◌}
+use proofs.HashedWrites.{none_there, some_there}
 use Rattle.scope_core.proofs.hashed_rows.HashedRows.has_group.Goals as goal
 
 pub returns-in-None : goal.returns-in-None

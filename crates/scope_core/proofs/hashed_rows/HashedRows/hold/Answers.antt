@@ -1,7 +1,8 @@
-use Rattle.scope_core.proofs.Words.{◌∙◌, ap, sym, arith, tally, length, length-append, take, stands}
+use Rattle.scope_core.proofs
+use proofs.Words.{ap, arith, length, length-append, stands, sym, take, tally, ◌∙◌}
 use Rattle.std.proofs.lemmas.List.{take-append-le}
-use Rattle.scope_core.proofs.Outcomes.{from_not_err}
-use Rattle.scope_core.proofs.HashedWrites.{grown_stands, grown_tally, stands_more}
+use proofs.Outcomes.{from_not_err}
+use proofs.HashedWrites.{grown_stands, grown_tally, stands_more}
 use Rattle.scope_core.proofs.hashed_rows.HashedRows.hold.Goals as goal
 
 pub loop-counted-preserved : goal.loop-counted-preserved

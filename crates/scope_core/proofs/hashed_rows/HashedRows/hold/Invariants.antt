@@ -1,4 +1,4 @@
-use Rattle.scope_core.proofs.Words.{◌≡◌, ◌≤◌, ◌||◌, Bool, length, take, tally, Row, stands}
+use Rattle.scope_core.proofs.Words.{Bool, length, Row, stands, take, tally, ◌||◌, ◌≡◌, ◌≤◌}
 use Rattle.scope_core.proofs.hashed_rows.HashedRows.hold.Given as goal
 
 -- the first rows are those that were there, and those of the list so far stand behind them

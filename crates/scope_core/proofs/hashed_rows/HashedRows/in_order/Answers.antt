@@ -1,7 +1,8 @@
-use Rattle.scope_core.proofs.Words.{◌∙◌, ◌++◌, ap, sym, subst, tally, is_row, AllByRecursion, Rises}
-use Rattle.scope_core.proofs.Words.{counted_cmp, append-nil}
-use Rattle.scope_core.proofs.GroupRows.{SortedMembers, flat, flat_rises}
-use Rattle.scope_core.proofs.GroupIndex.{index_tally}
+use Rattle.scope_core.proofs
+use proofs.Words.{AllByRecursion, ap, append-nil, counted_cmp, is_row, Rises, subst, sym, tally}
+use proofs.Words.{◌++◌, ◌∙◌}
+use proofs.GroupRows.{flat, flat_rises, SortedMembers}
+use proofs.GroupIndex.{index_tally}
 use Rattle.scope_core.proofs.hashed_rows.HashedRows.in_order.Goals as goal
 
 pub returns-clause-rises : goal.returns-clause-rises

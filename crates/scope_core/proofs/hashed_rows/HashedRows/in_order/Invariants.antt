@@ -1,5 +1,6 @@
-use Rattle.scope_core.proofs.Words.{◌≡◌, ◌++◌, AllByRecursion}
-use Rattle.scope_core.proofs.GroupRows.{SortedMembers, flat}
+use Rattle.scope_core.proofs
+use proofs.Words.{AllByRecursion, ◌++◌, ◌≡◌}
+use proofs.GroupRows.{flat, SortedMembers}
 use Rattle.scope_core.proofs.hashed_rows.HashedRows.in_order.Given as goal
 
 -- with the groups to come, all rows are there; and where those are in order, all are

@@ -1,5 +1,6 @@
-use Rattle.scope_core.proofs.Words.{arith}
-use Rattle.scope_core.proofs.HashedWrites.{tally_stands}
+use Rattle.scope_core.proofs
+use proofs.Words.{arith}
+use proofs.HashedWrites.{tally_stands}
 use Rattle.scope_core.proofs.hashed_rows.HashedRows.lessen.Goals as goal
 
 pub set-requires : goal.set-requires

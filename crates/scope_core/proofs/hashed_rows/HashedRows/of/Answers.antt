@@ -1,5 +1,6 @@
-use Rattle.scope_core.proofs.Words.{◌∙◌, ap, counted_in}
-use Rattle.scope_core.proofs.RowEntries.{back_again, hashed_of}
+use Rattle.scope_core.proofs
+use proofs.Words.{ap, counted_in, ◌∙◌}
+use proofs.RowEntries.{back_again, hashed_of}
 use Rattle.scope_core.proofs.hashed_rows.HashedRows.of.Goals as goal
 
 pub invariant_of-result : goal.invariant_of-result

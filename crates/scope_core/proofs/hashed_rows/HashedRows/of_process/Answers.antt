@@ -1,9 +1,9 @@
-use Rattle.scope_core.proofs.Words.{◌≡◌, ◌∙◌, ◌&&◌, ap, sym, subst, [], cond, list_any, tally}
-use Rattle.scope_core.proofs.Words.{is_row, same_row, same_pid, row_cmp, List, ℕ, Pid, Row}
-use Rattle.scope_core.proofs.Words.{AreCounted, HasRoomFor, IsKept, is_some, keys_of, entries_of}
-use Rattle.scope_core.proofs.Words.{found, NodeTable, has_key, has_row, key_of, with_counts}
-use Rattle.scope_core.proofs.Outcomes.{if_both}
-use Rattle.scope_core.proofs.ProcessRows.{in_keys, none_sorted, process_counts, process_kept}
+use Rattle.scope_core.proofs
+use proofs.Words.{ap, AreCounted, cond, entries_of, found, has_key, has_row, HasRoomFor, is_row}
+use proofs.Words.{is_some, IsKept, key_of, keys_of, List, list_any, NodeTable, Pid, Row, row_cmp}
+use proofs.Words.{same_pid, same_row, subst, sym, tally, with_counts, ℕ, [], ◌&&◌, ◌∙◌, ◌≡◌}
+use proofs.Outcomes.{if_both}
+use proofs.ProcessRows.{in_keys, none_sorted, process_counts, process_kept}
 use Rattle.scope_core.proofs.hashed_rows.HashedRows.of_process.Goals.{After-counted_all}
 use Rattle.scope_core.proofs.hashed_rows.HashedRows.of_process.Goals as goal
 

@@ -1,6 +1,7 @@
-use Rattle.scope_core.proofs.Words.{◌∙◌, ap, None, List, ℕ, Row, has_row}
-use Rattle.scope_core.proofs.HashedRows.{some_cond, own_at}
-use Rattle.scope_core.proofs.HashedWrites.{last_there, hashed_write}
+use Rattle.scope_core.proofs
+use proofs.Words.{ap, has_row, List, None, Row, ℕ, ◌∙◌}
+use proofs.HashedRows.{own_at, some_cond}
+use proofs.HashedWrites.{hashed_write, last_there}
 use Rattle.scope_core.proofs.hashed_rows.HashedRows.pop.Goals as goal
 
 pub invariant_of-self-2 : goal.invariant_of-self-2

@@ -1,9 +1,9 @@
-use Rattle.scope_core.proofs.Words.{◌≡◌, ◌∙◌, ap, sym, subst, arith, true, false, None, same_row}
-use Rattle.scope_core.proofs.Words.{◌&&◌, same_decides, same_pid_decides, length-map, Row, is_some}
-use Rattle.scope_core.proofs.Words.{unwrap_or, lookup, common_steps, NodeTable, has_row, key_of}
-use Rattle.scope_core.proofs.Words.{has_key}
-use Rattle.scope_core.proofs.HashedRows.{count_is, some_cond, taken_tally, own_at, taken_counted}
-use Rattle.scope_core.proofs.HashedWrites.{none_of, hashed_write}
+use Rattle.scope_core.proofs
+use proofs.Words.{ap, arith, common_steps, false, has_key, has_row, is_some, key_of, length-map}
+use proofs.Words.{lookup, NodeTable, None, Row, same_decides, same_pid_decides, same_row, subst}
+use proofs.Words.{sym, true, unwrap_or, ◌&&◌, ◌∙◌, ◌≡◌}
+use proofs.HashedRows.{count_is, own_at, some_cond, taken_counted, taken_tally}
+use proofs.HashedWrites.{hashed_write, none_of}
 use Rattle.scope_core.proofs.hashed_rows.HashedRows.pop_of.Goals as goal
 
 pub invariant_of-self-2 : goal.invariant_of-self-2

@@ -1,10 +1,11 @@
-use Rattle.scope_core.proofs.Words.{◌≡◌, ◌∙◌, ◌++◌, ap, sym, subst, arith, true, same, same_decides}
-use Rattle.scope_core.proofs.Words.{same_pid, how_many_append, mentions, Ascends, pid_cmp, spread}
-use Rattle.scope_core.proofs.Words.{key_of, key_cmp, pid_of, entries_of, found}
-use Rattle.scope_core.proofs.Outcomes.{ok_both}
-use Rattle.scope_core.proofs.HashedWrites.{in_group_count}
-use Rattle.scope_core.proofs.GroupIndex.{left_ascends}
-use Rattle.scope_core.proofs.GroupRows.{member_mentions}
+use Rattle.scope_core.proofs
+use proofs.Words.{ap, arith, Ascends, entries_of, found, how_many_append, key_cmp, key_of, mentions}
+use proofs.Words.{pid_cmp, pid_of, same, same_decides, same_pid, spread, subst, sym, true, ◌++◌}
+use proofs.Words.{◌∙◌, ◌≡◌}
+use proofs.Outcomes.{ok_both}
+use proofs.HashedWrites.{in_group_count}
+use proofs.GroupIndex.{left_ascends}
+use proofs.GroupRows.{member_mentions}
 use Rattle.scope_core.proofs.hashed_rows.HashedRows.push_members.Goals as goal
 
 pub returns-in_default-clause-counts : goal.returns-in_default-clause-counts

@@ -1,9 +1,9 @@
-use Rattle.scope_core.proofs.Words.{◌≡◌, ◌∙◌, ◌++◌, [], ◌∷◌, ap, sym, arith, Some, None, same_row}
-use Rattle.scope_core.proofs.Words.{List, ℕ, Row, is_some, lookup, NodeTable, counted_in, stands}
-use Rattle.scope_core.proofs.Words.{insert_entry-new}
-use Rattle.scope_core.proofs.Outcomes.{from_ok, from_not_err, from_err}
-use Rattle.scope_core.proofs.HashedRows.{some_cond, stands_is, counted_more}
-use Rattle.scope_core.proofs.HashedWrites.{back_group, hashed_write}
+use Rattle.scope_core.proofs
+use proofs.Words.{ap, arith, counted_in, insert_entry-new, is_some, List, lookup, NodeTable, None}
+use proofs.Words.{Row, same_row, Some, stands, sym, ℕ, [], ◌++◌, ◌∙◌, ◌∷◌, ◌≡◌}
+use proofs.Outcomes.{from_err, from_not_err, from_ok}
+use proofs.HashedRows.{counted_more, some_cond, stands_is}
+use proofs.HashedWrites.{back_group, hashed_write}
 use Rattle.scope_core.proofs.hashed_rows.HashedRows.put.Goals as goal
 
 pub invariant_of-self-in_err-put : goal.invariant_of-self-in_err-put

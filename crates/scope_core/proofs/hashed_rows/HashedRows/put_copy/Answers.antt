@@ -1,4 +1,4 @@
-use Rattle.scope_core.proofs.Words.{◌∙◌, ap, stands}
+use Rattle.scope_core.proofs.Words.{ap, stands, ◌∙◌}
 use Rattle.scope_core.proofs.hashed_rows.HashedRows.put_copy.Goals as goal
 
 pub put-requires-clause-fresh : goal.put-requires-clause-fresh

@@ -1,5 +1,6 @@
-use Rattle.scope_core.proofs.Words.{◌∙◌, ap, sym, stands, NodeTable}
-use Rattle.scope_core.proofs.HashedRows.{stands_is}
+use Rattle.scope_core.proofs
+use proofs.Words.{ap, NodeTable, stands, sym, ◌∙◌}
+use proofs.HashedRows.{stands_is}
 use Rattle.scope_core.proofs.hashed_rows.HashedRows.put_new.Goals as goal
 
 pub put_copy-requires-clause-fresh : goal.put_copy-requires-clause-fresh

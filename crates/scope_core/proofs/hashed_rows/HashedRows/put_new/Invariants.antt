@@ -1,4 +1,4 @@
-use Rattle.scope_core.proofs.Words.{◌≡◌, ◌++◌, take}
+use Rattle.scope_core.proofs.Words.{take, ◌++◌, ◌≡◌}
 use Rattle.scope_core.proofs.hashed_rows.HashedRows.put_new.Given as goal
 
 -- those of the list so far stand behind the rows that were there

@@ -1,6 +1,7 @@
-use Rattle.scope_core.proofs.Words.{◌≡◌, arith, true, None, same_row, lookup, common_steps, has_row}
-use Rattle.scope_core.proofs.HashedRows.{some_cond, taken_tally, own_at, taken_counted}
-use Rattle.scope_core.proofs.HashedWrites.{hashed_write}
+use Rattle.scope_core.proofs
+use proofs.Words.{arith, common_steps, has_row, lookup, None, same_row, true, ◌≡◌}
+use proofs.HashedRows.{own_at, some_cond, taken_counted, taken_tally}
+use proofs.HashedWrites.{hashed_write}
 use Rattle.scope_core.proofs.hashed_rows.HashedRows.remove.Goals as goal
 
 pub invariant_of-self-2 : goal.invariant_of-self-2

@@ -1,9 +1,8 @@
-use Rattle.scope_core.proofs.Words.{◌≡◌, ◌∙◌, ◌+◌, true, ap, sym, arith, cond, Some, tally}
-use Rattle.scope_core.proofs.Words.{same_row, is_some, lookup, set_value, NodeTable, counted_in}
-use Rattle.scope_core.proofs.Words.{has_row, stands, pid_of}
-use Rattle.scope_core.proofs.HashedRows.{count_is, stands_is, set_tally, set_bare, own_at}
-use Rattle.scope_core.proofs.HashedRows.{kept_copy}
-use Rattle.scope_core.proofs.HashedWrites.{at_row, set_counted, hashed_write}
+use Rattle.scope_core.proofs
+use proofs.Words.{ap, arith, cond, counted_in, has_row, is_some, lookup, NodeTable, pid_of}
+use proofs.Words.{same_row, set_value, Some, stands, sym, tally, true, ◌+◌, ◌∙◌, ◌≡◌}
+use proofs.HashedRows.{count_is, kept_copy, own_at, set_bare, set_tally, stands_is}
+use proofs.HashedWrites.{at_row, hashed_write, set_counted}
 use Rattle.scope_core.proofs.hashed_rows.HashedRows.set.Goals.{After-self}
 use Rattle.scope_core.proofs.hashed_rows.HashedRows.set.Goals as goal
 
@@ -22,7 +21,8 @@ set-requires c =
     let found = c.self.invariant.by_group row.group c.of-key.result
     ∙ (λ i. lookup (same_row (record { group = row.group; pid = pid_of node (c.of-key.ensures i) }))
     es)
-    ∙ ap (λ r. lookup (same_row r) es) (at_row node row (own_at node row es c.self.invariant.own is))
+    ∙ ap (λ r. lookup (same_row r) es)
+    (at_row node row (own_at node row es c.self.invariant.own is))
     in
     ap is_some found ∙ is
 

@@ -1,6 +1,6 @@
-use Rattle.scope_core.proofs.Words.{◌∙◌, ap, sym, arith, tally, is_row, cond, same, IfOk-weaker}
-use Rattle.scope_core.proofs.Words.{NodeTable}
-use Rattle.scope_core.proofs.NodeTables.{node_count}
+use Rattle.scope_core.proofs
+use proofs.Words.{ap, arith, cond, IfOk-weaker, is_row, NodeTable, same, sym, tally, ◌∙◌}
+use proofs.NodeTables.{node_count}
 use Rattle.scope_core.proofs.indexed_rows.IndexedRows.all_left.Goals as goal
 
 pub returns-in-Some : goal.returns-in-Some

@@ -1,6 +1,7 @@
-use Rattle.scope_core.proofs.Words.{◌≡◌, ◌∙◌, ap, sym, arith, refl, tally, is_row, how_many, length}
-use Rattle.scope_core.proofs.Words.{Row, List, ℕ, Pid, [], ◌∷◌, NodeTable}
-use Rattle.scope_core.proofs.NodeTables.{node_count}
+use Rattle.scope_core.proofs
+use proofs.Words.{ap, arith, how_many, is_row, length, List, NodeTable, Pid, refl, Row, sym, tally}
+use proofs.Words.{ℕ, [], ◌∙◌, ◌∷◌, ◌≡◌}
+use proofs.NodeTables.{node_count}
 use Rattle.scope_core.proofs.indexed_rows.IndexedRows.are_just.Goals as goal
 
 pub returns-then-total-rows : goal.returns-then-total-rows

@@ -1,5 +1,6 @@
-use Rattle.scope_core.proofs.Words.{ap, sym, arith, tally, is_row, same_decides, NodeTable}
-use Rattle.scope_core.proofs.NodeTables.{node_count}
+use Rattle.scope_core.proofs
+use proofs.Words.{ap, arith, is_row, NodeTable, same_decides, sym, tally}
+use proofs.NodeTables.{node_count}
 use Rattle.scope_core.proofs.indexed_rows.IndexedRows.count.Goals as goal
 
 pub returns-in-Some : goal.returns-in-Some

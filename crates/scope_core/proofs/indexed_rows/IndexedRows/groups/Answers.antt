@@ -1,4 +1,4 @@
-use Rattle.scope_core.proofs.Indexed.{named_member, member_named}
+use Rattle.scope_core.proofs.Indexed.{member_named, named_member}
 use Rattle.scope_core.proofs.indexed_rows.IndexedRows.groups.Goals as goal
 
 pub returns : goal.returns

@@ -1,5 +1,6 @@
-use Rattle.scope_core.proofs.Words.{◌∙◌, ap, sym, arith, tally, is_row, IfOk-weaker, NodeTable}
-use Rattle.scope_core.proofs.NodeTables.{node_count}
+use Rattle.scope_core.proofs
+use proofs.Words.{ap, arith, IfOk-weaker, is_row, NodeTable, sym, tally, ◌∙◌}
+use proofs.NodeTables.{node_count}
 use Rattle.scope_core.proofs.indexed_rows.IndexedRows.in_order.Goals as goal
 
 pub returns-in-Some-clause-counts : goal.returns-in-Some-clause-counts

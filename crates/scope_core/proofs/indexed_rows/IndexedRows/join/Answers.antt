@@ -1,6 +1,7 @@
-use Rattle.scope_core.proofs.Words.{sym, ◌∙◌, times_named}
-use Rattle.scope_core.proofs.Outcomes.{from_err, from_not_err}
-use Rattle.scope_core.proofs.Indexed.{unsettled, joined_settled}
+use Rattle.scope_core.proofs
+use proofs.Words.{sym, times_named, ◌∙◌}
+use proofs.Outcomes.{from_err, from_not_err}
+use proofs.Indexed.{joined_settled, unsettled}
 use Rattle.scope_core.proofs.indexed_rows.IndexedRows.join.Goals as goal
 
 pub invariant_of-self : goal.invariant_of-self

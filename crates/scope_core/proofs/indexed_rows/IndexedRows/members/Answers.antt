@@ -1,8 +1,8 @@
-use Rattle.scope_core.proofs.Words.{◌≡◌, ◌∙◌, ap, arith, tally, is_row, pid_cmp, same_pid}
-use Rattle.scope_core.proofs.Words.{pids_total, sorted_listing, mentions, Ascends, IsPidListing}
-use Rattle.scope_core.proofs.Words.{List, ℕ, Pid}
-use Rattle.scope_core.proofs.Indexed.{all_gathered}
-use Rattle.scope_core.proofs.indexed_rows.IndexedRows.members.Goals.{then-nodes-gt1, else-nodes-gt1}
+use Rattle.scope_core.proofs
+use proofs.Words.{ap, arith, Ascends, is_row, IsPidListing, List, mentions, Pid, pid_cmp}
+use proofs.Words.{pids_total, same_pid, sorted_listing, tally, ℕ, ◌∙◌, ◌≡◌}
+use proofs.Indexed.{all_gathered}
+use Rattle.scope_core.proofs.indexed_rows.IndexedRows.members.Goals.{else-nodes-gt1, then-nodes-gt1}
 use Rattle.scope_core.proofs.indexed_rows.IndexedRows.members.Goals as goal
 
 listing : (count : Pid → ℕ) (ps : List Pid) → Ascends pid_cmp ps

@@ -1,6 +1,7 @@
-use Rattle.scope_core.proofs.Words.{ap, sym, arith, tally, is_row, same_pid_decides, same_decides}
-use Rattle.scope_core.proofs.Words.{IfOk-weaker, NodeTable}
-use Rattle.scope_core.proofs.NodeTables.{node_count}
+use Rattle.scope_core.proofs
+use proofs.Words.{ap, arith, IfOk-weaker, is_row, NodeTable, same_decides, same_pid_decides, sym}
+use proofs.Words.{tally}
+use proofs.NodeTables.{node_count}
 use Rattle.scope_core.proofs.indexed_rows.IndexedRows.of_process.Goals as goal
 
 pub returns-in-Some-clause-counts : goal.returns-in-Some-clause-counts

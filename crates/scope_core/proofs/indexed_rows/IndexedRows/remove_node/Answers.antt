@@ -1,6 +1,6 @@
-use Rattle.scope_core.proofs.Words.{◌∙◌, ap, sym, subst, refl, arith, cond, has_members, ◌≤◌}
-use Rattle.scope_core.proofs.Words.{times_named, NodeTable}
-use Rattle.scope_core.proofs.Indexed.{dropped}
+use Rattle.scope_core.proofs
+use proofs.Words.{ap, arith, cond, has_members, NodeTable, refl, subst, sym, times_named, ◌∙◌, ◌≤◌}
+use proofs.Indexed.{dropped}
 use Rattle.scope_core.proofs.indexed_rows.IndexedRows.remove_node.Goals as goal
 
 pub invariant_of-self : goal.invariant_of-self

@@ -1,6 +1,7 @@
-use Rattle.scope_core.proofs.Words.{sym, ◌∙◌, on_ok_weaker, times_named}
-use Rattle.scope_core.proofs.Outcomes.{from_err, from_not_err}
-use Rattle.scope_core.proofs.Indexed.{unsettled, step_settled, covers_replaced, replaced_others}
+use Rattle.scope_core.proofs
+use proofs.Words.{on_ok_weaker, sym, times_named, ◌∙◌}
+use proofs.Outcomes.{from_err, from_not_err}
+use proofs.Indexed.{covers_replaced, replaced_others, step_settled, unsettled}
 use Rattle.scope_core.proofs.indexed_rows.IndexedRows.replace.Goals as goal
 
 pub invariant_of-self : goal.invariant_of-self

@@ -1,5 +1,6 @@
-use Rattle.scope_core.proofs.Words.{◌∙◌, sym, Table}
-use Rattle.scope_core.proofs.GoneRows.{listed_within, all_taken, all_totals}
+use Rattle.scope_core.proofs
+use proofs.Words.{sym, Table, ◌∙◌}
+use proofs.GoneRows.{all_taken, all_totals, listed_within}
 use Rattle.scope_core.proofs.indexed_rows.IndexedRows.take_listed.Goals as goal
 
 pub returns-then-total_of-rows-clause-rows : goal.returns-then-total_of-rows-clause-rows

@@ -1,7 +1,8 @@
-use Rattle.scope_core.proofs.Words.{◌<◌, ◌≤◌, sym, subst, arith, tally, is_row, length, Counted}
-use Rattle.scope_core.proofs.Runs.{all_at}
-use Rattle.scope_core.proofs.Tallies.{tally_take}
-use Rattle.scope_core.proofs.GoneRows.{none_before}
+use Rattle.scope_core.proofs
+use proofs.Words.{arith, Counted, is_row, length, subst, sym, tally, ◌<◌, ◌≤◌}
+use proofs.Runs.{all_at}
+use proofs.Tallies.{tally_take}
+use proofs.GoneRows.{none_before}
 use Rattle.scope_core.proofs.indexed_rows.IndexedRows.take_rows.Goals as goal
 
 pub take-requires-clause-counted : goal.take-requires-clause-counted

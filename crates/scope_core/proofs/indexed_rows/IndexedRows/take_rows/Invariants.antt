@@ -1,4 +1,4 @@
-use Rattle.scope_core.proofs.Words.{take, Joins}
+use Rattle.scope_core.proofs.Words.{Joins, take}
 use Rattle.scope_core.proofs.indexed_rows.IndexedRows.take_rows.Given as goal
 
 -- those so far are taken

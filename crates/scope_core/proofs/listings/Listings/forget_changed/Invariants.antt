@@ -1,4 +1,4 @@
-use Rattle.scope_core.proofs.Words.{take, is_named, Forgets}
+use Rattle.scope_core.proofs.Words.{Forgets, is_named, take}
 use Rattle.scope_core.proofs.listings.Listings.forget_changed.Given as goal
 
 -- no list of the groups so far is kept

@@ -1,7 +1,7 @@
-use Rattle.scope_core.proofs.Words.{◌≡◌, ◌∙◌, ap, arith, true, has_members, length, list_any, same}
-use Rattle.scope_core.proofs.Words.{List, ℕ}
-use Rattle.scope_core.proofs.Kept.{forgets_end, still_listed}
-use Rattle.scope_core.proofs.Indexed.{got_named}
+use Rattle.scope_core.proofs
+use proofs.Words.{ap, arith, has_members, length, List, list_any, same, true, ℕ, ◌∙◌, ◌≡◌}
+use proofs.Kept.{forgets_end, still_listed}
+use proofs.Indexed.{got_named}
 use Rattle.scope_core.proofs.listings.Listings.forget_rows.Goals as goal
 
 pub returns : goal.returns

@@ -1,6 +1,7 @@
-use Rattle.scope_core.proofs.Words.{◌∙◌, ap, sym, NodeTable, all_rows, rows_by_node}
-use Rattle.scope_core.proofs.NodeLists.{all_in_list, none_in}
-use Rattle.scope_core.proofs.NodeTables.{table_rows, no_table, tables_set, tables_same, table_lists}
+use Rattle.scope_core.proofs
+use proofs.Words.{all_rows, ap, NodeTable, rows_by_node, sym, ◌∙◌}
+use proofs.NodeLists.{all_in_list, none_in}
+use proofs.NodeTables.{no_table, table_lists, table_rows, tables_same, tables_set}
 use Rattle.scope_core.proofs.node_lists.NodeLists.are_all_in.Goals as goal
 
 pub returns-in_default-clause-value : goal.returns-in_default-clause-value

@@ -1,5 +1,6 @@
-use Rattle.scope_core.proofs.Words.{subst, tally, is_of_node, max_rows, ◌≤◌}
-use Rattle.scope_core.proofs.NodeTables.{tables_few}
+use Rattle.scope_core.proofs
+use proofs.Words.{is_of_node, max_rows, subst, tally, ◌≤◌}
+use proofs.NodeTables.{tables_few}
 use Rattle.scope_core.proofs.node_lists.NodeLists.few.Goals as goal
 
 pub returns : goal.returns

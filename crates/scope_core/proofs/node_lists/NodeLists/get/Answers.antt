@@ -1,5 +1,6 @@
-use Rattle.scope_core.proofs.Words.{◌∙◌, ap, sym, of_node}
-use Rattle.scope_core.proofs.NodeTables.{table_node, table_rows, no_table, if_some, if_none}
+use Rattle.scope_core.proofs
+use proofs.Words.{ap, of_node, sym, ◌∙◌}
+use proofs.NodeTables.{if_none, if_some, no_table, table_node, table_rows}
 use Rattle.scope_core.proofs.node_lists.NodeLists.get.Goals as goal
 
 pub returns-clause-node : goal.returns-clause-node

@@ -1,9 +1,9 @@
-use Rattle.scope_core.proofs.Words.{◌≡◌, ◌∙◌, ◌+◌, ap, sym, subst, arith, ◌≤◌, tally, is_of_node}
-use Rattle.scope_core.proofs.Words.{on_err_weaker, on_ok_weaker, without_node, Row, max_rows}
-use Rattle.scope_core.proofs.Words.{IsNodeList, all_rows, rows_by_node}
-use Rattle.scope_core.proofs.NodeTables.{table_node, none_without, table_fits, tables_set}
-use Rattle.scope_core.proofs.NodeTables.{tables_tally, tables_same}
-use Rattle.scope_core.proofs.Rising.{tally_others}
+use Rattle.scope_core.proofs
+use proofs.Words.{all_rows, ap, arith, is_of_node, IsNodeList, max_rows, on_err_weaker}
+use proofs.Words.{on_ok_weaker, Row, rows_by_node, subst, sym, tally, without_node, ◌+◌, ◌∙◌, ◌≡◌}
+use proofs.Words.{◌≤◌}
+use proofs.NodeTables.{none_without, table_fits, table_node, tables_same, tables_set, tables_tally}
+use proofs.Rising.{tally_others}
 use Rattle.scope_core.proofs.node_lists.NodeLists.join.Goals as goal
 
 pub returns-then-total_of-eq0-clause-ok : goal.returns-then-total_of-eq0-clause-ok

@@ -1,9 +1,8 @@
-use Rattle.scope_core.proofs.Words.{◌∙◌, ap, sym, arith, not, tally, same_pid, all_rows}
-use Rattle.scope_core.proofs.Words.{rows_by_node}
-use Rattle.scope_core.proofs.Outcomes.{none_any}
-use Rattle.scope_core.proofs.NodeTables.{table_node, table_rows, no_table, tables_set, tables_tally}
-use Rattle.scope_core.proofs.NodeTables.{tables_length, tables_same, process_tally, tables_members}
-use Rattle.scope_core.proofs.NodeTables.{table_lists}
+use Rattle.scope_core.proofs
+use proofs.Words.{all_rows, ap, arith, not, rows_by_node, same_pid, sym, tally, ◌∙◌}
+use proofs.Outcomes.{none_any}
+use proofs.NodeTables.{no_table, process_tally, table_lists, table_node, table_rows, tables_length}
+use proofs.NodeTables.{tables_members, tables_same, tables_set, tables_tally}
 use Rattle.scope_core.proofs.node_lists.NodeLists.pop_of.Goals as goal
 
 pub returns-in_err-list-clause-none : goal.returns-in_err-list-clause-none

@@ -1,6 +1,7 @@
-use Rattle.scope_core.proofs.Words.{◌≡◌, ◌∙◌, ◌+◌, ap, sym, arith, true, cond, same, on_ok_weaker}
-use Rattle.scope_core.proofs.Words.{same_decides, tally, is_row, mentions, NodeTable}
-use Rattle.scope_core.proofs.NodeLists.{row_tally}
+use Rattle.scope_core.proofs
+use proofs.Words.{ap, arith, cond, is_row, mentions, NodeTable, on_ok_weaker, same, same_decides}
+use proofs.Words.{sym, tally, true, ◌+◌, ◌∙◌, ◌≡◌}
+use proofs.NodeLists.{row_tally}
 use Rattle.scope_core.proofs.node_lists.NodeLists.push_members.Goals as goal
 
 pub returns-in-Some-clause-counts : goal.returns-in-Some-clause-counts

@@ -1,7 +1,7 @@
-use Rattle.scope_core.proofs.Words.{◌∙◌, ap, sym, of_node}
-use Rattle.scope_core.proofs.Outcomes.{some_then, none_then}
-use Rattle.scope_core.proofs.NodeTables.{table_node, table_rows, no_table, tables_removed}
-use Rattle.scope_core.proofs.NodeTables.{rows_removed}
+use Rattle.scope_core.proofs
+use proofs.Words.{ap, of_node, sym, ◌∙◌}
+use proofs.Outcomes.{none_then, some_then}
+use proofs.NodeTables.{no_table, rows_removed, table_node, table_rows, tables_removed}
 use Rattle.scope_core.proofs.node_lists.NodeLists.remove_node.Goals as goal
 
 pub invariant_of-self : goal.invariant_of-self

@@ -1,5 +1,6 @@
-use Rattle.scope_core.proofs.Words.{◌≡◌, ◌∙◌, refl, same, insert_entry, NodeTable}
-use Rattle.scope_core.proofs.NodeTables.{tables_put, rows_put}
+use Rattle.scope_core.proofs
+use proofs.Words.{insert_entry, NodeTable, refl, same, ◌∙◌, ◌≡◌}
+use proofs.NodeTables.{rows_put, tables_put}
 use Rattle.scope_core.proofs.node_lists.NodeLists.replace.Goals.{Joined-branch-5}
 use Rattle.scope_core.proofs.node_lists.NodeLists.replace.Goals as goal
 

@@ -1,8 +1,7 @@
-use Rattle.scope_core.proofs.Words.{◌∙◌, ap, sym, subst, arith, refl, ◌≤◌, not, tally, is_row}
-use Rattle.scope_core.proofs.Words.{all_rows, rows_by_node}
-use Rattle.scope_core.proofs.NodeLists.{row_tally}
-use Rattle.scope_core.proofs.NodeTables.{no_table, tables_set, tables_tally, tables_members}
-use Rattle.scope_core.proofs.NodeTables.{table_count}
+use Rattle.scope_core.proofs
+use proofs.Words.{all_rows, ap, arith, is_row, not, refl, rows_by_node, subst, sym, tally, ◌∙◌, ◌≤◌}
+use proofs.NodeLists.{row_tally}
+use proofs.NodeTables.{no_table, table_count, tables_members, tables_set, tables_tally}
 use Rattle.scope_core.proofs.node_lists.NodeLists.take.Goals.{In_default}
 use Rattle.scope_core.proofs.node_lists.NodeLists.take.Goals as goal
 

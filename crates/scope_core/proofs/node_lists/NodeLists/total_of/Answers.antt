@@ -1,5 +1,6 @@
-use Rattle.scope_core.proofs.Words.{◌∙◌, ap, sym, total}
-use Rattle.scope_core.proofs.Shares.{node_rows}
+use Rattle.scope_core.proofs
+use proofs.Words.{ap, sym, total, ◌∙◌}
+use proofs.Shares.{node_rows}
 use Rattle.scope_core.proofs.node_lists.NodeLists.total_of.Goals as goal
 
 pub returns-in-Some-clause-total : goal.returns-in-Some-clause-total

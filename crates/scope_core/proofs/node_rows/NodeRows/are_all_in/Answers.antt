@@ -1,5 +1,6 @@
-use Rattle.scope_core.proofs.Words.{◌≡◌, arith, ap, ◌∙◌, length, tally, is_row, NodeTable}
-use Rattle.scope_core.proofs.LoweredRows.{one_in}
+use Rattle.scope_core.proofs
+use proofs.Words.{ap, arith, is_row, length, NodeTable, tally, ◌∙◌, ◌≡◌}
+use proofs.LoweredRows.{one_in}
 use Rattle.scope_core.proofs.node_rows.NodeRows.are_all_in.Goals as goal
 
 pub returns-in-len1-clause-value : goal.returns-in-len1-clause-value

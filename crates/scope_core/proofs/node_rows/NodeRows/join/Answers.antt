@@ -1,10 +1,11 @@
-use Rattle.scope_core.proofs.Words.{◌≡◌, ◌∙◌, ◌+◌, ◌≤◌, ap, sym, subst, arith, tally, is_row}
-use Rattle.scope_core.proofs.Words.{is_of_node, Row, true, Bool, same_row, take, list_any, or_right}
-use Rattle.scope_core.proofs.Words.{total, cond, max_rows, take_all, IsNodeList, NodeTable}
-use Rattle.scope_core.proofs.NodeLists.{joined_list}
-use Rattle.scope_core.proofs.HashedRows.{rows_equal}
-use Rattle.scope_core.proofs.HashedWrites.{stands_bare, stands_at, counted_stands, stands_drop}
-use Rattle.scope_core.proofs.Tallies.{tally_le, tally_take, take_le, tally_parts}
+use Rattle.scope_core.proofs
+use proofs.Words.{ap, arith, Bool, cond, is_of_node, is_row, IsNodeList, list_any, max_rows}
+use proofs.Words.{NodeTable, or_right, Row, same_row, subst, sym, take, take_all, tally, total}
+use proofs.Words.{true, ◌+◌, ◌∙◌, ◌≡◌, ◌≤◌}
+use proofs.NodeLists.{joined_list}
+use proofs.HashedRows.{rows_equal}
+use proofs.HashedWrites.{counted_stands, stands_at, stands_bare, stands_drop}
+use proofs.Tallies.{take_le, tally_le, tally_parts, tally_take}
 use Rattle.scope_core.proofs.node_rows.NodeRows.join.Goals.{After-each_once}
 use Rattle.scope_core.proofs.node_rows.NodeRows.join.Goals as goal
 

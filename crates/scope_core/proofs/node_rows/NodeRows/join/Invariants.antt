@@ -1,4 +1,4 @@
-use Rattle.scope_core.proofs.Words.{◌≡◌, ◌+◌, Bool, Row, tally, take, bare_rows}
+use Rattle.scope_core.proofs.Words.{bare_rows, Bool, Row, take, tally, ◌+◌, ◌≡◌}
 use Rattle.scope_core.proofs.node_rows.NodeRows.join.Given as goal
 
 -- those of the list so far are counted beside the others, and the rows that stand there stay

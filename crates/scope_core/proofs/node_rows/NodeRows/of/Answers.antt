@@ -1,5 +1,6 @@
-use Rattle.scope_core.proofs.Words.{arith}
-use Rattle.scope_core.proofs.NodeLists.{own_total}
+use Rattle.scope_core.proofs
+use proofs.Words.{arith}
+use proofs.NodeLists.{own_total}
 use Rattle.scope_core.proofs.node_rows.NodeRows.of.Goals as goal
 
 pub total_of-total-requires : goal.total_of-total-requires

@@ -1,5 +1,6 @@
-use Rattle.scope_core.proofs.Words.{arith, true}
-use Rattle.scope_core.proofs.NodeLists.{lessened_list}
+use Rattle.scope_core.proofs
+use proofs.Words.{arith, true}
+use proofs.NodeLists.{lessened_list}
 use Rattle.scope_core.proofs.node_rows.NodeRows.take.Goals as goal
 
 pub overflow_sub-self : goal.overflow_sub-self

@@ -1,5 +1,6 @@
-use Rattle.scope_core.proofs.Words.{arith}
-use Rattle.scope_core.proofs.NodeLists.{own_total}
+use Rattle.scope_core.proofs
+use proofs.Words.{arith}
+use proofs.NodeLists.{own_total}
 use Rattle.scope_core.proofs.node_rows.NodeRows.total.Goals as goal
 
 pub returns-clause-few : goal.returns-clause-few

@@ -1,4 +1,4 @@
-use Rattle.scope_core.proofs.Words.{◌≡◌, ◌∙◌, ap, cond, Some, eq_by_cmp, find, SmallMap, Many}
+use Rattle.scope_core.proofs.Words.{ap, cond, eq_by_cmp, find, Many, SmallMap, Some, ◌∙◌, ◌≡◌}
 use Rattle.scope_core.proofs.small_map.SmallMap.insert.Goals as goal
 
 pub returns-in_ok-inserted-in-Many-clause-ok : goal.returns-in_ok-inserted-in-Many-clause-ok

@@ -1,6 +1,7 @@
-use Rattle.scope_core.proofs.Words.{◌≡◌, ◌∙◌, ap, sym, is_some, find, SmallMap, Many}
+use Rattle.scope_core.proofs
+use proofs.Words.{ap, find, is_some, Many, SmallMap, sym, ◌∙◌, ◌≡◌}
 use Rattle.std.proofs.Common.{true≢false}
-use Rattle.scope_core.proofs.NestedMaps.{some_entry}
+use proofs.NestedMaps.{some_entry}
 use Rattle.scope_core.proofs.small_map.SmallMap.is_empty.Goals as goal
 
 pub returns-in-Many-clause-some : goal.returns-in-Many-clause-some

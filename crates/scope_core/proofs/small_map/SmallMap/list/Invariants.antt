@@ -1,4 +1,4 @@
-use Rattle.scope_core.proofs.Words.{◌≡◌, ◌++◌, entries_of}
+use Rattle.scope_core.proofs.Words.{entries_of, ◌++◌, ◌≡◌}
 use Rattle.scope_core.proofs.small_map.SmallMap.list.Given as goal
 
 -- with the entries to come, all are listed

@@ -1,4 +1,4 @@
-use Rattle.scope_core.proofs.Words.{◌≡◌, ◌∙◌, ap, cond, None, eq_by_cmp, find, SmallMap, Many}
+use Rattle.scope_core.proofs.Words.{ap, cond, eq_by_cmp, find, Many, None, SmallMap, ◌∙◌, ◌≡◌}
 use Rattle.scope_core.proofs.small_map.SmallMap.remove.Goals as goal
 
 pub returns-in-Many : goal.returns-in-Many

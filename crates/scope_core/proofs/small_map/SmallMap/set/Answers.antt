@@ -1,5 +1,5 @@
-use Rattle.scope_core.proofs.Words.{◌≡◌, ◌∙◌, ap, sym, cond, Some, is_some, eq_by_cmp, find}
-use Rattle.scope_core.proofs.Words.{SmallMap, Many}
+use Rattle.scope_core.proofs
+use proofs.Words.{ap, cond, eq_by_cmp, find, is_some, Many, SmallMap, Some, sym, ◌∙◌, ◌≡◌}
 use Rattle.scope_core.proofs.small_map.SmallMap.set.Goals as goal
 
 pub returns-in-Some : goal.returns-in-Some

@@ -1,10 +1,10 @@
-use Rattle.scope_core.proofs.Words.{◌≡◌, ◌∙◌, ap, sym, subst, refl, arith, false, same}
-use Rattle.scope_core.proofs.Words.{same_decides, tally, is_row, is_of_node, has_members}
-use Rattle.scope_core.proofs.Words.{without_node, List, ℕ, NodeTable}
-use Rattle.scope_core.proofs.Calls.{own_left}
-use Rattle.scope_core.proofs.Kept.{dropped_same, still_listings}
-use Rattle.scope_core.proofs.NodeLists.{node_tally}
-use Rattle.scope_core.proofs.Rising.{gone_counts}
+use Rattle.scope_core.proofs
+use proofs.Words.{ap, arith, false, has_members, is_of_node, is_row, List, NodeTable, refl, same}
+use proofs.Words.{same_decides, subst, sym, tally, without_node, ℕ, ◌∙◌, ◌≡◌}
+use proofs.Calls.{own_left}
+use proofs.Kept.{dropped_same, still_listings}
+use proofs.NodeLists.{node_tally}
+use proofs.Rising.{gone_counts}
 use Rattle.scope_core.proofs.table.ScopeTable.drop_peer.Goals as goal
 
 pub returns-in_default : goal.returns-in_default

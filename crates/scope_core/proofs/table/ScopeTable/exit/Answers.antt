@@ -1,6 +1,7 @@
-use Rattle.scope_core.proofs.Words.{◌≡◌, ◌∙◌, sym, subst, arith, false, same_pid, same_pid_decides}
-use Rattle.scope_core.proofs.Words.{tally, is_row, Pid, AreListings}
-use Rattle.scope_core.proofs.Kept.{others_stay, popped_listed, none_of_process}
+use Rattle.scope_core.proofs
+use proofs.Words.{AreListings, arith, false, is_row, Pid, same_pid, same_pid_decides, subst, sym}
+use proofs.Words.{tally, ◌∙◌, ◌≡◌}
+use proofs.Kept.{none_of_process, others_stay, popped_listed}
 use Rattle.scope_core.proofs.table.ScopeTable.exit.Goals as goal
 
 pub loop-gone-preserved : goal.loop-gone-preserved

@@ -1,5 +1,5 @@
-use Rattle.scope_core.proofs.Words.{◌≡◌, false, same_pid, tally, is_row, length, List, ℕ, Pid}
-use Rattle.scope_core.proofs.Words.{AreListings}
+use Rattle.scope_core.proofs
+use proofs.Words.{AreListings, false, is_row, length, List, Pid, same_pid, tally, ℕ, ◌≡◌}
 use Rattle.scope_core.proofs.table.ScopeTable.exit.Given as goal
 
 -- the rows of other processes stay, and what is kept is right

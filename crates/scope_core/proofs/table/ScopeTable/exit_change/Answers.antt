@@ -1,5 +1,6 @@
-use Rattle.scope_core.proofs.Words.{same_pid}
-use Rattle.scope_core.proofs.Between.{part_told}
+use Rattle.scope_core.proofs
+use proofs.Words.{same_pid}
+use proofs.Between.{part_told}
 use Rattle.scope_core.proofs.table.ScopeTable.exit_change.Goals as goal
 
 pub returns-clause-change : goal.returns-clause-change

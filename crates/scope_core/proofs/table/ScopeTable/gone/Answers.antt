@@ -1,5 +1,5 @@
-use Rattle.scope_core.proofs.Words.{◌∙◌, sym}
-use Rattle.scope_core.proofs.table.ScopeTable.gone.Goals.{then-is_any_in, else-is_any_in}
+use Rattle.scope_core.proofs.Words.{sym, ◌∙◌}
+use Rattle.scope_core.proofs.table.ScopeTable.gone.Goals.{else-is_any_in, then-is_any_in}
 use Rattle.scope_core.proofs.table.ScopeTable.gone.Goals as goal
 
 pub returns-after-is_any_in-clause-refused : goal.returns-after-is_any_in-clause-refused

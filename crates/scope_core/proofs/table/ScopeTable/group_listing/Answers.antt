@@ -1,5 +1,6 @@
-use Rattle.scope_core.proofs.Words.{tally, is_row}
-use Rattle.scope_core.proofs.Kept.{kept_groups}
+use Rattle.scope_core.proofs
+use proofs.Words.{is_row, tally}
+use proofs.Kept.{kept_groups}
 use Rattle.scope_core.proofs.table.ScopeTable.group_listing.Goals as goal
 
 pub invariant_of-self-2 : goal.invariant_of-self-2

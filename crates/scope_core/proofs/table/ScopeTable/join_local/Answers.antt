@@ -1,11 +1,11 @@
-use Rattle.scope_core.proofs.Words.{All, Adds, ◌≡◌, ◌∙◌, ap, subst, refl, arith, same_decides, map}
-use Rattle.scope_core.proofs.Words.{is_row, is_of_node, row_in, tally, cond, same, mentions, length}
-use Rattle.scope_core.proofs.Words.{IsNodeList, IsDifference, change_unless_empty, Counted, Pid}
-use Rattle.scope_core.proofs.Words.{List, [], ℕ}
-use Rattle.scope_core.proofs.Calls.{joined_change, told_covered, fresh_fit, fresh_counts}
-use Rattle.scope_core.proofs.Calls.{fresh_total, fresh_list, fresh_change}
-use Rattle.scope_core.proofs.Indexed.{told_named}
-use Rattle.scope_core.proofs.Kept.{changed_listed}
+use Rattle.scope_core.proofs
+use proofs.Words.{Adds, All, ap, arith, change_unless_empty, cond, Counted, is_of_node, is_row}
+use proofs.Words.{IsDifference, IsNodeList, length, List, map, mentions, Pid, refl, row_in, same}
+use proofs.Words.{same_decides, subst, tally, ℕ, [], ◌∙◌, ◌≡◌}
+use proofs.Calls.{fresh_change, fresh_counts, fresh_fit, fresh_list, fresh_total, joined_change}
+use proofs.Calls.{told_covered}
+use proofs.Indexed.{told_named}
+use proofs.Kept.{changed_listed}
 use Rattle.scope_core.proofs.table.ScopeTable.join_local.Goals.{In_ok-counted}
 use Rattle.scope_core.proofs.table.ScopeTable.join_local.Goals as goal
 

@@ -1,7 +1,8 @@
-use Rattle.scope_core.proofs.Words.{arith, same_decides, is_of_node}
-use Rattle.scope_core.proofs.Calls.{all_or_none, counted_own, added_covered, added_change}
-use Rattle.scope_core.proofs.Indexed.{added_named}
-use Rattle.scope_core.proofs.Kept.{changed_listed}
+use Rattle.scope_core.proofs
+use proofs.Words.{arith, is_of_node, same_decides}
+use proofs.Calls.{added_change, added_covered, all_or_none, counted_own}
+use proofs.Indexed.{added_named}
+use proofs.Kept.{changed_listed}
 use Rattle.scope_core.proofs.table.ScopeTable.join_remote.Goals as goal
 
 pub join-requires-clause-list : goal.join-requires-clause-list

@@ -1,11 +1,11 @@
-use Rattle.scope_core.proofs.Words.{◌≡◌, ◌∙◌, ◌<◌, ◌≤◌, ◌-◌, ap, subst, refl, rules, arith, cond}
-use Rattle.scope_core.proofs.Words.{map, length, true, AllByRecursion, Adds, Joins, IsDifference}
-use Rattle.scope_core.proofs.Words.{IsPidListing, change_unless_empty, min, mentions, same, tally}
-use Rattle.scope_core.proofs.Words.{is_row, row_in, count_of, Table, ℕ, List, [], Pid, Counted}
+use Rattle.scope_core.proofs
+use proofs.Words.{Adds, AllByRecursion, ap, arith, change_unless_empty, cond, count_of, Counted}
+use proofs.Words.{is_row, IsDifference, IsPidListing, Joins, length, List, map, mentions, min, Pid}
+use proofs.Words.{refl, row_in, rules, same, subst, Table, tally, true, ℕ, [], ◌-◌, ◌<◌, ◌∙◌, ◌≡◌}
+use proofs.Words.{◌≤◌}
 use Rattle.scope_core.specs.Calls.{is_any_joined}
-use Rattle.scope_core.proofs.GoneRows.{none_leaves, some_leaves, gone_fit, gone_within, gone_left}
-use Rattle.scope_core.proofs.GoneRows.{gone_change}
-use Rattle.scope_core.proofs.Kept.{changed_listed}
+use proofs.GoneRows.{gone_change, gone_fit, gone_left, gone_within, none_leaves, some_leaves}
+use proofs.Kept.{changed_listed}
 use Rattle.scope_core.proofs.table.ScopeTable.leave_local.Goals.{Else-is_empty, In_ok-gone}
 use Rattle.scope_core.proofs.table.ScopeTable.leave_local.Goals as goal
 

@@ -1,9 +1,9 @@
-use Rattle.scope_core.proofs.Words.{◌≡◌, ◌∙◌, ◌+◌, ◌≤◌, ap, sym, subst, rules, arith, how_many}
-use Rattle.scope_core.proofs.Words.{is_of_node, is_row, max_rows, tally, Table, IsDifference, List}
-use Rattle.scope_core.proofs.Words.{ℕ, Pid}
-use Rattle.scope_core.proofs.Calls.{all_or_none, taken_change}
-use Rattle.scope_core.proofs.GoneRows.{listed_fit}
-use Rattle.scope_core.proofs.Kept.{changed_listed}
+use Rattle.scope_core.proofs
+use proofs.Words.{ap, arith, how_many, is_of_node, is_row, IsDifference, List, max_rows, Pid, rules}
+use proofs.Words.{subst, sym, Table, tally, ℕ, ◌+◌, ◌∙◌, ◌≡◌, ◌≤◌}
+use proofs.Calls.{all_or_none, taken_change}
+use proofs.GoneRows.{listed_fit}
+use proofs.Kept.{changed_listed}
 use Rattle.scope_core.proofs.table.ScopeTable.leave_remote.Goals.{After-take_listed}
 use Rattle.scope_core.proofs.table.ScopeTable.leave_remote.Goals as goal
 

@@ -1,5 +1,6 @@
-use Rattle.scope_core.proofs.Words.{Table}
-use Rattle.scope_core.proofs.Calls.{leaving_listing, leaving_few}
+use Rattle.scope_core.proofs
+use proofs.Words.{Table}
+use proofs.Calls.{leaving_few, leaving_listing}
 use Rattle.scope_core.proofs.table.ScopeTable.leaving.Goals as goal
 
 pub returns-clause-value : goal.returns-clause-value

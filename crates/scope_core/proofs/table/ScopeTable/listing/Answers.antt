@@ -1,5 +1,6 @@
-use Rattle.scope_core.proofs.Words.{tally, is_row}
-use Rattle.scope_core.proofs.Kept.{kept_listed}
+use Rattle.scope_core.proofs
+use proofs.Words.{is_row, tally}
+use proofs.Kept.{kept_listed}
 use Rattle.scope_core.proofs.table.ScopeTable.listing.Goals as goal
 
 pub invariant_of-self : goal.invariant_of-self

@@ -1,5 +1,6 @@
-use Rattle.scope_core.proofs.Words.{arith, IsPidListing, Table, local_count, same_sym}
-use Rattle.scope_core.proofs.Calls.{length-part}
+use Rattle.scope_core.proofs
+use proofs.Words.{arith, IsPidListing, local_count, same_sym, Table}
+use proofs.Calls.{length-part}
 use Rattle.scope_core.proofs.table.ScopeTable.local_members.Goals.{In_ok-push_members}
 use Rattle.scope_core.proofs.table.ScopeTable.local_members.Goals as goal
 

@@ -1,5 +1,6 @@
-use Rattle.scope_core.proofs.Words.{◌∙◌, arith, IsRowListing, Table, local_count}
-use Rattle.scope_core.proofs.Shares.{rows_listing, length_local_rows}
+use Rattle.scope_core.proofs
+use proofs.Words.{arith, IsRowListing, local_count, Table, ◌∙◌}
+use proofs.Shares.{length_local_rows, rows_listing}
 use Rattle.scope_core.proofs.table.ScopeTable.local_rows.Goals.{After-drop-held-2}
 use Rattle.scope_core.proofs.table.ScopeTable.local_rows.Goals as goal
 

@@ -1,11 +1,11 @@
-use Rattle.scope_core.proofs.Words.{List, cond, length, vec_len, ℕ, ◌≡◌, ◌∙◌, ap, sym, subst, arith}
-use Rattle.scope_core.proofs.Words.{IfErr-weaker, on_ok_weaker, refl, rules, how_many, same, Pid}
-use Rattle.scope_core.proofs.Words.{Counted, Table, Tells, IsDifference, is_of_node, is_row, tally}
-use Rattle.scope_core.proofs.Words.{picked, times_beyond}
-use Rattle.scope_core.proofs.Calls.{all_or_none, counted_own, no_others, sync_counts, sync_covered}
-use Rattle.scope_core.proofs.Calls.{own_left, first_counts, first_fault}
-use Rattle.scope_core.proofs.Between.{synced_change, unchanged}
-use Rattle.scope_core.proofs.Kept.{changed_listed}
+use Rattle.scope_core.proofs
+use proofs.Words.{ap, arith, cond, Counted, how_many, IfErr-weaker, is_of_node, is_row}
+use proofs.Words.{IsDifference, length, List, on_ok_weaker, picked, Pid, refl, rules, same, subst}
+use proofs.Words.{sym, Table, tally, Tells, times_beyond, vec_len, ℕ, ◌∙◌, ◌≡◌}
+use proofs.Calls.{all_or_none, counted_own, first_counts, first_fault, no_others, own_left}
+use proofs.Calls.{sync_counts, sync_covered}
+use proofs.Between.{synced_change, unchanged}
+use proofs.Kept.{changed_listed}
 use Rattle.scope_core.proofs.table.ScopeTable.sync.Goals.{In_ok-changes, Then-total_of-eq0}
 use Rattle.scope_core.proofs.table.ScopeTable.sync.Goals as goal
 

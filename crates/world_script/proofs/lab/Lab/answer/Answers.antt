@@ -1,11 +1,12 @@
-use Rattle.std.proofs.Common.{◌≡◌, ◌∙◌, ap, inr, Some, Ok, Err, IfErr, Option, Result}
+use Rattle.world_script.specs
+use Rattle.std.proofs.Common.{ap, Err, IfErr, inr, Ok, Option, Result, Some, ◌∙◌, ◌≡◌}
 use Rattle.policy_audit.specs.declared.opening.Opening.{Opening}
-use Rattle.world_script.specs.declared.lab.LabFault.{LabFault}
-use Rattle.world_script.specs.declared.lab.LabFault.TheVariants as faults
-use Rattle.world_script.specs.declared.world_line.WorldLine.{WorldLine}
-use Rattle.world_script.specs.declared.world_line.WorldLine.TheVariants as lines
-use Rattle.world_script.specs.Faults.{IsMisplaced, IsNoNode}
-use Rattle.world_script.specs.Following.{Playing}
+use specs.declared.lab.LabFault.{LabFault}
+use specs.declared.world_line.WorldLine.{WorldLine}
+use specs.Faults.{IsMisplaced, IsNoNode}
+use specs.Following.{Playing}
+use specs.declared.lab.LabFault.TheVariants as faults
+use specs.declared.world_line.WorldLine.TheVariants as lines
 use Rattle.world_script.proofs.lab.Lab.answer.Goals as goal
 
 -- a line that asks for such a node

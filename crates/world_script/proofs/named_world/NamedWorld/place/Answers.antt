@@ -1,4 +1,4 @@
-use Rattle.std.proofs.Common.{◌≡◌, ◌∙◌, length, sym, ap, arith}
+use Rattle.std.proofs.Common.{ap, arith, length, sym, ◌∙◌, ◌≡◌}
 use Rattle.world_script.proofs.Places.{placed}
 use Rattle.world_script.proofs.named_world.NamedWorld.place.Goals as goal
 

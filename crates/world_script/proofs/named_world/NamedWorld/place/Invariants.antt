@@ -1,4 +1,4 @@
-use Rattle.std.proofs.Common.{◌≡◌, ◌<◌, ℕ, false}
+use Rattle.std.proofs.Common.{false, ℕ, ◌<◌, ◌≡◌}
 use Rattle.world_script.specs.Names.{is_named}
 use Rattle.world_script.proofs.named_world.NamedWorld.place.Given as goal
 

@@ -1,4 +1,4 @@
-use Rattle.std.proofs.Common.{◌∙◌, sym}
+use Rattle.std.proofs.Common.{sym, ◌∙◌}
 use Rattle.world_script.proofs.Counted.{keeps_nodes}
 use Rattle.world_script.proofs.named_world.NamedWorld.step.Goals as goal
 
