@@ -1,6 +1,7 @@
 -- Terms that are alone.
-use Rattle.otp_edge.proofs.Words.{◌≡◌, ℕ, List, [], ◌∷◌, ◌++◌, sym, ap, ◌∙◌, append-nil, subst}
-use Rattle.otp_edge.proofs.Words.{Bool, true, length, ◌==◌}
+use Rattle.otp_edge.proofs
+use proofs.Words.{ap, append-nil, Bool, length, List, subst, sym, true, ℕ, [], ◌++◌, ◌==◌, ◌∙◌, ◌∷◌}
+use proofs.Words.{◌≡◌}
 use Rattle.std.proofs.Common.{inl, inr}
 use Rattle.otp_edge.specs.Bodies.{IsBehind, version}
 use Rattle.external_terms.specs.Terms.{SpellsTerm}

@@ -1,18 +1,25 @@
 -- What is handed in of a body.
-use Rattle.otp_edge.proofs.Words.{◌≡◌, ◌<◌, ℕ, List, [], ◌∷◌, length, arith, sym, subst, ◌∙◌, true}
-use Rattle.otp_edge.proofs.Words.{Result, Ok, Err, Pid, pid_bytes}
-use Rattle.std.specs.Prelude.{get_or, IfOk, ◌⊎◌}
+use Rattle.otp_edge.proofs
+use Rattle.otp_edge.specs
+use proofs.Words.{ap, arith, Err, length, List, map, None, Ok, Pid, pid_bytes, refl, Result, subst}
+use proofs.Words.{sym, true, ℕ, [], ◌<◌, ◌∙◌, ◌∷◌, ◌≡◌}
+use Rattle.std.specs.Prelude.{get_or, IfOk, set, ◌⊎◌}
+use Rattle.std.proofs.Math.Seq.{map-set_same}
 use Rattle.std.proofs.Common.{inl, inr}
-use Rattle.std.proofs.lemmas.List.{get_or_default}
-use Rattle.otp_edge.specs.Edges.{RunsHere, ComesOfSaid, IsSentTo, IsSaidTo, IsAskedBy, here, nowhere}
-use Rattle.otp_edge.specs.Edges.{IsDiscoverBy, IsEndAt, IsEnded, IsHeard, none, sent, named, ended}
-use Rattle.otp_edge.specs.Opens.{IsNothing}
-use Rattle.otp_edge.specs.Signals.{IsSent, IsNamed, HasControl}
-use Rattle.otp_edge.specs.declared.edge_state.Edge.{Edge}
-use Rattle.otp_edge.specs.declared.heard.Heard.{Heard}
-use Rattle.otp_edge.specs.declared.meaning.Said.{Said}
-use Rattle.otp_edge.specs.declared.meaning.Said.TheVariants as saids
-use Rattle.otp_edge.specs.declared.open_scope.OpenScope.{OpenScope}
+use Rattle.std.proofs.lemmas.List.{get_or_default, map-set}
+use specs.Edges.{ended, Ends, Hears, HearsNothing, here, IsAskedBy, IsDiscoverBy, IsEnded, IsSentTo}
+use specs.Edges.{Learns, named, none, seen_at, seens, sent, Stays, Takes}
+use specs.HeardWords.{heard_said, seen_said}
+use specs.Opens.{ComesOf, IsOnly, known_as, open_of}
+use specs.Said.{IsSameLink}
+use specs.ScopeEdges.{fresh, is_known, Seen, seen_of}
+use specs.Signals.{HasControl, IsNamed, IsSent}
+use specs.declared.edge_state.Edge.{Edge}
+use specs.declared.heard.Heard.{Heard}
+use specs.declared.meaning.Said.{Said}
+use specs.declared.open_scope.OpenScope.{OpenScope}
+use specs.declared.meaning.Said.TheVariants as saids
+use Rattle.link_frames.specs.declared.message.Message.TheVariants as messages
 
 pub ok_so : {A E : Type 0} {P Q : A → Type 0} (r : Result A E) → ((a : A) → P a → Q a)
     → IfOk r P → IfOk r Q
@@ -31,62 +38,80 @@ pub one_there : {A : Type 0} (xs : List A) (i : ℕ) (x y : A) → i < length xs
     → y ≡ get_or xs i y → x ≡ y
 one_there xs i x y within one two = one ∙ get_or_default xs i x y within ∙ sym two
 
-pub said_there : (edge : Edge) (said : Said) (heard : Heard) (place : ℕ) (o d : OpenScope)
+-- what is said at a place, of what stands there
+at_place : {A : Type 0} (P : A → Type 0) (xs : List A) (place : ℕ) (o d : A) → place < length xs
+    → o ≡ get_or xs place o → P o → P (get_or xs place d)
+at_place P xs place o d within is so = subst P (is ∙ get_or_default xs place o d within) so
+
+-- one scope knows more, and the others what they did
+pub learns_at : (edge new : Edge) (place : ℕ) (now : OpenScope) (seen : Seen)
+    → new.scopes.items ≡ set edge.scopes.items place now → seen_of now.seen ≡ seen
+    → Learns edge new place seen
+learns_at edge new place now seen set_is same = ap (map seen_at) set_is
+    ∙ map-set seen_at edge.scopes.items place now ∙ ap (set (seens edge) place) same
+
+pub takes_there : (edge new : Edge) (said : Said) (heard : Heard) (place : ℕ) (o now d : OpenScope)
     → place < length edge.scopes.items → o ≡ get_or edge.scopes.items place o
-    → ComesOfSaid edge said o heard
-    → ComesOfSaid edge said (get_or edge.scopes.items place d) heard
-said_there edge said heard place o d within is comes =
-    subst (λ x. ComesOfSaid edge said x heard)
-    (is ∙ get_or_default edge.scopes.items place o d within) comes
+    → ComesOf o.scope (heard_said edge.peer said (seen_of o.seen)) heard
+    → new.scopes.items ≡ set edge.scopes.items place now
+    → seen_of now.seen ≡ seen_said edge.peer said (seen_of o.seen)
+    → Takes edge new place said (get_or edge.scopes.items place d) heard
+takes_there edge new said heard place o now d within is comes set_is seen =
+    at_place (λ x. Takes edge new place said x heard) edge.scopes.items place o d within is
+    (record { comes = comes; learns = learns_at edge new place now _ set_is seen })
 
-pub end_there : (xs : List OpenScope) (place : ℕ) (o d : OpenScope) (other : Pid) (heard : Heard)
-    → place < length xs → o ≡ get_or xs place o → IsEndAt o other heard
-    → IsEndAt (get_or xs place d) other heard
-end_there xs place o d other heard within is end =
-    subst (λ x. IsEndAt x other heard) (is ∙ get_or_default xs place o d within) end
+pub ends_there : (edge new : Edge) (other : Pid) (heard : Heard) (place : ℕ) (o now d : OpenScope)
+    → place < length edge.scopes.items → o ≡ get_or edge.scopes.items place o
+    → is_known other o.seen.other ≡ true → IsOnly (messages.Down o.scope) heard
+    → new.scopes.items ≡ set edge.scopes.items place now → seen_of now.seen ≡ fresh None
+    → Ends edge new place other (get_or edge.scopes.items place d) heard
+ends_there edge new other heard place o now d within is known only set_is seen =
+    at_place (λ x. Ends edge new place other x heard) edge.scopes.items place o d within is
+    (record { known = known; only = only; learns = learns_at edge new place now _ set_is seen })
 
-pub sent_there : (edge : Edge) (to : Pid) (said : Said) (heard : Heard) (place : ℕ)
+pub sent_there : (edge new : Edge) (to : Pid) (said : Said) (heard : Heard) (place : ℕ)
     → place < length edge.scopes.items
     → ((d : OpenScope) → (get_or edge.scopes.items place d).own ≡ to)
-    → IsNothing heard ⊎ ((d : OpenScope)
-    → ComesOfSaid edge said (get_or edge.scopes.items place d) heard)
-    → IsNothing heard ⊎ IsSentTo edge to said heard
-sent_there edge to said heard place within own (inl nothing) = inl nothing
-sent_there edge to said heard place within own (inr comes) =
+    → HearsNothing edge new heard ⊎ ((d : OpenScope)
+    → Takes edge new place said (get_or edge.scopes.items place d) heard)
+    → HearsNothing edge new heard ⊎ IsSentTo edge new to said heard
+sent_there edge new to said heard place within own (inl nothing) = inl nothing
+sent_there edge new to said heard place within own (inr takes) =
     let found = some_there edge.scopes.items place within in
     inr (record {
       item = found.0;
       here = record { place = place; within = within; is = found.1 };
       own = subst (λ (o : OpenScope). o.own ≡ to) found.1 (own found.0);
-      comes = subst (λ o. ComesOfSaid edge said o heard) found.1 (comes found.0);
+      takes = subst (λ o. Takes edge new place said o heard) found.1 (takes found.0);
     })
 
-pub asked_there : (edge : Edge) (name : List ℕ) (p : Pid) (heard : Heard) (place : ℕ)
+pub asked_there : (edge new : Edge) (name : List ℕ) (p : Pid) (heard : Heard) (place : ℕ)
     → place < length edge.scopes.items
     → ((d : OpenScope) → (get_or edge.scopes.items place d).scope ≡ name)
-    → IsNothing heard ⊎ ((d : OpenScope)
-    → ComesOfSaid edge (saids.Discover p) (get_or edge.scopes.items place d) heard)
-    → IsNothing heard ⊎ IsAskedBy edge name p heard
-asked_there edge name p heard place within scope (inl nothing) = inl nothing
-asked_there edge name p heard place within scope (inr comes) =
+    → HearsNothing edge new heard ⊎ ((d : OpenScope)
+    → Takes edge new place (saids.Discover p) (get_or edge.scopes.items place d) heard)
+    → HearsNothing edge new heard ⊎ IsAskedBy edge new name p heard
+asked_there edge new name p heard place within scope (inl nothing) = inl nothing
+asked_there edge new name p heard place within scope (inr takes) =
     let found = some_there edge.scopes.items place within in
     inr (here (record {
       item = found.0;
       here = record { place = place; within = within; is = found.1 };
       scope = subst (λ (o : OpenScope). o.scope ≡ name) found.1 (scope found.0);
-      comes = subst (λ o. ComesOfSaid edge (saids.Discover p) o heard) found.1 (comes found.0);
+      takes = subst (λ o. Takes edge new place (saids.Discover p) o heard) found.1
+          (takes found.0);
     }))
 
-pub ended_there : (edge : Edge) (from to : List ℕ) (own other : Pid) (heard : Heard) (place : ℕ)
-    → place < length edge.scopes.items
+pub ended_there : (edge new : Edge) (from to : List ℕ) (own other : Pid) (heard : Heard)
+    (place : ℕ) → place < length edge.scopes.items
     → ((d : OpenScope) → (get_or edge.scopes.items place d).own ≡ own)
     → to ≡ pid_bytes own → from ≡ pid_bytes other
-    → IsNothing heard ⊎ ((d : OpenScope)
-    → IsEndAt (get_or edge.scopes.items place d) other heard)
-    → IsNothing heard ⊎ IsEnded edge from to heard
-ended_there edge from to own other heard place within is_own to_own from_other (inl nothing) =
+    → HearsNothing edge new heard ⊎ ((d : OpenScope)
+    → Ends edge new place other (get_or edge.scopes.items place d) heard)
+    → HearsNothing edge new heard ⊎ IsEnded edge new from to heard
+ended_there edge new from to own other heard place within is_own to_own from_other (inl nothing) =
     inl nothing
-ended_there edge from to own other heard place within is_own to_own from_other (inr end) =
+ended_there edge new from to own other heard place within is_own to_own from_other (inr ends) =
     let found = some_there edge.scopes.items place within in
     let same = subst (λ (o : OpenScope). o.own ≡ own) found.1 (is_own found.0) in
     inr (record {
@@ -95,33 +120,68 @@ ended_there edge from to own other heard place within is_own to_own from_other (
       here = record { place = place; within = within; is = found.1 };
       to_own = subst (λ p. to ≡ pid_bytes p) (sym same) to_own;
       from_other = from_other;
-      end = subst (λ o. IsEndAt o other heard) found.1 (end found.0);
+      ends = subst (λ o. Ends edge new place other o heard) found.1 (ends found.0);
     })
 
-pub discover_by : (edge : Edge) (name : List ℕ) (p : Pid) (said : Said) (heard : Heard)
-    → said ≡ saids.Discover p → IsNothing heard ⊎ IsAskedBy edge name p heard
-    → IsNothing heard ⊎ ((q : Pid) × IsDiscoverBy edge name q said heard)
-discover_by edge name p said heard is (inl nothing) = inl nothing
-discover_by edge name p said heard is (inr asked) = inr (p, record { is = is; asked = asked })
+pub discover_by : (edge new : Edge) (name : List ℕ) (p : Pid) (said : Said) (heard : Heard)
+    → said ≡ saids.Discover p → HearsNothing edge new heard ⊎ IsAskedBy edge new name p heard
+    → HearsNothing edge new heard ⊎ ((q : Pid) × IsDiscoverBy edge new name q said heard)
+discover_by edge new name p said heard is (inl nothing) = inl nothing
+discover_by edge new name p said heard is (inr asked) =
+    inr (p, record { is = is; asked = asked })
 
 -- ---- of the signals
 
-pub heard_sent : (edge : Edge) (body : List ℕ) (to : Pid) (said : Said) (heard : Heard)
-    → IsSent to said body → IsNothing heard ⊎ IsSentTo edge to said heard
-    → IsHeard edge body heard
-heard_sent edge body to said heard is (inl nothing) = none nothing
-heard_sent edge body to said heard is (inr comes) = sent to said is comes
+pub heard_sent : (edge new : Edge) (body : List ℕ) (to : Pid) (said : Said) (heard : Heard)
+    → IsSent to said body → HearsNothing edge new heard ⊎ IsSentTo edge new to said heard
+    → Hears edge new body heard
+heard_sent edge new body to said heard is (inl nothing) = none nothing
+heard_sent edge new body to said heard is (inr comes) = sent to said is comes
 
-pub heard_named : (edge : Edge) (body name : List ℕ) (said : Said) (heard : Heard)
+pub heard_named : (edge new : Edge) (body name : List ℕ) (said : Said) (heard : Heard)
     → IsNamed name said body
-    → IsNothing heard ⊎ ((p : Pid) × IsDiscoverBy edge name p said heard)
-    → IsHeard edge body heard
-heard_named edge body name said heard is (inl nothing) = none nothing
-heard_named edge body name said heard is (inr by) =
+    → HearsNothing edge new heard ⊎ ((p : Pid) × IsDiscoverBy edge new name p said heard)
+    → Hears edge new body heard
+heard_named edge new body name said heard is (inl nothing) = none nothing
+heard_named edge new body name said heard is (inr by) =
     named name by.0 (subst (λ s. IsNamed name s body) by.1.is is) by.1.asked
 
-pub heard_ended : (edge : Edge) (body from to : List ℕ) (heard : Heard)
+pub heard_ended : (edge new : Edge) (body from to : List ℕ) (heard : Heard)
     → (rest : List ℕ) × ((behind : List ℕ) × HasControl 5 21 from to rest behind body)
-    → IsNothing heard ⊎ IsEnded edge from to heard → IsHeard edge body heard
-heard_ended edge body from to heard is (inl nothing) = none nothing
-heard_ended edge body from to heard is (inr by) = ended from to is.0 is.1.0 is.1.1 by
+    → HearsNothing edge new heard ⊎ IsEnded edge new from to heard → Hears edge new body heard
+heard_ended edge new body from to heard is (inl nothing) = none nothing
+heard_ended edge new body from to heard is (inr by) = ended from to is.0 is.1.0 is.1.1 by
+
+-- ---- of what stays
+
+pub stays_here : (edge : Edge) → Stays edge edge
+stays_here edge = record { link = (refl, refl, refl); parts = refl; scopes = refl }
+
+-- one scope changes, and keeps its name and its process
+pub stays_at : (edge new : Edge) (place : ℕ) (o now : OpenScope)
+    → o ≡ get_or edge.scopes.items place o → now.scope ≡ o.scope → now.own ≡ o.own
+    → IsSameLink edge new → new.parts ≡ edge.parts
+    → new.scopes.items ≡ set edge.scopes.items place now → Stays edge new
+stays_at edge new place o now is scope own link parts set_is = record {
+  link = link;
+  parts = parts;
+  scopes = ap (map known_as) set_is ∙ map-set_same known_as edge.scopes.items place now o
+      ((λ i. (scope i, own i)) ∙ ap known_as is);
+}
+
+-- one scope changes, and what is known of its peer's process stays
+pub same_at : (all : List OpenScope) (place : ℕ) (o now : OpenScope) → o ≡ get_or all place o
+    → now.seen ≡ o.seen → map seen_at (set all place now) ≡ map seen_at all
+same_at all place o now is same =
+    map-set_same seen_at all place now o (ap seen_of same ∙ ap seen_at is)
+
+pub open_same : (o now : OpenScope) → now.scope ≡ o.scope → now.own ≡ o.own → now.seen ≡ o.seen
+    → now.reference ≡ o.reference → now.watchers.items ≡ o.watchers.items
+    → open_of now ≡ open_of o
+open_same o now scope own seen reference watchers = λ i. record {
+  scope = scope i;
+  own = own i;
+  seen = seen_of (seen i);
+  reference = reference i;
+  watchers = watchers i;
+}

@@ -1,13 +1,13 @@
 -- What stands first, where there are two spellings.
-use Rattle.otp_edge.proofs.Words.{◌≡◌, ◌≢◌, ℕ, ◌<◌, ◌^◌, List, [], ◌∷◌, ◌++◌, length}
-use Rattle.otp_edge.proofs.Words.{sym, ap, ◌∙◌, arith, append_assoc, Pid, IsPid, pid_bytes}
-use Rattle.otp_edge.proofs.Words.{IsList, StandsFirst, listed}
-use Rattle.std.specs.Prelude.{get_or, drop}
+use Rattle.otp_edge.proofs
+use Rattle.otp_edge.specs
+use proofs.Words.{ap, append_assoc, arith, IsList, IsPid, length, List, listed, Pid, pid_bytes}
+use proofs.Words.{StandsFirst, sym, ℕ, [], ◌++◌, ◌<◌, ◌^◌, ◌∙◌, ◌∷◌, ◌≡◌, ◌≢◌}
+use Rattle.std.specs.Prelude.{drop, get_or}
 use Rattle.external_terms.specs.Terms.{SpellsTerm}
 use Rattle.external_terms.specs.Values.{numbers_bytes, tuple_head}
-use Rattle.otp_edge.specs.PgMessages.{Members, one, many, members_bytes, AreMembers, Groups, terms}
-use Rattle.otp_edge.specs.PgMessages.{numbers, groups_bytes, AreGroups, Stated, IsStated}
-use Rattle.otp_edge.specs.PgMessages.{stated_bytes}
+use specs.PgMessages.{AreGroups, AreMembers, Groups, groups_bytes, IsStated, many, Members}
+use specs.PgMessages.{members_bytes, numbers, one, Stated, stated_bytes, terms}
 
 -- a list doesn't begin with this byte
 no_list : {A : Type 0} (spell : A → List ℕ) (xs : List A) (later more : List ℕ) (byte : ℕ)

@@ -1,21 +1,22 @@
 -- Which text a term has, and which terms can have a text.
-use Rattle.otp_edge.proofs.Words.{◌≡◌, ◌≢◌, ℕ, ◌<◌, ◌≤◌, ◌^◌, List, length, drop}
-use Rattle.otp_edge.proofs.Words.{Bool, true, false, Option, Some, None, refl, sym, ap, ◌∙◌, arith}
-use Rattle.otp_edge.proofs.Words.{cond}
-use Rattle.std.specs.Prelude.{not, ◌&&◌, bytes_eq}
+use Rattle.otp_edge.proofs
+use Rattle.otp_edge.specs
+use proofs.Words.{ap, arith, Bool, cond, drop, false, length, List, None, Option, refl, Some, sym}
+use proofs.Words.{true, ℕ, ◌<◌, ◌^◌, ◌∙◌, ◌≡◌, ◌≢◌, ◌≤◌}
+use Rattle.std.specs.Prelude.{bytes_eq, not, ◌&&◌}
 use Rattle.std.proofs.lemmas.Bool.{and_from, cond-true}
 use Rattle.std.proofs.lemmas.Option.{cond_some}
 use Rattle.std.proofs.lemmas.Slice.Eq.{bytes_eq-Decides}
 use Rattle.dist_types.proofs.LimitLemmas.{texts_compute}
-use Rattle.dist_types.specs.Text.{IsText, is_text}
+use Rattle.dist_types.specs.Text.{is_text, IsText}
 use Rattle.dist_types.specs.Fault.{IsTextFault}
 use Rattle.dist_types.specs.declared.fault.TextFault.{TextFault}
-use Rattle.dist_types.specs.declared.fault.TextFault.TheVariants as faults
 use Rattle.external_terms.specs.Values.{atom_bytes, binary_bytes}
 use Rattle.hex.specs.Hex.{encode_lower, lower_digits}
 use Rattle.hex.proofs.HexLemmas.{length-encode_with}
-use Rattle.otp_edge.specs.Groups.{marked, has_mark, is_marked, text_or_none, atom_text, binary_text}
-use Rattle.otp_edge.specs.Groups.{hex_text, or_else, group_text}
+use specs.Groups.{atom_text, binary_text, group_text, has_mark, hex_text, is_marked, marked}
+use specs.Groups.{or_else, text_or_none}
+use Rattle.dist_types.specs.declared.fault.TextFault.TheVariants as faults
 
 -- ---- texts
 

@@ -1,8 +1,9 @@
 -- What a `?` hands on: a fault that isn't `NoMessage` stays another.
-use Rattle.otp_edge.proofs.Words.{◌≡◌, ◌≢◌, Result, Ok, Err, sym, ◌∙◌}
+use Rattle.otp_edge.specs
+use Rattle.otp_edge.proofs.Words.{Err, Ok, Result, sym, ◌∙◌, ◌≡◌, ◌≢◌}
 use Rattle.std.specs.Result.{IfErr, IsErrAnd, MatchResult}
-use Rattle.otp_edge.specs.declared.fault.HearFault.{HearFault}
-use Rattle.otp_edge.specs.declared.fault.HearFault.TheVariants as faults
+use specs.declared.fault.HearFault.{HearFault}
+use specs.declared.fault.HearFault.TheVariants as faults
 
 pub lack : {T : Type 0} (r : Result T HearFault) (e : HearFault) → IsErrAnd r (λ f. f ≡ e)
     → e ≢ faults.NoMessage → IfErr r (λ f. f ≢ faults.NoMessage)

@@ -1,3 +1,4 @@
+pub mod AtomLemmas
 pub mod Words
 pub mod ListLemmas
 pub mod GroupLemmas
@@ -17,3 +18,4 @@ pub mod EdgeLemmas
 pub mod TellingLemmas
 pub mod GatherLemmas
 pub mod SayingLemmas
+pub mod WatchLemmas

@@ -1,11 +1,11 @@
 -- Elements of a list, read one behind the other.
-use Rattle.std.specs.Prelude.{All, List, [], length, ◌∷◌}
-use Rattle.std.proofs.Common.{ap, append-nil, append_assoc, arith, drop, refl, suc, sym}
-use Rattle.std.proofs.Common.{ℕ, ◌++◌, ◌+◌, ◌<◌, ◌^◌, ◌∙◌, ◌≡◌, subst, zero}
+use Rattle.std.specs.Prelude.{All, length, List, [], ◌∷◌}
+use Rattle.std.proofs.Common.{ap, append-nil, append_assoc, arith, drop, refl, subst, suc, sym}
+use Rattle.std.proofs.Common.{zero, ℕ, ◌++◌, ◌+◌, ◌<◌, ◌^◌, ◌∙◌, ◌≡◌}
 use Rattle.std.specs.List.{flat_map}
-use Rattle.otp_edge.proofs.Words.{Bool, true, ◌==◌, Decides-eqb, nil_from_length}
+use Rattle.otp_edge.proofs.Words.{Bool, Decides-eqb, nil_from_length, true, ◌==◌}
 use Rattle.external_terms.specs.Terms.{SpellsTerm}
-use Rattle.otp_edge.specs.Lists.{list_front, listed, IsList, Front, StandsFirst}
+use Rattle.otp_edge.specs.Lists.{Front, IsList, list_front, listed, StandsFirst}
 use Rattle.external_terms.specs.Values.{nil_bytes}
 use Rattle.std.proofs.lemmas.Grind.{flat_map-append}
 use Rattle.std.proofs.lemmas.List.{length_push}

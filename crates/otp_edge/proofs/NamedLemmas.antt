@@ -1,17 +1,19 @@
 -- The only term that can have a text.
-use Rattle.otp_edge.proofs.Words.{◌≡◌, ℕ, List, drop, Bool, true, false, Option}
-use Rattle.otp_edge.proofs.Words.{Some, None, refl, sym, ap, ◌∙◌, arith, cond}
-use Rattle.std.specs.Prelude.{not, ◌&&◌, ◌||◌, bytes_eq, get_or}
-use Rattle.std.proofs.Common.{◌⊎◌, inl, inr}
+use Rattle.otp_edge.proofs
+use Rattle.otp_edge.specs
+use proofs.Words.{ap, arith, Bool, cond, drop, false, List, None, Option, refl, Some, sym, true, ℕ}
+use proofs.Words.{◌∙◌, ◌≡◌}
+use Rattle.std.specs.Prelude.{bytes_eq, get_or, not, ◌&&◌, ◌||◌}
+use Rattle.std.proofs.Common.{inl, inr, ◌⊎◌}
 use Rattle.std.proofs.lemmas.Bool.{and_parts, cond-true}
 use Rattle.std.proofs.lemmas.Slice.Eq.{bytes_eq-Decides}
 use Rattle.external_terms.specs.Values.{atom_bytes, binary_bytes}
-use Rattle.hex.specs.Hex.{IsBytes, decode_of, encode_lower}
+use Rattle.hex.specs.Hex.{decode_of, encode_lower, IsBytes}
 use Rattle.hex.proofs.HexLemmas.{decode_of-encode_lower}
-use Rattle.otp_edge.specs.Groups.{marked, has_mark, is_marked, text_or_none, atom_text, binary_text}
-use Rattle.otp_edge.specs.Groups.{hex_text, or_else, group_text, IsTermOf}
-use Rattle.otp_edge.specs.GroupTerms.{decoded, term_named}
-use Rattle.otp_edge.proofs.GroupLemmas.{text_some, mark_found, mark_none}
+use specs.Groups.{atom_text, binary_text, group_text, has_mark, hex_text, is_marked, IsTermOf}
+use specs.Groups.{marked, or_else, text_or_none}
+use specs.GroupTerms.{decoded, term_named}
+use proofs.GroupLemmas.{mark_found, mark_none, text_some}
 
 pub otherwise : (test : Bool) (a b : Option (List ℕ)) → test ≡ false → cond test a b ≡ b
 otherwise true a b is = cc is
@@ -59,7 +61,8 @@ not_marked false false is = (refl, refl)
 
 from_atom : (term g : List ℕ) → atom_text term ≡ Some g → term_named g ≡ Some term
 from_atom term g is =
-    let parts = chosen_some (bytes_eq (atom_bytes (drop 2 term)) term && not (is_marked (drop 2 term)))
+    let parts = chosen_some (bytes_eq (atom_bytes (drop 2 term)) term
+    && not (is_marked (drop 2 term)))
     (text_or_none (drop 2 term)) g is in
     let tests = and_parts _ _ parts.0 in
     let same = (text_some (drop 2 term) g parts.1).1 in

@@ -1,5 +1,5 @@
 -- Processes and their terms are one to one.
-use Rattle.otp_edge.proofs.Words.{◌≡◌, ℕ, ◌/◌, ◌%◌, ◌^◌, ap, arith, Pid, IsPid, process_of}
+use Rattle.otp_edge.proofs.Words.{ap, arith, IsPid, Pid, process_of, ℕ, ◌%◌, ◌/◌, ◌^◌, ◌≡◌}
 use Rattle.external_terms.specs.Values.{ProcessFits}
 
 pub pid_fits : (p : Pid) → IsPid p → ProcessFits (process_of p)

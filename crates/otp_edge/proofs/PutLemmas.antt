@@ -1,10 +1,11 @@
 -- Elements that are written one behind the other.
-use Rattle.otp_edge.proofs.Words.{◌≡◌, ℕ, ◌+◌, ◌<◌, List, [], ◌++◌, length, map, take}
-use Rattle.otp_edge.proofs.Words.{ap, ◌∙◌, append-nil, append_assoc, flat_map, listed, list_front}
+use Rattle.otp_edge.proofs
+use proofs.Words.{ap, append-nil, append_assoc, flat_map, length, List, list_front, listed, map}
+use proofs.Words.{take, ℕ, [], ◌++◌, ◌+◌, ◌<◌, ◌∙◌, ◌≡◌}
 use Rattle.std.specs.Prelude.{get_or}
 use Rattle.std.proofs.lemmas.Grind.{flat_map-append}
 use Rattle.std.proofs.Math.Seq.{take-length}
-use Rattle.std.proofs.lemmas.List.{map_more, length-map}
+use Rattle.std.proofs.lemmas.List.{length-map, map_more}
 use Rattle.external_terms.specs.Values.{nil_bytes}
 
 -- one element more

@@ -1,11 +1,13 @@
 -- Rows of processes in the group of a term.
-use Rattle.otp_edge.proofs.Words.{◌≡◌, ℕ, ◌+◌, ◌<◌, List, [], ◌∷◌, ◌++◌, length, take, None, Some, ap}
-use Rattle.otp_edge.proofs.Words.{append-nil, append_assoc, sym, ◌∙◌, ◌≤◌, Pid, Row}
+use Rattle.otp_edge.proofs
+use Rattle.otp_edge.specs
+use proofs.Words.{ap, append-nil, append_assoc, length, List, None, Pid, Row, Some, sym, take, ℕ}
+use proofs.Words.{[], ◌++◌, ◌+◌, ◌<◌, ◌∙◌, ◌∷◌, ◌≡◌, ◌≤◌}
 use Rattle.std.specs.Prelude.{get_or}
 use Rattle.std.specs.Option.{option_map_or}
 use Rattle.std.proofs.lemmas.List.{map_more, take_all}
-use Rattle.otp_edge.specs.Groups.{group_text}
-use Rattle.otp_edge.specs.PgMessages.{rows_in, rows_of_text}
+use specs.Groups.{group_text}
+use specs.PgMessages.{rows_in, rows_of_text}
 
 -- a group that isn't carried adds none
 pub rows_none : (term : List ℕ) (ps : List Pid) (rows : List Row) → group_text term ≡ None

@@ -1,16 +1,17 @@
 -- What a message can be, by how it begins.
-use Rattle.otp_edge.proofs.Words.{◌≡◌, ◌≢◌, ℕ, List, length, drop, refl, sym, ap, ◌∙◌, arith}
-use Rattle.otp_edge.proofs.Words.{Result, Ok, Err, Pid, IsPid, pid_bytes, IsList}
-use Rattle.std.specs.Prelude.{codes, IfOk, get_or}
+use Rattle.otp_edge.proofs
+use Rattle.otp_edge.specs
+use proofs.Words.{ap, arith, drop, Err, IsList, IsPid, length, List, Ok, Pid, pid_bytes, refl}
+use proofs.Words.{Result, sym, ℕ, ◌∙◌, ◌≡◌, ◌≢◌}
+use Rattle.std.specs.Prelude.{codes, get_or, IfOk}
 use Rattle.external_terms.specs.Terms.{SpellsTerm}
-use Rattle.otp_edge.specs.PgMessages.{PgMessage, discover, sync, join, leave, SpellsPg, Stated}
-use Rattle.otp_edge.specs.PgMessages.{IsStated, Members, AreMembers, Groups, AreGroups, headed}
-use Rattle.otp_edge.specs.PgMessages.{sync_inner, join_inner, leave_inner, members_of, groups_of}
-use Rattle.otp_edge.specs.PgMessages.{rows_stated, rows_in, rows_left}
-use Rattle.otp_edge.specs.Meaning.{meant}
-use Rattle.otp_edge.specs.declared.fault.HearFault.{HearFault}
-use Rattle.otp_edge.specs.declared.meaning.Said.{Said}
-use Rattle.otp_edge.specs.declared.meaning.Said.TheVariants as saids
+use specs.PgMessages.{AreGroups, AreMembers, discover, Groups, groups_of, headed, IsStated, join}
+use specs.PgMessages.{join_inner, leave, leave_inner, Members, members_of, PgMessage, rows_in}
+use specs.PgMessages.{rows_left, rows_stated, SpellsPg, Stated, sync, sync_inner}
+use specs.Meaning.{meant}
+use specs.declared.fault.HearFault.{HearFault}
+use specs.declared.meaning.Said.{Said}
+use specs.declared.meaning.Said.TheVariants as saids
 
 -- what holds of what is given holds of more
 pub ok_so : {T E : Type 0} (r : Result T E) (P Q : T → Type 0) → IfOk r P

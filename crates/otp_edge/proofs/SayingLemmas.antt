@@ -1,37 +1,39 @@
 -- What the peer is sent of what the node says.
-use Rattle.otp_edge.proofs.Words.{◌≡◌, ◌<◌, ◌≤◌, ◌+◌, ℕ, List, [], ◌∷◌, ◌++◌, length, map, All}
-use Rattle.otp_edge.proofs.Words.{take, sym, ap, subst, ◌∙◌, refl, Option, Some, None, Result}
-use Rattle.otp_edge.proofs.Words.{Ok, Err, Pid, Row, flat_map, append-nil}
-use Rattle.std.specs.Prelude.{get_or, set, IfOk, OnErr}
+use Rattle.otp_edge.proofs
+use Rattle.otp_edge.specs
+use proofs.Words.{All, ap, append-nil, Err, flat_map, length, List, map, None, Ok, Option, Pid}
+use proofs.Words.{refl, Result, Row, Some, subst, sym, take, ℕ, [], ◌++◌, ◌+◌, ◌<◌, ◌∙◌, ◌∷◌, ◌≡◌}
+use proofs.Words.{◌≤◌}
+use Rattle.std.specs.Prelude.{get_or, IfOk, OnErr, set}
 use Rattle.std.specs.List.{swap_remove}
 use Rattle.std.specs.List.Sorted.{IsPermutation}
 use Rattle.std.proofs.Math.Seq.{map-set_same}
 use Rattle.std.proofs.lemmas.Grind.{flat_map-append}
-use Rattle.std.proofs.lemmas.List.{take_more, take_all}
+use Rattle.std.proofs.lemmas.List.{take_all, take_more}
 use Rattle.std.proofs.lemmas.List.Elements.{All-more}
 use Rattle.std.proofs.lemmas.List.Sorted.{IsPermutation-swap_remove}
 use Rattle.link_frames.specs.Parts.{message_of}
-use Rattle.link_frames.specs.declared.message.Message.TheVariants as messages
 use Rattle.link_frames.specs.declared.part.PartKind.{PartKind}
+use proofs.EdgeLemmas.{one_there}
+use specs.Endings.{ending_of}
+use specs.Opens.{open_of, with_seen}
+use specs.Said.{IsTold, joined, left, Runs, Says, synced, Tells, TellsJoin, TellsLeave, TellsSync}
+use specs.Said.{told, unjoined, unknown, unleft}
+use specs.Sayings.{AreLeft, AreTold, joins, syncs}
+use specs.ScopeEdges.{now_told, seen_of, told_to, with_told}
+use specs.declared.open_scope.OpenScope.{OpenScope}
+use specs.declared.scope_edge.Run.{Run}
+use Rattle.link_frames.specs.declared.message.Message.TheVariants as messages
 use Rattle.link_frames.specs.declared.part.PartKind.TheVariants as kinds
-use Rattle.otp_edge.proofs.EdgeLemmas.{one_there}
-use Rattle.otp_edge.specs.Endings.{ending_of}
-use Rattle.otp_edge.specs.Opens.{open_of, with_seen, IsOther}
-use Rattle.otp_edge.specs.Said.{TellsSync, TellsJoin, TellsLeave, Tells, IsTold}
-use Rattle.otp_edge.specs.Said.{Says, Runs}
-use Rattle.otp_edge.specs.Said.{unknown, synced, unjoined, joined, unleft, left, told}
-use Rattle.otp_edge.specs.Sayings.{AreTold, AreLeft, syncs, joins}
-use Rattle.otp_edge.specs.ScopeEdges.{seen_of, with_told, now_told, told_to}
-use Rattle.otp_edge.specs.declared.open_scope.OpenScope.{OpenScope}
-use Rattle.otp_edge.specs.declared.scope_edge.Run.{Run}
 
 -- the process of the peer's scope is known, or it isn't
 by_known : {Q : Type 0} (o : Option Pid) → (o ≡ None → Q) → ((p : Pid) → o ≡ Some p → Q) → Q
 by_known None none some = none refl
 by_known (Some p) none some = some p refl
 
-pub sync_tells : {V E : Type 0} (r : Result V E) (bytes : V → List ℕ) (atoms : ℕ)
-    (kind : PartKind) (rows given : List Row) (o now : OpenScope) → kind ≡ kinds.Sync
+pub sync_tells : {V E : Type 0} (r : Result V E) (bytes : V → List ℕ)
+    (atoms : List (List ℕ)) (kind : PartKind) (rows given : List Row) (o now : OpenScope)
+    → kind ≡ kinds.Sync
     → given ≡ rows
     → (o.seen.other ≡ None → IfOk r (λ out. (bytes out ≡ []) × (open_of now ≡ open_of o)))
     → ((other : Pid) → o.seen.other ≡ Some other → IfOk r (λ out.
@@ -45,8 +47,9 @@ sync_tells (Ok out) bytes atoms kind rows given o now is same none some =
     (λ p e. let so = some p e in synced p e so.0 so.1)))
 sync_tells (Err e) bytes atoms kind rows given o now is same none some = tt
 
-pub join_tells : {V E : Type 0} (r : Result V E) (bytes : V → List ℕ) (atoms : ℕ)
-    (kind : PartKind) (rows given : List Row) (o now : OpenScope) → kind ≡ kinds.Join
+pub join_tells : {V E : Type 0} (r : Result V E) (bytes : V → List ℕ)
+    (atoms : List (List ℕ)) (kind : PartKind) (rows given : List Row) (o now : OpenScope)
+    → kind ≡ kinds.Join
     → given ≡ rows
     → (told_to (seen_of o.seen) ≡ None
     → IfOk r (λ out. (bytes out ≡ []) × (open_of now ≡ open_of o)))
@@ -61,8 +64,9 @@ join_tells (Ok out) bytes atoms kind rows given o now is same none some =
     (λ p e. let so = some p e in joined p so.0 e so.1 so.2)))
 join_tells (Err e) bytes atoms kind rows given o now is same none some = tt
 
-pub leave_tells : {V E : Type 0} (r : Result V E) (bytes : V → List ℕ) (atoms : ℕ)
-    (kind : PartKind) (rows given : List Row) (o now : OpenScope) → kind ≡ kinds.Leave
+pub leave_tells : {V E : Type 0} (r : Result V E) (bytes : V → List ℕ)
+    (atoms : List (List ℕ)) (kind : PartKind) (rows given : List Row) (o now : OpenScope)
+    → kind ≡ kinds.Leave
     → given ≡ rows
     → (told_to (seen_of o.seen) ≡ None
     → IfOk r (λ out. (bytes out ≡ []) × (open_of now ≡ open_of o)))
@@ -89,21 +93,23 @@ runs_there name all place o within named is = record {
   named = subst (λ (x : OpenScope). x.scope ≡ name) (sym is) (named o);
 }
 
-told_of : (run : Run) (all after : List OpenScope) (processes atoms : ℕ) (kind : PartKind)
-    (name : List ℕ) (rows : List Row) (out : List ℕ) → IsTold all after atoms kind name rows out
-    → Says run all after processes atoms (message_of kind name rows) out
-told_of run all after processes atoms kinds.Sync name rows out is = told is
-told_of run all after processes atoms kinds.Join name rows out is = told is
-told_of run all after processes atoms kinds.Leave name rows out is = told is
+told_of : (run : Run) (all after : List OpenScope) (processes later : ℕ)
+    (atoms : List (List ℕ)) (kind : PartKind) (name : List ℕ) (rows : List Row) (out : List ℕ)
+    → IsTold all after atoms kind name rows out
+    → Says run all after processes later atoms (message_of kind name rows) out
+told_of run all after processes later atoms kinds.Sync name rows out is = told is
+told_of run all after processes later atoms kinds.Join name rows out is = told is
+told_of run all after processes later atoms kinds.Leave name rows out is = told is
 
-pub told_there : (run : Run) (all after : List OpenScope) (processes atoms : ℕ) (kind : PartKind)
-    (name : List ℕ) (rows : List Row) (out : List ℕ) (place : ℕ) (o now : OpenScope)
+pub told_there : (run : Run) (all after : List OpenScope) (processes later : ℕ)
+    (atoms : List (List ℕ)) (kind : PartKind) (name : List ℕ) (rows : List Row) (out : List ℕ)
+    (place : ℕ) (o now : OpenScope)
     → place < length all → ((d : OpenScope) → (get_or all place d).scope ≡ name)
     → o ≡ get_or all place o → Tells atoms kind rows o now out → after ≡ set all place now
-    → Says run all after processes atoms (message_of kind name rows) out
-told_there run all after processes atoms kind name rows out place o now within named is tells
-    others =
-    told_of run all after processes atoms kind name rows out (record {
+    → Says run all after processes later atoms (message_of kind name rows) out
+told_there run all after processes later atoms kind name rows out place o now within named is
+    tells others =
+    told_of run all after processes later atoms kind name rows out (record {
       item = o;
       now = now;
       here = record {
@@ -116,13 +122,15 @@ told_there run all after processes atoms kind name rows out place o now within n
       others = others;
     })
 
-pub stopped_there : (run : Run) (all after : List OpenScope) (processes atoms : ℕ)
-    (name out : List ℕ) (place : ℕ) (o gone : OpenScope) → place < length all
+pub stopped_there : (run : Run) (all after : List OpenScope) (processes later : ℕ)
+    (atoms : List (List ℕ)) (name out : List ℕ) (place : ℕ) (o gone : OpenScope)
+    → place < length all
     → ((d : OpenScope) → (get_or all place d).scope ≡ name) → o ≡ get_or all place o
     → gone ≡ get_or all place gone → out ≡ ending_of run o
     → after ≡ swap_remove all place gone
-    → Says run all after processes atoms (messages.Down name) out
-stopped_there run all after processes atoms name out place o gone within named is was bytes others =
+    → Says run all after processes later atoms (messages.Down name) out
+stopped_there run all after processes later atoms name out place o gone within named is was bytes
+    others =
     told (record {
       item = gone;
       named = subst (λ (x : OpenScope). x.scope ≡ name) (sym was) (named gone);
@@ -142,17 +150,17 @@ pub on_err : {A E P : Type 0} (r : Result A E) → P → OnErr r P
 on_err (Ok a) so = tt
 on_err (Err e) so = so
 
-pub other_more : (name : List ℕ) (xs seen : List OpenScope) (i : ℕ) (o : OpenScope) → seen ≡ xs
-    → i < length seen → o ≡ get_or seen i o → All (IsOther name) (take i xs) → IsOther name o
-    → All (IsOther name) (take (i + 1) xs)
-other_more name xs seen i o same inside is so here = All-more (IsOther name) xs i o
-    (subst (λ l. i < length l) same inside) so
-    (subst (IsOther name) (subst (λ l. o ≡ get_or l i o) same is) here)
+-- a fact of the elements so far, and of one more
+pub all_more : {A : Type 0} (P : A → Type 0) (xs seen : List A) (i : ℕ) (a : A) → seen ≡ xs
+    → i < length seen → a ≡ get_or seen i a → All P (take i xs) → P a → All P (take (i + 1) xs)
+all_more P xs seen i a same inside is so here =
+    All-more P xs i a (subst (λ l. i < length l) same inside) so
+    (subst P (subst (λ l. a ≡ get_or l i a) same is) here)
 
-pub other_all : (name : List ℕ) (xs seen : List OpenScope) (i : ℕ) → seen ≡ xs
-    → length seen ≤ i → All (IsOther name) (take i xs) → All (IsOther name) xs
-other_all name xs seen i same long so =
-    subst (All (IsOther name)) (take_all i xs (subst (λ l. length l ≤ i) same long)) so
+pub all_seen : {A : Type 0} (P : A → Type 0) (xs seen : List A) (i : ℕ) → seen ≡ xs
+    → length seen ≤ i → All P (take i xs) → All P xs
+all_seen P xs seen i same long so =
+    subst (All P) (take_all i xs (subst (λ l. length l ≤ i) same long)) so
 
 -- what is sent of one element more
 pub bytes_more : {A : Type 0} (f : A → List ℕ) (ws seen : List A) (i : ℕ) (w : A)

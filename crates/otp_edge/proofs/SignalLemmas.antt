@@ -1,8 +1,9 @@
 -- A control message whose parts are known by other words.
-use Rattle.otp_edge.proofs.Words.{◌≡◌, ℕ, List, ◌∙◌, subst}
+use Rattle.otp_edge.specs
+use Rattle.otp_edge.proofs.Words.{List, subst, ℕ, ◌∙◌, ◌≡◌}
 use Rattle.external_terms.specs.Terms.{SpellsTerm}
-use Rattle.otp_edge.specs.Bodies.{control_bytes}
-use Rattle.otp_edge.specs.Signals.{HasControl}
+use specs.Bodies.{control_bytes}
+use specs.Signals.{HasControl}
 
 pub same_control : (a o b p : ℕ) (first second rest two more behind body : List ℕ)
     → HasControl a o first second rest behind body → a ≡ b → o ≡ p → second ≡ two → rest ≡ more

@@ -1,16 +1,17 @@
 -- How often a row stands in lists that rows are taken out of.
-use Rattle.otp_edge.proofs.Words.{◌≡◌, ℕ, ◌+◌, ◌<◌, ◌≤◌, List, length, take, Bool, true, false}
-use Rattle.otp_edge.proofs.Words.{[], ◌∷◌, ◌++◌, refl, ap, sym, ◌∙◌, arith, cond, Row, subst}
+use Rattle.otp_edge.proofs
+use proofs.Words.{ap, arith, Bool, cond, false, length, List, refl, Row, subst, sym, take, true, ℕ}
+use proofs.Words.{[], ◌++◌, ◌+◌, ◌<◌, ◌∙◌, ◌∷◌, ◌≡◌, ◌≤◌}
 use Rattle.std.specs.Prelude.{get_or}
 use Rattle.std.specs.List.{swap_remove}
-use Rattle.std.proofs.Common.{inl, inr, below_more}
+use Rattle.std.proofs.Common.{below_more, inl, inr}
 use Rattle.std.proofs.lemmas.Grind.{common_steps}
 use Rattle.std.proofs.lemmas.List.{get_or_default, length_push}
 use Rattle.std.proofs.lemmas.Bool.{cases_lt}
 use Rattle.std.proofs.lemmas.List.Sums.{sum_by-swap_remove, sum_by_more, sum_by_push}
 use Rattle.dist_types.specs.Listing.{same_row}
 use Rattle.dist_types.proofs.Orders.{same_row_decides}
-use Rattle.otp_edge.specs.Tallies.{times, once, IsCutTo}
+use Rattle.otp_edge.specs.Tallies.{IsCutTo, once, times}
 
 pub same_rows : (r s : Row) → same_row r s ≡ true → r ≡ s
 same_rows r s is = (same_row_decides r s).0 is
@@ -42,7 +43,11 @@ pub record CutSoFar (place : ℕ) (rows kept : List Row) (counts : List ℕ) : T
       → AsMany (times r kept) (times r (take place rows)) (listed r)
 
 none_cut : (listed : ℕ) → AsMany 0 0 listed
-none_cut listed = record { fewer = omega arith; within = omega arith; all = λ h. absurd (omega arith) }
+none_cut listed = record {
+  fewer = omega arith;
+  within = omega arith;
+  all = λ h. absurd (omega arith);
+}
 
 pub cut_start : (rows : List Row) (counts : List ℕ) → CutSoFar 0 rows [] counts
 cut_start rows counts = record { each = λ listed are r. none_cut (listed r) }
@@ -149,7 +154,8 @@ pub counts_more : (rows others : List Row) (i : ℕ) (row : Row) (counts after :
     → (length after ≡ i + 1) × ((place : ℕ) (d : Row) → place < i + 1
     → get_or after place 0 ≡ times (get_or rows place d) others)
 counts_more rows others i row counts after n inside is len each here out =
-    let P : ℕ → Type 0 = λ place. (d : Row) → get_or after place 0 ≡ times (get_or rows place d) others in
+    let P : ℕ → Type 0 = λ place. (d : Row)
+    → get_or after place 0 ≡ times (get_or rows place d) others in
     let before : (place : ℕ) → place < i → P place = λ place less d.
     ap (λ l. get_or l place 0) out ∙ read_before counts n place (omega (arith, less, len))
     ∙ each place d less in

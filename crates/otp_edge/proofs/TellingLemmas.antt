@@ -1,22 +1,25 @@
 -- What is told of rows.
-use Rattle.otp_edge.proofs.Words.{◌≡◌, ◌≤◌, ◌+◌, ℕ, List, Row, Pid, sym, ap, subst, ◌∙◌, arith, cond}
+use Rattle.otp_edge.proofs
+use Rattle.otp_edge.specs
+use proofs.Words.{ap, append-nil, arith, cond, length, List, map, Pid, Row, subst, sym, take, ℕ, []}
+use proofs.Words.{◌++◌, ◌+◌, ◌<◌, ◌∙◌, ◌∷◌, ◌≡◌, ◌≤◌}
 use Rattle.std.proofs.lemmas.List.Sorted.{sum_by-IsPermutation}
 use Rattle.dist_types.specs.Listing.{same_row}
-use Rattle.otp_edge.proofs.GroupedLemmas.{grouped_fewer}
-use Rattle.otp_edge.specs.Tallies.{times, IsCutTo}
+use proofs.GroupedLemmas.{grouped_fewer}
+use specs.Tallies.{IsCutTo, times}
 use Rattle.std.specs.List.Sorted.{IsPermutation}
-use Rattle.otp_edge.specs.Grouped.{IsGrouped}
+use specs.Grouped.{IsGrouped}
 use Rattle.std.specs.Prelude.{get_or}
 use Rattle.std.proofs.lemmas.Grind.{flat_map-append}
-use Rattle.std.proofs.lemmas.List.{take_more, map-append}
-use Rattle.otp_edge.proofs.Words.{◌<◌, ◌++◌, ◌∷◌, [], length, map, take, append-nil}
-use Rattle.otp_edge.specs.Bodies.{framed}
-use Rattle.otp_edge.specs.PgMessages.{PgMessage, pg_bytes}
-use Rattle.otp_edge.specs.Sayings.{AreTold, AreLeft, told_bytes, rows_of, leaves, sent_front}
-use Rattle.otp_edge.specs.ScopeEdges.{Seen, with_told}
-use Rattle.otp_edge.specs.declared.telling.Told.{Told}
+use Rattle.std.proofs.lemmas.List.{map-append, take_more}
+use specs.Bodies.{framed}
+use specs.PgMessages.{pg_bytes, PgMessage}
+use specs.Sayings.{AreLeft, AreTold, leaves, rows_of, sent_front, told_bytes}
+use specs.ScopeEdges.{Seen, with_told}
+use specs.declared.telling.Told.{Told}
 
-pub told_here : (atoms : ℕ) (say : Pid → List Told → List PgMessage) (mine own them other : Pid)
+pub told_here : (atoms : List (List ℕ)) (say : Pid → List Told
+    → List PgMessage) (mine own them other : Pid)
     (rows sorted seen : List Row) (groups one two : List Told) (out : List ℕ) (all : List Row)
     → mine ≡ own → them ≡ other → IsPermutation rows sorted → seen ≡ sorted
     → IsGrouped atoms seen groups → one ≡ groups → two ≡ groups
@@ -36,7 +39,7 @@ pub seen_told : (rows : List Row) (new old : Seen) → new ≡ with_told rows ol
     → new ≡ with_told new.told old
 seen_told rows new old is = is ∙ ap (λ l. with_told l old) (sym (ap (λ (s : Seen). s.told) is))
 
-pub left_here : (atoms : ℕ) (own other : Pid) (rows kept gone : List Row) (out : List ℕ)
+pub left_here : (atoms : List (List ℕ)) (own other : Pid) (rows kept gone : List Row) (out : List ℕ)
     (before now : List Row) → IsCutTo rows kept (λ r. times r before)
     → AreTold atoms leaves own other kept out gone
     → ((r : Row) → times r gone ≤ times r before → times r now + times r gone ≡ times r before)

@@ -1,14 +1,14 @@
 -- The words that the proofs of this crate cite, passed on from one place.
-pub use Rattle.std.specs.Prelude.{All, List, [], length, map, ◌∷◌, ◌≤◌}
-pub use Rattle.std.proofs.Common.{Bool, Err, IsTrue, None, Ok, Option, Result, Some, ap, append-nil}
-pub use Rattle.std.proofs.Common.{append_assoc, arith, cond, drop, false, refl, rules, subst, suc}
-pub use Rattle.std.proofs.Common.{sym, take, true, zero, ℕ, ◌++◌, ◌+◌, ◌-◌, ◌<◌, ◌^◌, ◌∙◌, ◌≡◌}
-pub use Rattle.std.proofs.Common.{◌≢◌, ◌/◌, ◌%◌, ◌*◌}
+use Rattle.otp_edge.specs
+pub use Rattle.std.specs.Prelude.{All, length, List, map, [], ◌∷◌, ◌≤◌}
+pub use Rattle.std.proofs.Common.{ap, append-nil, append_assoc, arith, Bool, cond, drop, Err, false}
+pub use Rattle.std.proofs.Common.{IsTrue, None, Ok, Option, refl, Result, rules, Some, subst, suc}
+pub use Rattle.std.proofs.Common.{sym, take, true, zero, ℕ, ◌%◌, ◌*◌, ◌++◌, ◌+◌, ◌-◌, ◌/◌, ◌<◌}
+pub use Rattle.std.proofs.Common.{◌==◌, ◌^◌, ◌∙◌, ◌≡◌, ◌≢◌}
 pub use Rattle.std.specs.List.{flat_map}
-pub use Rattle.std.proofs.Common.{◌==◌}
 pub use Rattle.std.proofs.lemmas.Bool.Decides.{Decides-eqb}
 pub use Rattle.std.proofs.lemmas.List.{length_push, nil_from_length}
 pub use Rattle.dist_types.specs.declared.pid.Pid.{Pid}
 pub use Rattle.dist_types.specs.declared.row.Row.{Row}
-pub use Rattle.otp_edge.specs.Lists.{Front, IsList, StandsFirst, list_front, listed}
-pub use Rattle.otp_edge.specs.Processes.{IsPid, pid_bytes, process_of}
+pub use specs.Lists.{Front, IsList, list_front, listed, StandsFirst}
+pub use specs.Processes.{IsPid, pid_bytes, process_of}

@@ -1,6 +1,5 @@
 -- What is handed in of what a process of the peer's scope says, and what is known then.
-use Rattle.std.specs.Prelude.{◌≡◌, ⊤, cond, List}
-use Rattle.dist_types.specs.declared.row.Row.{Row}
+use Rattle.std.specs.Prelude.{◌≡◌, ⊤, cond}
 use Rattle.otp_edge.specs.ScopeEdges.{Seen, met, is_of, heard_of, may_state, nothing, only_word}
 use Rattle.otp_edge.specs.declared.meaning.Said.{Said}
 use Rattle.otp_edge.specs.declared.meaning.Said.TheVariants as saids

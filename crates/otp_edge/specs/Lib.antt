@@ -15,7 +15,9 @@ pub mod HeardWords
 pub mod Lefts
 pub mod Grouped
 pub mod Opens
-pub mod Edges
+pub mod Watches
+pub mod Handed
 pub mod Sayings
 pub mod Endings
 pub mod Said
+pub mod Edges

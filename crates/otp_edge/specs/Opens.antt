@@ -1,5 +1,5 @@
 -- What is known of a scope that runs here, and what comes of a word about it.
-use Rattle.std.specs.Prelude.{◌≡◌, ⊤, ◌<◌, ◌≤◌, ℕ, cond, length, List, Option, Some, None}
+use Rattle.std.specs.Prelude.{◌≡◌, ⊤, ◌<◌, ◌≤◌, ℕ, All, cond, length, List, Option, Some, None}
 use Rattle.dist_types.specs.declared.pid.Pid.{Pid}
 use Rattle.link_frames.specs.declared.message.Message.{Message}
 use Rattle.link_frames.specs.declared.message.Message.TheVariants as messages
@@ -39,9 +39,21 @@ with_seen seen o = record {
   watchers = o.watchers;
 }
 
+-- its name, and the process by which the peer knows it
+abbrev pub known_as : OpenScope → List ℕ × Pid
+known_as o = (o.scope, o.own)
+
 -- the scope has another name
 abbrev pub IsOther : List ℕ → OpenScope → Type 0
 IsOther name o = o.scope ≡ name → ⊥
+
+-- no scope of that name runs here
+abbrev pub RunsNowhere : List ℕ → List OpenScope → Type 0
+RunsNowhere name all = All (IsOther name) all
+
+-- the peer knows the scope by another process
+abbrev pub IsOtherProcess : Pid → OpenScope → Type 0
+IsOtherProcess p o = o.own ≡ p → ⊥
 
 -- ---- what is handed in
 

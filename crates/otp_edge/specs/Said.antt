@@ -1,6 +1,6 @@
 -- What the peer is sent of a message that the node says: nothing, or what its scope is told.
-use Rattle.std.specs.Prelude.{◌≡◌, ◌⊎◌, ◌+◌, ◌^◌, ◌<◌, ◌≤◌, ℕ, List, [], ◌∷◌, ◌++◌, All, set}
-use Rattle.std.specs.Prelude.{get_or, length, map, vec_len, Option, Some, None, true, false}
+use Rattle.std.specs.Prelude.{◌≡◌, ◌⊎◌, ◌+◌, ◌^◌, ◌<◌, ◌≤◌, ℕ, List, [], ◌∷◌, ◌++◌, set}
+use Rattle.std.specs.Prelude.{get_or, length, map, Option, Some, None, true, false}
 use Rattle.std.specs.List.Sorted.{IsPermutation}
 use Rattle.dist_types.specs.declared.pid.Pid.{Pid}
 use Rattle.dist_types.specs.declared.row.Row.{Row}
@@ -13,7 +13,8 @@ use Rattle.link_frames.specs.declared.part.Message2.TheVariants as frames
 use Rattle.link_frames.specs.declared.part.PartKind.{PartKind}
 use Rattle.link_frames.specs.declared.part.PartKind.TheVariants as kinds
 use Rattle.otp_edge.specs.Endings.{asking_of, ending_of}
-use Rattle.otp_edge.specs.Opens.{Open, open_of, with_seen, IsOther}
+use Rattle.otp_edge.specs.Grouped.{Keeps}
+use Rattle.otp_edge.specs.Opens.{Open, open_of, with_seen, RunsNowhere}
 use Rattle.otp_edge.specs.Sayings.{AreTold, AreLeft, syncs, joins}
 use Rattle.otp_edge.specs.ScopeEdges.{seen_of, fresh, with_told, now_told, told_to}
 use Rattle.otp_edge.specs.declared.edge_state.Edge.{Edge}
@@ -24,7 +25,8 @@ use Rattle.otp_edge.specs.declared.scope_edge.Run.{Run}
 -- ---- of one scope: what it was, what it is now, and what the peer's process is told
 
 -- of all rows: nothing where that process isn't known
-pub data TellsSync (atoms : ℕ) (rows : List Row) (o now : OpenScope) (out : List ℕ) : Type 0 where
+pub data TellsSync (atoms : List (List ℕ)) (rows : List Row) (o now : OpenScope) (out : List ℕ)
+    : Type 0 where
   unknown : o.seen.other ≡ None → out ≡ [] → open_of now ≡ open_of o
       → TellsSync atoms rows o now out
   synced : (other : Pid) → o.seen.other ≡ Some other
@@ -33,7 +35,8 @@ pub data TellsSync (atoms : ℕ) (rows : List Row) (o now : OpenScope) (out : Li
       → TellsSync atoms rows o now out
 
 -- of further rows: nothing where it wasn't told all
-pub data TellsJoin (atoms : ℕ) (rows : List Row) (o now : OpenScope) (out : List ℕ) : Type 0 where
+pub data TellsJoin (atoms : List (List ℕ)) (rows : List Row) (o now : OpenScope) (out : List ℕ)
+    : Type 0 where
   unjoined : told_to (seen_of o.seen) ≡ None → out ≡ [] → open_of now ≡ open_of o
       → TellsJoin atoms rows o now out
   joined : (other : Pid) (more : List Row) → told_to (seen_of o.seen) ≡ Some other
@@ -42,7 +45,8 @@ pub data TellsJoin (atoms : ℕ) (rows : List Row) (o now : OpenScope) (out : Li
       → TellsJoin atoms rows o now out
 
 -- of rows that left: of those that it was told, and that didn't leave since
-pub data TellsLeave (atoms : ℕ) (rows : List Row) (o now : OpenScope) (out : List ℕ) : Type 0 where
+pub data TellsLeave (atoms : List (List ℕ)) (rows : List Row) (o now : OpenScope) (out : List ℕ)
+    : Type 0 where
   unleft : told_to (seen_of o.seen) ≡ None → out ≡ [] → open_of now ≡ open_of o
       → TellsLeave atoms rows o now out
   left : (other : Pid) → told_to (seen_of o.seen) ≡ Some other
@@ -50,8 +54,8 @@ pub data TellsLeave (atoms : ℕ) (rows : List Row) (o now : OpenScope) (out : L
       → open_of now ≡ with_seen (now_told now.seen.told.items (seen_of o.seen)) (open_of o)
       → TellsLeave atoms rows o now out
 
--- so many texts of groups were told as atoms until then
-abbrev pub Tells : ℕ → PartKind → List Row → OpenScope → OpenScope → List ℕ → Type 0
+-- these texts of groups were told as atoms until then
+abbrev pub Tells : List (List ℕ) → PartKind → List Row → OpenScope → OpenScope → List ℕ → Type 0
 Tells atoms kinds.Sync rows o now out = TellsSync atoms rows o now out
 Tells atoms kinds.Join rows o now out = TellsJoin atoms rows o now out
 Tells atoms kinds.Leave rows o now out = TellsLeave atoms rows o now out
@@ -75,27 +79,23 @@ pub record Runs (name : List ℕ) (o : OpenScope) (all : List OpenScope) : Type 
   pub is : get_or all place o ≡ o
   pub named : o.scope ≡ name
 
--- none of them has that name
-abbrev pub RunsNowhere : List ℕ → List OpenScope → Type 0
-RunsNowhere name all = All (IsOther name) all
-
 -- rows are told of the scope of that name; the others stay
-pub record IsTold (all after : List OpenScope) (atoms : ℕ) (kind : PartKind) (name : List ℕ)
-    (rows : List Row) (out : List ℕ) : Type 0 where
+pub record IsTold (all after : List OpenScope) (atoms : List (List ℕ)) (kind : PartKind)
+    (name : List ℕ) (rows : List Row) (out : List ℕ) : Type 0 where
   pub item : OpenScope
   pub now : OpenScope
   pub here : Runs name item all
   pub tells : Tells atoms kind rows item now out
   pub others : after ≡ set all here.place now
 
--- the scope of that name is asked for: it runs, or it starts
-pub data IsSought (run : Run) (all after : List OpenScope) (processes : ℕ) (name out : List ℕ)
-    : Type 0 where
+-- the scope of that name is asked for: it runs, or it starts, and the next process is another one
+pub data IsSought (run : Run) (all after : List OpenScope) (processes later : ℕ)
+    (name out : List ℕ) : Type 0 where
   runs : (item : OpenScope) → Runs name item all → out ≡ asking_of item → after ≡ all
-      → IsSought run all after processes name out
+      → later ≡ processes → IsSought run all after processes later name out
   starts : (item : OpenScope) → RunsNowhere name all → open_of item ≡ started run processes name
-      → out ≡ asking_of item → after ≡ all ++ item ∷ []
-      → IsSought run all after processes name out
+      → out ≡ asking_of item → after ≡ all ++ item ∷ [] → later ≡ processes + 1
+      → IsSought run all after processes later name out
 
 -- the scope of that name stopped; the others stay, in any order
 pub record IsStopped (run : Run) (all after : List OpenScope) (name out : List ℕ) : Type 0 where
@@ -114,29 +114,37 @@ IsDropped all processes (messages.Leave scope rows) = RunsNowhere scope all ⊎ 
 IsDropped all processes (messages.Down scope) = RunsNowhere scope all
 
 -- what the scope of a message is told
-abbrev pub IsToldOf : Run → List OpenScope → List OpenScope → ℕ → ℕ → Message → List ℕ → Type 0
-IsToldOf run all after processes atoms (messages.Discover scope) out =
-    IsSought run all after processes scope out
-IsToldOf run all after processes atoms (messages.Sync scope rows) out =
+abbrev pub IsToldOf : Run → List OpenScope → List OpenScope → ℕ → ℕ → List (List ℕ) → Message
+    → List ℕ → Type 0
+IsToldOf run all after processes later atoms (messages.Discover scope) out =
+    IsSought run all after processes later scope out
+IsToldOf run all after processes later atoms (messages.Sync scope rows) out =
     IsTold all after atoms kinds.Sync scope rows out
-IsToldOf run all after processes atoms (messages.Join scope rows) out =
+IsToldOf run all after processes later atoms (messages.Join scope rows) out =
     IsTold all after atoms kinds.Join scope rows out
-IsToldOf run all after processes atoms (messages.Leave scope rows) out =
+IsToldOf run all after processes later atoms (messages.Leave scope rows) out =
     IsTold all after atoms kinds.Leave scope rows out
-IsToldOf run all after processes atoms (messages.Down scope) out = IsStopped run all after scope out
+IsToldOf run all after processes later atoms (messages.Down scope) out =
+    IsStopped run all after scope out
 
-pub data Says (run : Run) (all after : List OpenScope) (processes atoms : ℕ) (m : Message)
-    (out : List ℕ) : Type 0 where
+pub data Says (run : Run) (all after : List OpenScope) (processes later : ℕ)
+    (atoms : List (List ℕ)) (m : Message) (out : List ℕ) : Type 0 where
   dropped : IsDropped all processes m → out ≡ [] → after ≡ all
-      → Says run all after processes atoms m out
-  told : IsToldOf run all after processes atoms m out → Says run all after processes atoms m out
+      → Says run all after processes later atoms m out
+  told : IsToldOf run all after processes later atoms m out
+      → Says run all after processes later atoms m out
 
 -- ---- of a link, before and behind what the node says
 
 -- what the peer is sent of a message
 abbrev pub IsSaid : Edge → Edge → Life → Life → Message → List ℕ → Type 0
 IsSaid edge new life later m out = Says edge.own edge.scopes.items new.scopes.items life.processes
-    (vec_len later.atoms) m out
+    later.processes later.atoms.items m out
+
+-- no number is given back, and no text of an atom is forgotten
+pub record GoesOn (life later : Life) : Type 0 where
+  pub processes : life.processes ≤ later.processes
+  pub atoms : Keeps life.atoms.items later.atoms.items
 
 -- the same where there is one, and else nothing
 abbrev pub IsSaidOnce : Edge → Edge → Life → Life → Option Message → List ℕ → Type 0

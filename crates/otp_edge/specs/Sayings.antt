@@ -38,7 +38,7 @@ abbrev pub rows_of : List Told → List Row
 rows_of ts = flat_map (λ t. t.rows.now) ts
 
 -- rows are told: gathered by group, and nothing else is
-pub record AreTold (atoms : ℕ) (say : Pid → List Told → List PgMessage) (own other : Pid)
+pub record AreTold (atoms : List (List ℕ)) (say : Pid → List Told → List PgMessage) (own other : Pid)
     (rows : List Row) (out : List ℕ) (all : List Row) : Type 0 where
   pub sorted : List Row
   pub groups : List Told
@@ -49,7 +49,7 @@ pub record AreTold (atoms : ℕ) (say : Pid → List Told → List PgMessage) (o
 
 -- rows are told to have left: of those that are asked for, as often as they were told, and then
 -- they weren't told any more
-pub record AreLeft (atoms : ℕ) (own other : Pid) (rows : List Row) (out : List ℕ)
+pub record AreLeft (atoms : List (List ℕ)) (own other : Pid) (rows : List Row) (out : List ℕ)
     (before now : List Row) : Type 0 where
   pub kept : List Row
   pub gone : List Row

@@ -1,6 +1,6 @@
 -- What the edge of a link knows of one scope, and what is made of what is said.
-use Rattle.std.specs.Prelude.{◌≡◌, ◌==◌, ◌&&◌, not, Bool, true, false, cond, nat_lt}
-use Rattle.std.specs.Prelude.{List, [], ◌++◌, length, Option, Some, None}
+use Rattle.std.specs.Prelude.{◌==◌, ◌&&◌, not, Bool, true, false, cond, nat_lt}
+use Rattle.std.specs.Prelude.{List, [], length, Option, Some, None}
 use Rattle.std.specs.Option.{option_map_or}
 use Rattle.dist_types.specs.declared.pid.Pid.{Pid}
 use Rattle.dist_types.specs.declared.row.Row.{Row}

@@ -1,4 +1,5 @@
 //! What isn't handed in or told, and why.
+use crate::heard::Heard;
 
 /// Why nothing is handed in of a body, or nothing told of a message.
 #[derive(Clone, Copy, Debug, PartialEq, Eq)]
@@ -63,6 +64,13 @@ impl Drops {
     pub fn add(&mut self, reason: Dropped) {
         let place = reason as usize;
         self.counts[place] = self.counts[place].saturating_add(1);
+    }
+
+    /// Counts a message of `pg` of which nothing is handed in.
+    pub fn add_unheard(&mut self, heard: &Heard) {
+        if heard.is_nothing() {
+            self.add(Dropped::Unheard);
+        }
     }
 
     /// Counts a message of which nothing is told.

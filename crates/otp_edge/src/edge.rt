@@ -1,11 +1,12 @@
 //! What the peer of a link sends, as what is handed in to the node here and what it is sent back.
-ghost use Rattle.std.specs.Prelude.{◌≡◌, ◌<◌, ◌≢◌, ◌⊎◌, ℕ, List, IfOk, IfErr, vec_len};
+ghost use Rattle.std.specs.Prelude.{◌≡◌, ◌<◌, ◌≢◌, ◌⊎◌, ℕ, List, IfOk, IfErr, OnErr, vec_len};
 ghost use Rattle.std.specs.Prelude.{get_or};
 ghost use Rattle.dist_types.specs.declared.pid.Pid.{Pid};
 ghost use Rattle.otp_edge.specs.Bodies.{IsBody};
 ghost use Rattle.otp_edge.specs.Edges.{IsHeard, IsSentTo, IsAskedBy, IsDiscoverBy, IsEnded};
-ghost use Rattle.otp_edge.specs.Edges.{ComesOfSaid, IsEndAt};
-ghost use Rattle.otp_edge.specs.Opens.{IsNothing};
+ghost use Rattle.otp_edge.specs.Edges.{Ends, Hears, HearsNothing, Stays, Takes};
+ghost use Rattle.otp_edge.specs.Opens.{IsNothing, RunsNowhere};
+ghost use Rattle.otp_edge.specs.Said.{KnowsTheSame};
 ghost use Rattle.otp_edge.specs.declared.fault.HearFault.TheVariants as faults;
 ghost use Rattle.otp_edge.specs.declared.open_scope.OpenScope.{OpenScope};
 
@@ -26,8 +27,11 @@ impl Edge {
     /// where it speaks of more than 65,536: the link has to end.
     pub fn hear(&mut self, alloc: Global, body: &[u8]) -> Result<Heard, HearFault>
         ensures found { IfOk result (IsHeard self.old body.now) }
+        ensures hears { IfOk result (Hears self.old self.new body.now) }
         ensures refused { IfErr result (λ fault. fault ≡ faults.NoMessage →
             (control behind : List ℕ) → IsBody control behind body.now → ⊥) }
+        ensures stays { Stays self.old self.new }
+        ensures memory { OnErr result (KnowsTheSame self.old self.new) }
     {
         let signal = read_signal(alloc, body)?;
         match signal {
@@ -49,7 +53,10 @@ impl Edge {
 
     /// A message of `pg` to a process: to that of a scope.
     fn hear_sent(&mut self, alloc: Global, to: &Pid, said: Said) -> Result<Heard, OutOfMemory>
-        ensures { IfOk result (λ heard. IsNothing heard ⊎ IsSentTo self.old to.now said heard) }
+        ensures heard { IfOk result (λ heard. HearsNothing self.old self.new heard ⊎
+            IsSentTo self.old self.new to.now said heard) }
+        ensures stays { Stays self.old self.new }
+        ensures memory { OnErr result (KnowsTheSame self.old self.new) }
     {
         match self.place_of_own(to) {
             Some(place) => self.hear_at(alloc, place, said),
@@ -59,8 +66,10 @@ impl Edge {
 
     /// A message of `pg` to a name: only a process that has just been found asks so.
     fn hear_named(&mut self, alloc: Global, name: &[u8], said: Said) -> Result<Heard, OutOfMemory>
-        ensures { IfOk result (λ heard. IsNothing heard ⊎ ((p : Pid) ×
-            IsDiscoverBy self.old name.now p said heard)) }
+        ensures heard { IfOk result (λ heard. HearsNothing self.old self.new heard ⊎
+            ((p : Pid) × IsDiscoverBy self.old self.new name.now p said heard)) }
+        ensures stays { Stays self.old self.new }
+        ensures memory { OnErr result (KnowsTheSame self.old self.new) }
     {
         match said {
             Said::Discover(pid) => self.hear_asked(alloc, name, pid),
@@ -70,7 +79,10 @@ impl Edge {
 
     /// A process asks for the scope of that name.
     fn hear_asked(&mut self, alloc: Global, name: &[u8], pid: Pid) -> Result<Heard, OutOfMemory>
-        ensures { IfOk result (λ heard. IsNothing heard ⊎ IsAskedBy self.old name.now pid heard) }
+        ensures heard { IfOk result (λ heard. HearsNothing self.old self.new heard ⊎
+            IsAskedBy self.old self.new name.now pid heard) }
+        ensures stays { Stays self.old self.new }
+        ensures memory { OnErr result (KnowsTheSame self.old self.new) }
     {
         match self.place_of(name) {
             Some(place) => self.hear_at(alloc, place, Said::Discover(pid)),
@@ -80,8 +92,11 @@ impl Edge {
 
     /// The peer asks for a scope that doesn't run here.
     fn asked_for(&mut self, alloc: Global, name: &[u8], pid: &Pid) -> Result<Heard, OutOfMemory>
-        ensures { IfOk result (λ heard. IsNothing heard ⊎ IsAskedBy self.old name.now pid.now
-            heard) }
+        requires { RunsNowhere name.now self.old.scopes.items }
+        ensures heard { IfOk result (λ heard. HearsNothing self.old self.new heard ⊎
+            IsAskedBy self.old self.new name.now pid.now heard) }
+        ensures stays { Stays self.old self.new }
+        ensures memory { OnErr result (KnowsTheSame self.old self.new) }
     {
         if !self.peer.has(pid) {
             return Ok(self.dropped(alloc, Dropped::Unheard));
@@ -96,8 +111,11 @@ impl Edge {
     /// A message of `pg` to the process of a scope here.
     fn hear_at(&mut self, alloc: Global, place: usize, said: Said) -> Result<Heard, OutOfMemory>
         requires { place < vec_len self.old.scopes }
-        ensures { IfOk result (λ heard. IsNothing heard ⊎ ((d : OpenScope) →
-            ComesOfSaid self.old said (get_or self.old.scopes.items place d) heard)) }
+        ensures heard { IfOk result (λ heard. HearsNothing self.old self.new heard ⊎
+            ((d : OpenScope) → Takes self.old self.new place said
+            (get_or self.old.scopes.items place d) heard)) }
+        ensures stays { Stays self.old self.new }
+        ensures memory { OnErr result (KnowsTheSame self.old self.new) }
     {
         if row_count(&said) > self.max_rows() {
             return Ok(self.dropped(alloc, Dropped::TooManyRows));
@@ -106,9 +124,7 @@ impl Edge {
         let ready = self.scopes[place].ready(alloc, &self.own, reference, &said)?;
         let heard = self.scopes[place].hear(ready, &self.peer, reference, said);
         self.watches = reference.wrapping_add(u32::from(!heard.owed.is_empty()));
-        if heard.is_nothing() {
-            self.drops.add(Dropped::Unheard);
-        }
+        self.drops.add_unheard(&heard);
         Ok(heard)
     }
 
@@ -123,9 +139,11 @@ impl Edge {
 
     /// A process that one here watched has ended: where it is that of the peer's scope, the scope.
     fn hear_end(&mut self, alloc: Global, from: &[u8], to: &[u8]) -> Result<Heard, HearFault>
-        ensures found { IfOk result (λ heard. IsNothing heard ⊎ IsEnded self.old from.now to.now
-            heard) }
+        ensures heard { IfOk result (λ heard. HearsNothing self.old self.new heard ⊎
+            IsEnded self.old self.new from.now to.now heard) }
         ensures refused { IfErr result (λ fault. fault ≢ faults.NoMessage) }
+        ensures stays { Stays self.old self.new }
+        ensures memory { OnErr result (KnowsTheSame self.old self.new) }
     {
         let Some(own) = only_member(alloc, to)? else {
             return Ok(self.dropped(alloc, Dropped::Unanswered));
@@ -144,8 +162,11 @@ impl Edge {
 
     fn end_at(&mut self, alloc: Global, place: usize, other: &Pid) -> Result<Heard, OutOfMemory>
         requires { place < vec_len self.old.scopes }
-        ensures { IfOk result (λ heard. IsNothing heard ⊎ ((d : OpenScope) →
-            IsEndAt (get_or self.old.scopes.items place d) other.now heard)) }
+        ensures heard { IfOk result (λ heard. HearsNothing self.old self.new heard ⊎
+            ((d : OpenScope) → Ends self.old self.new place other.now
+            (get_or self.old.scopes.items place d) heard)) }
+        ensures stays { Stays self.old self.new }
+        ensures memory { OnErr result (KnowsTheSame self.old self.new) }
     {
         let open = &self.scopes[place];
         if !open.seen.is_known(other) {
@@ -160,7 +181,7 @@ impl Edge {
     pub fn dropped(&mut self, alloc: Global, reason: Dropped) -> Heard
         ensures nothing { IsNothing result }
         ensures scopes { self.new.scopes ≡ self.old.scopes }
-        ensures peer { self.new.peer ≡ self.old.peer }
+        ensures stays { Stays self.old self.new }
     {
         self.drops.add(reason);
         Heard::only_owed(Vec::new(alloc))

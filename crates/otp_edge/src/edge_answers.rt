@@ -1,5 +1,7 @@
 //! What the peer of a link is sent back for signals that say nothing of rows.
-ghost use Rattle.std.specs.Prelude.{◌≡◌, ◌<◌, IfOk, IfSome, vec_len};
+ghost use Rattle.std.specs.Prelude.{◌≡◌, ◌<◌, IfOk, IfSome, OnErr, vec_len};
+ghost use Rattle.otp_edge.specs.Edges.{Stays, seens};
+ghost use Rattle.otp_edge.specs.Said.{KnowsTheSame};
 
 use crate::asked::{connect_in, ping_in, put_in_sync, put_pong};
 use crate::body::Control;
@@ -28,7 +30,11 @@ const OWN_KERNEL: u64 = 0x7FFF_FFFF_FFFF_FFFF;
 
 impl Edge {
     /// The bodies that the peer is sent for a signal of which nothing is handed in; none for most.
-    pub fn answer(&mut self, alloc: Global, signal: &Signal<'_>) -> Result<Vec<u8>, OutOfMemory> {
+    pub fn answer(&mut self, alloc: Global, signal: &Signal<'_>) -> Result<Vec<u8>, OutOfMemory>
+        ensures stays { Stays self.old self.new }
+        ensures same { seens self.new ≡ seens self.old }
+        ensures memory { OnErr result (KnowsTheSame self.old self.new) }
+    {
         match signal {
             Signal::Asked(name, message) => self.answer_name(alloc, name, message),
             Signal::Monitor(from, to, reference) => self.watched(alloc, from, to, reference),
@@ -54,7 +60,11 @@ impl Edge {
         alloc: Global,
         name: &[u8],
         message: &[u8],
-    ) -> Result<Vec<u8>, OutOfMemory> {
+    ) -> Result<Vec<u8>, OutOfMemory>
+        ensures stays { Stays self.old self.new }
+        ensures same { seens self.new ≡ seens self.old }
+        ensures memory { OnErr result (KnowsTheSame self.old self.new) }
+    {
         if name == KERNEL {
             return pong(alloc, message);
         }
@@ -89,7 +99,11 @@ impl Edge {
         from: &[u8],
         to: &[u8],
         reference: &[u8],
-    ) -> Result<Vec<u8>, OutOfMemory> {
+    ) -> Result<Vec<u8>, OutOfMemory>
+        ensures stays { Stays self.old self.new }
+        ensures same { seens self.new ≡ seens self.old }
+        ensures memory { OnErr result (KnowsTheSame self.old self.new) }
+    {
         let mut out = Vec::new(alloc);
         if only_atom(to) == Some(KERNEL) {
             return Ok(out);
@@ -99,10 +113,15 @@ impl Edge {
             reference: reference.to_vec(alloc)?,
         };
         match self.own_place(alloc, to)? {
-            Some(place) if self.scopes[place].may_watch() => self.scopes[place].watch(watcher)?,
-            _ => put_missing(alloc, to, &watcher, &mut out)?,
+            Some(place) if self.scopes[place].may_watch() => {
+                self.scopes[place].watch(watcher)?;
+                Ok(out)
+            }
+            _ => {
+                put_missing(alloc, to, &watcher, &mut out)?;
+                Ok(out)
+            }
         }
-        Ok(out)
     }
 
     fn unwatched(
@@ -110,10 +129,15 @@ impl Edge {
         alloc: Global,
         to: &[u8],
         reference: &[u8],
-    ) -> Result<Vec<u8>, OutOfMemory> {
-        if let Some(place) = self.own_place(alloc, to)? {
-            self.scopes[place].unwatch(reference);
-        }
+    ) -> Result<Vec<u8>, OutOfMemory>
+        ensures stays { Stays self.old self.new }
+        ensures same { seens self.new ≡ seens self.old }
+        ensures memory { OnErr result (KnowsTheSame self.old self.new) }
+    {
+        let Some(place) = self.own_place(alloc, to)? else {
+            return Ok(Vec::new(alloc));
+        };
+        self.scopes[place].unwatch(reference);
         Ok(Vec::new(alloc))
     }
 

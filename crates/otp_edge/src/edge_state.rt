@@ -1,7 +1,7 @@
 //! What is known of a link with a node of Erlang/OTP.
 ghost use Rattle.std.specs.Prelude.{◌≡◌, ◌≤◌, ◌<◌, [], vec_len, length, get_or, IfSome, IsNone};
-ghost use Rattle.std.specs.Prelude.{All};
-ghost use Rattle.otp_edge.specs.Opens.{IsOther};
+ghost use Rattle.std.specs.Prelude.{All, None};
+ghost use Rattle.otp_edge.specs.Opens.{IsOther, IsOtherProcess};
 ghost use Rattle.otp_edge.specs.declared.open_scope.OpenScope.{OpenScope};
 
 use crate::drops::Drops;
@@ -34,7 +34,11 @@ pub struct Edge {
 impl Edge {
     /// The edge of a link whose handshake is done. Nothing is known yet.
     pub fn new(alloc: Global, own: Run, peer: Run, in_parts: bool) -> Edge
-        ensures { result.scopes.items ≡ [] }
+        ensures scopes { result.scopes.items ≡ [] }
+        ensures own { result.own ≡ own }
+        ensures peer { result.peer ≡ peer }
+        ensures in_parts { result.in_parts ≡ in_parts }
+        ensures parts { result.parts ≡ None }
     {
         Edge {
             own,
@@ -63,8 +67,9 @@ impl Edge {
 
     /// The scope that the peer knows by this process.
     pub fn place_of_own(&self, own: &Pid) -> Option<usize>
-        ensures { IfSome result (λ place. (place < length self.now.scopes.items) ×
+        ensures found { IfSome result (λ place. (place < length self.now.scopes.items) ×
             ((d : OpenScope) → (get_or self.now.scopes.items place d).own ≡ own.now)) }
+        ensures none { IsNone result → All (IsOtherProcess own.now) self.now.scopes.items }
     {
         for (place, open) in self.scopes.iter().enumerate() {
             if open.own == *own {

@@ -1,5 +1,7 @@
 //! What comes of a body of the peer.
-ghost use Rattle.std.specs.Prelude.{◌≡◌, cond, Some, None};
+ghost use Rattle.std.specs.Prelude.{◌≡◌, ◌↔◌, [], cond, Some, None, false, IfOk, IsTrue, OnOk};
+ghost use Rattle.otp_edge.specs.Handed.{AreFrames};
+ghost use Rattle.otp_edge.specs.Lefts.{IsCutBy};
 ghost use Rattle.otp_edge.specs.Opens.{ComesOf, IsNothing, IsOnly, message_in, left_in};
 
 use crate::left::Left;
@@ -41,7 +43,8 @@ impl Heard {
 
     /// A message is handed in, and nothing before it.
     pub fn only_message(alloc: Global, message: Message) -> Heard
-        ensures { IsOnly message result }
+        ensures only { IsOnly message result }
+        ensures owed { result.owed.items ≡ [] }
     {
         Heard {
             down: None,
@@ -52,13 +55,21 @@ impl Heard {
     }
 
     /// Whether nothing is handed in.
-    pub fn is_nothing(&self) -> bool {
+    pub fn is_nothing(&self) -> bool
+        ensures { IsTrue result ↔ IsNothing self.now }
+    {
         self.down.is_none() && self.message.is_none() && self.left.is_none()
     }
 
     /// Cuts a leave to what is listed: `counts` has, for each row of `left`, how often the node
     /// lists it of the peer.
-    pub fn cut(&mut self, alloc: Global, counts: &[usize]) -> Result<(), OutOfMemory> {
+    pub fn cut(&mut self, alloc: Global, counts: &[usize]) -> Result<(), OutOfMemory>
+        ensures cut { OnOk result (IsCutBy counts.now self.old.left self.old.message
+            self.new.message) }
+        ensures none { self.new.left ≡ None }
+        ensures down { self.new.down ≡ self.old.down }
+        ensures owed { self.new.owed ≡ self.old.owed }
+    {
         if let Some(left) = self.left.take() {
             self.message = left.cut(alloc, counts)?;
         }
@@ -67,7 +78,10 @@ impl Heard {
 
     /// What is handed in, as the bytes of a link: each message behind its length, in parts where
     /// the link is of version 2.
-    pub fn link_bytes(&self, alloc: Global, in_parts: bool) -> Result<Vec<u8>, OutOfMemory> {
+    pub fn link_bytes(&self, alloc: Global, in_parts: bool) -> Result<Vec<u8>, OutOfMemory>
+        // Not said of a link in parts.
+        ensures { in_parts ≡ false → IfOk result (λ out. AreFrames self.now out.items) }
+    {
         let mut out = Vec::new(alloc);
         if let Some(scope) = &self.down {
             let down = Message::Down(scope.try_clone(alloc)?);

@@ -1,5 +1,7 @@
 //! What the edges of all links share for the life of a node.
-ghost use Rattle.std.specs.Prelude.{◌≡◌, ◌≤◌, ◌<◌, ◌^◌, ◌+◌, vec_len, false, IfOk, IfSome, IsNone};
+ghost use Rattle.std.specs.Prelude.{◌≡◌, ◌≤◌, ◌<◌, ◌^◌, ◌+◌, [], vec_len, true, false};
+ghost use Rattle.std.specs.Prelude.{IfOk, IfSome, IsNone};
+ghost use Rattle.otp_edge.specs.Grouped.{IsOneTooMany, Keeps, MayBeTold};
 
 use crate::group::begins_marked;
 use dist_types::{Group, OutOfMemory, TryClone};
@@ -27,7 +29,10 @@ pub struct Life {
 
 impl Life {
     /// Nothing was told yet.
-    pub fn new(alloc: Global) -> Life {
+    pub fn new(alloc: Global) -> Life
+        ensures atoms { result.atoms.items ≡ [] }
+        ensures processes { result.processes ≡ 0 }
+    {
         Life {
             atoms: Vec::new(alloc),
             processes: 0,
@@ -61,14 +66,17 @@ impl Life {
 
     /// Whether rows of this group may be told: then its text is kept, if it is told as an atom.
     pub fn admit(&mut self, alloc: Global, group: &Group) -> Result<bool, OutOfMemory>
-        ensures refused { IfOk result (λ may. may ≡ false → 65536 ≤ vec_len self.new.atoms) }
-        ensures grows { vec_len self.old.atoms ≤ vec_len self.new.atoms }
+        ensures admitted { IfOk result (λ may. may ≡ true →
+            MayBeTold self.new.atoms.items group.now) }
+        ensures refused { IfOk result (λ may. may ≡ false →
+            IsOneTooMany self.new.atoms.items group.now) }
+        ensures keeps { Keeps self.old.atoms.items self.new.atoms.items }
         ensures processes { self.new.processes ≡ self.old.processes }
     {
         if begins_marked(group.as_bytes()) {
             return Ok(true);
         }
-        let Err(place) = self.atoms.binary_search_by(|atom| atom.cmp(group)) else {
+        let Err(place) = self.atoms.binary_search(group) else {
             return Ok(true);
         };
         if self.atoms.len() >= MAX_ATOMS {

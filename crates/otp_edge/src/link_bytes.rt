@@ -1,7 +1,8 @@
 //! Messages of the links between nodes, as the node takes and gives them.
-ghost use Rattle.std.specs.Prelude.{◌≡◌, ◌<◌, ◌≤◌, ◌^◌, length, true};
+ghost use Rattle.std.specs.Prelude.{◌≡◌, ◌<◌, ◌≤◌, ◌^◌, length, true, false, Some, OnOk};
 ghost use Rattle.link_frames.specs.Parts.{HasParts};
 ghost use Rattle.link_frames.specs.Spelling.{HasSpelling};
+ghost use Rattle.otp_edge.specs.Handed.{PutsFrame};
 ghost use Rattle.otp_edge.specs.Opens.{HasRows};
 
 use crate::own_terms::put_whole;
@@ -19,7 +20,10 @@ pub fn put_message(
     message: &Message,
     in_parts: bool,
     out: &mut Vec<u8>,
-) -> Result<(), OutOfMemory> {
+) -> Result<(), OutOfMemory>
+    ensures { in_parts ≡ false → OnOk result (PutsFrame (Some message.now) out.old.items
+        out.new.items) }
+{
     if in_parts {
         put_parts(alloc, message, out)
     } else {
@@ -27,11 +31,9 @@ pub fn put_message(
     }
 }
 
-fn put_whole_message(
-    alloc: Global,
-    message: &Message,
-    out: &mut Vec<u8>,
-) -> Result<(), OutOfMemory> {
+fn put_whole_message(alloc: Global, message: &Message, out: &mut Vec<u8>) -> Result<(), OutOfMemory>
+    ensures { OnOk result (PutsFrame (Some message.now) out.old.items out.new.items) }
+{
     if !has_rows(message, MAX_ROWS) {
         return Ok(());
     }
@@ -52,7 +54,8 @@ fn put_parts(alloc: Global, message: &Message, out: &mut Vec<u8>) -> Result<(), 
 
 /// Whether it has no more rows, and a join and a leave one at least.
 fn has_rows(message: &Message, most: usize) -> bool
-    ensures { result ≡ true → HasRows most message.now }
+    ensures has { result ≡ true → HasRows most message.now }
+    ensures lacks { result ≡ false → HasRows most message.now → ⊥ }
 {
     match message {
         Message::Sync(_, rows) => rows.as_slice().len() <= most,
@@ -64,6 +67,7 @@ fn has_rows(message: &Message, most: usize) -> bool
 fn has_some(rows: &[Row], most: usize) -> bool
     ensures some { result ≡ true → 0 < length rows.now }
     ensures few { result ≡ true → length rows.now ≤ most }
+    ensures lacks { result ≡ false → 0 < length rows.now → length rows.now ≤ most → ⊥ }
 {
     !rows.is_empty() && rows.len() <= most
 }

@@ -1,6 +1,8 @@
 //! A scope that runs here, at the edge of a link.
 ghost use Rattle.std.specs.Prelude.{◌≡◌, ◌≤◌, ◌<◌, ◌↔◌, length, vec_len, IfSome, IsTrue};
-ghost use Rattle.std.specs.Prelude.{OnOk, OnErr, ◌++◌, ◌∷◌, []};
+ghost use Rattle.std.specs.Prelude.{OnOk, OnErr, ◌++◌, ◌∷◌, [], All, IsNone, get_or};
+ghost use Rattle.otp_edge.specs.Watches.{IsOtherWatch, Unwatches};
+ghost use Rattle.otp_edge.specs.declared.open_scope.Watcher.{Watcher};
 
 use crate::scope_edge::ScopeEdge;
 use dist_types::{OutOfMemory, Pid, Scope};
@@ -58,8 +60,11 @@ impl OpenScope {
         Ok(())
     }
 
-    /// Forgets a watch.
+    /// Forgets the watch of that reference, where there is one.
     pub fn unwatch(&mut self, reference: &[u8])
+        ensures watchers { Unwatches reference.now self.old.watchers.items
+            self.new.watchers.items }
+        ensures reference { self.new.reference ≡ self.old.reference }
         ensures scope { self.new.scope ≡ self.old.scope }
         ensures own { self.new.own ≡ self.old.own }
         ensures seen { self.new.seen ≡ self.old.seen }
@@ -71,7 +76,9 @@ impl OpenScope {
 }
 
 fn watcher_of(watchers: &[Watcher], reference: &[u8]) -> Option<usize>
-    ensures { IfSome result (λ place. place < length watchers.now) }
+    ensures found { IfSome result (λ place. (place < length watchers.now) × ((d : Watcher) →
+        (get_or watchers.now place d).reference.items ≡ reference.now)) }
+    ensures none { IsNone result → All (IsOtherWatch reference.now) watchers.now }
 {
     for (place, watcher) in watchers.iter().enumerate() {
         if watcher.reference.as_slice() == reference {

@@ -7,7 +7,7 @@ ghost use Rattle.dist_types.specs.declared.row.Row.{Row};
 ghost use Rattle.otp_edge.specs.Endings.{asking_of, asking_again, ending_of, end_bytes};
 ghost use Rattle.otp_edge.specs.Endings.{unwatch_bytes};
 ghost use Rattle.otp_edge.specs.Opens.{open_of, with_seen};
-ghost use Rattle.otp_edge.specs.Said.{Tells};
+ghost use Rattle.otp_edge.specs.Said.{GoesOn, Tells};
 ghost use Rattle.otp_edge.specs.Sayings.{AreTold, syncs, joins, leaves, AreLeft};
 ghost use Rattle.otp_edge.specs.ScopeEdges.{seen_of, with_told, now_told, told_to};
 
@@ -57,9 +57,10 @@ impl OpenScope {
         life: &mut Life,
     ) -> Result<Vec<u8>, OutOfMemory>
         requires { length rows ≤ 65536 }
-        ensures told { IfOk result (λ out. Tells (vec_len life.new.atoms) kind rows self.old
+        ensures told { IfOk result (λ out. Tells life.new.atoms.items kind rows self.old
             self.new out.items) }
         ensures same { OnErr result (open_of self.new ≡ open_of self.old) }
+        ensures life { GoesOn life.old life.new }
     {
         match kind {
             PartKind::Sync => self.tell_sync(alloc, rows.into_vec(), life),
@@ -79,10 +80,11 @@ impl OpenScope {
         ensures untold { self.old.seen.other ≡ None → IfOk result (λ out. (out.items ≡ []) ×
             (open_of self.new ≡ open_of self.old)) }
         ensures told { (other : Pid) → self.old.seen.other ≡ Some other → IfOk result (λ out.
-            AreTold (vec_len life.new.atoms) syncs self.old.own other rows.items out.items
+            AreTold life.new.atoms.items syncs self.old.own other rows.items out.items
             self.new.seen.told.items × (open_of self.new ≡ with_seen
             (with_told self.new.seen.told.items (seen_of self.old.seen)) (open_of self.old))) }
         ensures same { OnErr result (open_of self.new ≡ open_of self.old) }
+        ensures life { GoesOn life.old life.new }
     {
         let Some(ends) = self.ends() else {
             return Ok(Vec::new(alloc));
@@ -106,11 +108,12 @@ impl OpenScope {
         ensures untold { told_to (seen_of self.old.seen) ≡ None → IfOk result (λ out.
             (out.items ≡ []) × (open_of self.new ≡ open_of self.old)) }
         ensures told { (other : Pid) → told_to (seen_of self.old.seen) ≡ Some other →
-            IfOk result (λ out. (told : List Row) × AreTold (vec_len life.new.atoms) joins
+            IfOk result (λ out. (told : List Row) × AreTold life.new.atoms.items joins
             self.old.own other rows.items out.items told × (open_of self.new ≡ with_seen
             (now_told (self.old.seen.told.items ++ told) (seen_of self.old.seen))
             (open_of self.old))) }
         ensures same { OnErr result (open_of self.new ≡ open_of self.old) }
+        ensures life { GoesOn life.old life.new }
     {
         let Some(ends) = self.told_ends() else {
             return Ok(Vec::new(alloc));
@@ -135,11 +138,12 @@ impl OpenScope {
         ensures untold { told_to (seen_of self.old.seen) ≡ None → IfOk result (λ out.
             (out.items ≡ []) × (open_of self.new ≡ open_of self.old)) }
         ensures told { (other : Pid) → told_to (seen_of self.old.seen) ≡ Some other →
-            IfOk result (λ out. AreLeft (vec_len life.new.atoms) self.old.own other rows.now
+            IfOk result (λ out. AreLeft life.new.atoms.items self.old.own other rows.now
             out.items self.old.seen.told.items self.new.seen.told.items ×
             (open_of self.new ≡ with_seen (now_told self.new.seen.told.items
             (seen_of self.old.seen)) (open_of self.old))) }
         ensures same { OnErr result (open_of self.new ≡ open_of self.old) }
+        ensures life { GoesOn life.old life.new }
     {
         let Some(ends) = self.told_ends() else {
             return Ok(Vec::new(alloc));

@@ -3,7 +3,7 @@ ghost use Rattle.std.specs.Prelude.{◌≡◌, None, IfErr, IfOk, OnErr, option_
 ghost use Rattle.link_frames.specs.Parts.{message_of};
 ghost use Rattle.link_frames.specs.declared.fault.MessageFault.TheVariants as faults;
 ghost use Rattle.otp_edge.specs.Said.{IsBodySaid, IsNoBody, IsPartSaid, IsSaidOnce, IsSameLink};
-ghost use Rattle.otp_edge.specs.Said.{KnowsTheSame};
+ghost use Rattle.otp_edge.specs.Said.{GoesOn, KnowsTheSame};
 
 use crate::edge_state::Edge;
 use crate::life::Life;
@@ -26,6 +26,7 @@ impl Edge {
             IsNoBody self.old body.now) }
         ensures memory { OnErr result (KnowsTheSame self.old self.new) }
         ensures link { IsSameLink self.old self.new }
+        ensures life { GoesOn life.old life.new }
     {
         if self.in_parts {
             let message = decode_v2(alloc, body)?;
@@ -48,6 +49,7 @@ impl Edge {
             out.items) }
         ensures memory { OnErr result (KnowsTheSame self.old self.new) }
         ensures link { IsSameLink self.old self.new }
+        ensures life { GoesOn life.old life.new }
     {
         match message {
             Message2::Discover(scope) => self.say(alloc, Message::Discover(scope), life),
@@ -74,6 +76,7 @@ impl Edge {
             (option_map (λ b. message_of b.kind b.scope b.rows) self.old.parts) out.items) }
         ensures memory { OnErr result (KnowsTheSame self.old self.new) }
         ensures link { IsSameLink self.old self.new }
+        ensures life { GoesOn life.old life.new }
         ensures parts { self.new.parts ≡ None }
     {
         let Some(begun) = self.parts.take() else {

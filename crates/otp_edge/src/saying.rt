@@ -1,10 +1,10 @@
 //! What the peer of a link is sent of what the node says.
-ghost use Rattle.std.specs.Prelude.{◌≡◌, ◌+◌, ◌^◌, ℕ, [], IfOk, OnErr};
+ghost use Rattle.std.specs.Prelude.{◌≡◌, ◌+◌, ◌^◌, ℕ, List, [], IfOk, OnErr};
 ghost use Rattle.std.specs.List.{flat_map};
 ghost use Rattle.link_frames.specs.Parts.{message_of};
 ghost use Rattle.otp_edge.specs.Endings.{asking_again};
-ghost use Rattle.otp_edge.specs.Opens.{open_of};
-ghost use Rattle.otp_edge.specs.Said.{IsSaid, IsSameLink, KnowsTheSame, RunsNowhere, Says};
+ghost use Rattle.otp_edge.specs.Opens.{open_of, RunsNowhere};
+ghost use Rattle.otp_edge.specs.Said.{GoesOn, IsSaid, IsSameLink, KnowsTheSame, Says};
 ghost use Rattle.otp_edge.specs.Said.{started};
 ghost use Rattle.link_frames.specs.declared.message.Message.TheVariants as messages;
 
@@ -31,6 +31,7 @@ impl Edge {
         ensures memory { OnErr result (KnowsTheSame self.old self.new) }
         ensures link { IsSameLink self.old self.new }
         ensures parts { self.new.parts ≡ self.old.parts }
+        ensures life { GoesOn life.old life.new }
     {
         match message {
             Message::Discover(scope) => self.say_discover(alloc, scope, life),
@@ -56,6 +57,7 @@ impl Edge {
         ensures memory { OnErr result (self.new.scopes.items ≡ self.old.scopes.items) }
         ensures link { IsSameLink self.old self.new }
         ensures parts { self.new.parts ≡ self.old.parts }
+        ensures life { GoesOn life.old life.new }
     {
         match self.place_of(scope.as_bytes()) {
             Some(place) => {
@@ -80,6 +82,7 @@ impl Edge {
         ensures memory { OnErr result (self.new.scopes.items ≡ self.old.scopes.items) }
         ensures link { IsSameLink self.old self.new }
         ensures parts { self.new.parts ≡ self.old.parts }
+        ensures life { GoesOn life.old life.new }
     {
         if self.scopes.len() >= MAX_SCOPES {
             return Ok(self.untold(alloc, Dropped::TooManyScopes));
@@ -126,6 +129,7 @@ impl Edge {
         ensures memory { OnErr result (KnowsTheSame self.old self.new) }
         ensures link { IsSameLink self.old self.new }
         ensures parts { self.new.parts ≡ self.old.parts }
+        ensures life { GoesOn life.old life.new }
     {
         let Some(place) = self.place_of(scope.as_bytes()) else {
             return Ok(self.untold(alloc, Dropped::Untold));
@@ -140,9 +144,9 @@ impl Edge {
 
     /// A scope stopped here: who watches its process is told, and it watches no longer.
     fn say_down(&mut self, alloc: Global, scope: &Scope) -> Result<Vec<u8>, OutOfMemory>
-        ensures said { (processes atoms : ℕ) → IfOk result (λ out. Says self.old.own
-            self.old.scopes.items self.new.scopes.items processes atoms (messages.Down scope.now)
-            out.items) }
+        ensures said { (processes later : ℕ) (atoms : List (List ℕ)) → IfOk result (λ out.
+            Says self.old.own self.old.scopes.items self.new.scopes.items processes later atoms
+            (messages.Down scope.now) out.items) }
         ensures memory { OnErr result (self.new.scopes.items ≡ self.old.scopes.items) }
         ensures link { IsSameLink self.old self.new }
         ensures parts { self.new.parts ≡ self.old.parts }

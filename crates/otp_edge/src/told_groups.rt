@@ -1,9 +1,10 @@
 //! Rows gathered by group, as a process of a scope is told them.
 ghost use Rattle.std.specs.Prelude.{◌≡◌, ◌≤◌, ◌++◌, ℕ, List, length, take, All, IfOk, OnOk};
-ghost use Rattle.std.specs.Prelude.{MatchOption, vec_len, IsTrue, ◌↔◌};
+ghost use Rattle.std.specs.Prelude.{MatchOption, IsTrue, ◌↔◌};
 ghost use Rattle.dist_types.specs.declared.row.Row.{Row};
-ghost use Rattle.otp_edge.specs.Grouped.{IsGrouped, IsInGroup, IsLeftOut};
+ghost use Rattle.otp_edge.specs.Grouped.{IsGrouped, IsInGroup, IsLeftOut, MayBeTold};
 ghost use Rattle.otp_edge.specs.Groups.{IsTermOf};
+ghost use Rattle.otp_edge.specs.Said.{GoesOn};
 ghost use Rattle.otp_edge.specs.Sayings.{rows_of};
 ghost use Rattle.otp_edge.specs.Telling.{HasFew};
 
@@ -21,9 +22,10 @@ pub fn groups_of<'a>(
     life: &mut Life,
 ) -> Result<Vec<Told<'a>>, OutOfMemory>
     requires { length rows.now ≤ 65536 }
-    ensures grouped { IfOk result (λ told. IsGrouped (vec_len life.new.atoms) rows.now told.items) }
+    ensures grouped { IfOk result (λ told. IsGrouped life.new.atoms.items rows.now told.items) }
     ensures few { IfOk result (λ told. length told.items ≤ length rows.now) }
     ensures each { IfOk result (λ told. All HasFew told.items) }
+    ensures life { GoesOn life.old life.new }
 {
     let mut told = Vec::new(alloc);
     let mut rest = rows;
@@ -40,8 +42,9 @@ pub fn groups_of<'a>(
 /// The term by which a group is told; none where it isn't.
 fn told_term(alloc: Global, group: &Group, life: &mut Life) -> Result<Option<Vec<u8>>, OutOfMemory>
     ensures term { IfOk result (λ read. MatchOption read
-        (IsLeftOut (vec_len life.new.atoms) group.now) (λ term. IsTermOf term.items group.now)) }
-    ensures grows { vec_len life.old.atoms ≤ vec_len life.new.atoms }
+        (IsLeftOut life.new.atoms.items group.now) (λ term. IsTermOf term.items group.now ×
+        MayBeTold life.new.atoms.items group.now)) }
+    ensures life { GoesOn life.old life.new }
 {
     let Some(term) = term_of(alloc, group)? else {
         return Ok(None);

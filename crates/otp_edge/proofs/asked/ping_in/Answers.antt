@@ -1,4 +1,4 @@
-use Rattle.otp_edge.proofs.Words.{◌++◌, ap, ◌∙◌}
+use Rattle.otp_edge.proofs.Words.{ap, ◌++◌, ◌∙◌}
 use Rattle.std.specs.Prelude.{codes}
 use Rattle.external_terms.specs.Values.{tuple_head}
 use Rattle.otp_edge.specs.PgMessages.{headed}

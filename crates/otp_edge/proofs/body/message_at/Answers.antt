@@ -1,4 +1,5 @@
-use Rattle.otp_edge.proofs.Words.{◌≡◌, ℕ, [], ◌==◌, List, length, sym, ap, ◌∙◌, append-nil, true, false}
+use Rattle.otp_edge.proofs
+use proofs.Words.{ap, append-nil, false, length, List, sym, true, ℕ, [], ◌==◌, ◌∙◌, ◌≡◌}
 use Rattle.otp_edge.proofs.body.message_at.Goals as goal
 
 pub returns-in_err-message-clause-only : goal.returns-in_err-message-clause-only

@@ -1,5 +1,6 @@
-use Rattle.otp_edge.proofs.Words.{sym, ◌∙◌}
-use Rattle.otp_edge.proofs.GroupLemmas.{by_atom, by_binary}
+use Rattle.otp_edge.proofs
+use proofs.Words.{sym, ◌∙◌}
+use proofs.GroupLemmas.{by_atom, by_binary}
 use Rattle.otp_edge.proofs.group.group_of.Goals as goal
 
 pub returns-in-Some : goal.returns-in-Some

@@ -1,4 +1,4 @@
-use Rattle.otp_edge.proofs.Words.{[], sym, ◌∙◌, append-nil}
+use Rattle.otp_edge.proofs.Words.{append-nil, sym, [], ◌∙◌}
 use Rattle.external_terms.specs.Values.{binary_bytes}
 use Rattle.otp_edge.proofs.group.only_binary.Goals as goal
 

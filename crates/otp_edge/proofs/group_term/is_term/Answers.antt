@@ -1,6 +1,6 @@
-use Rattle.otp_edge.proofs.Words.{ℕ, [], ◌==◌, List, length, sym, ap, ◌∙◌, append-nil, Decides-eqb}
-use Rattle.otp_edge.proofs.Words.{nil_from_length}
-use Rattle.otp_edge.proofs.BodyLemmas.{whole_term}
+use Rattle.otp_edge.proofs
+use proofs.Words.{ap, append-nil, Decides-eqb, length, List, nil_from_length, sym, ℕ, [], ◌==◌, ◌∙◌}
+use proofs.BodyLemmas.{whole_term}
 use Rattle.otp_edge.proofs.group_term.is_term.Goals as goal
 
 pub returns-in-Some-clause-value : goal.returns-in-Some-clause-value

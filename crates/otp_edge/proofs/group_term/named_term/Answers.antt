@@ -1,7 +1,8 @@
-use Rattle.otp_edge.proofs.Words.{◌++◌, Some, sym, ap, ◌∙◌}
+use Rattle.otp_edge.proofs
+use proofs.Words.{ap, Some, sym, ◌++◌, ◌∙◌}
 use Rattle.external_terms.specs.Values.{atom_bytes, binary_bytes}
-use Rattle.otp_edge.proofs.GroupLemmas.{mark_none}
-use Rattle.otp_edge.proofs.NamedLemmas.{named_binary, named_hex, named_atom}
+use proofs.GroupLemmas.{mark_none}
+use proofs.NamedLemmas.{named_atom, named_binary, named_hex}
 use Rattle.otp_edge.proofs.group_term.named_term.Goals as goal
 
 pub returns-in-Some : goal.returns-in-Some

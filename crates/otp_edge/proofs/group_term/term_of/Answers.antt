@@ -1,7 +1,9 @@
-use Rattle.otp_edge.proofs.Words.{◌≡◌, sym, ap, ◌∙◌, subst, true, false}
-use Rattle.otp_edge.specs.Groups.{IsTermOf}
-use Rattle.otp_edge.specs.GroupTerms.{term_named}
-use Rattle.otp_edge.proofs.NamedLemmas.{only_named, some_same}
+use Rattle.otp_edge.proofs
+use Rattle.otp_edge.specs
+use proofs.Words.{ap, false, subst, sym, true, ◌∙◌, ◌≡◌}
+use specs.Groups.{IsTermOf}
+use specs.GroupTerms.{term_named}
+use proofs.NamedLemmas.{only_named, some_same}
 use Rattle.otp_edge.proofs.group_term.term_of.Goals as goal
 
 pub returns-in_default-clause-only : goal.returns-in_default-clause-only

@@ -1,15 +1,17 @@
-use Rattle.otp_edge.proofs.Words.{◌≡◌, ◌≢◌, ℕ, List, listed, IsList, StandsFirst}
+use Rattle.otp_edge.proofs
+use Rattle.otp_edge.specs
+use proofs.Words.{IsList, List, listed, StandsFirst, ℕ, ◌≡◌, ◌≢◌}
 use Rattle.std.specs.Prelude.{IfErr}
 use Rattle.external_terms.specs.Terms.{SpellsTerm}
-use Rattle.otp_edge.specs.PgMessages.{Groups, terms, numbers, groups_bytes, groups_of, AreGroups}
-use Rattle.otp_edge.specs.PgMessages.{rows_left}
-use Rattle.otp_edge.specs.declared.fault.HearFault.TheVariants as faults
-use Rattle.otp_edge.proofs.FirstLemmas.{terms_first, numbers_first, groups_lack}
-use Rattle.otp_edge.proofs.LackLemmas.{lack}
-use Rattle.otp_edge.proofs.SaidLemmas.{ok_so}
+use specs.PgMessages.{AreGroups, Groups, groups_bytes, groups_of, numbers, rows_left, terms}
+use proofs.FirstLemmas.{groups_lack, numbers_first, terms_first}
+use proofs.LackLemmas.{lack}
+use proofs.SaidLemmas.{ok_so}
+use specs.declared.fault.HearFault.TheVariants as faults
 use Rattle.otp_edge.proofs.groups.left_at.Goals as goal
 
-pub returns-in_ok-rows_of_numbers-in-Some-clause-found : goal.returns-in_ok-rows_of_numbers-in-Some-clause-found
+pub returns-in_ok-rows_of_numbers-in-Some-clause-found
+    : goal.returns-in_ok-rows_of_numbers-in-Some-clause-found
 returns-in_ok-rows_of_numbers-in-Some-clause-found c = let some = c.in-Some in (
   numbers some.numbers.now,
   c.in_ok-rows_of_numbers-in-Some.ensures.ok,
@@ -17,7 +19,8 @@ returns-in_ok-rows_of_numbers-in-Some-clause-found c = let some = c.in-Some in (
       some.ensures.found some.ensures.only,
 )
 
-pub returns-in_err-rows_of_numbers-in-Some-clause-only : goal.returns-in_err-rows_of_numbers-in-Some-clause-only
+pub returns-in_err-rows_of_numbers-in-Some-clause-only
+    : goal.returns-in_err-rows_of_numbers-in-Some-clause-only
 returns-in_err-rows_of_numbers-in-Some-clause-only c = λ gs rest are whole.
     lack c.from_residual.result _ c.from_residual.ensures.1
     c.in_err-rows_of_numbers-in-Some.ensures.refused

@@ -1,10 +1,10 @@
-use Rattle.otp_edge.proofs.Words.{ℕ, List, ◌+◌, [], ◌∷◌, ◌++◌, length_push, ap, arith, ◌∙◌}
-use Rattle.otp_edge.proofs.Words.{refl, append-nil}
+use Rattle.otp_edge.proofs
+use proofs.Words.{ap, append-nil, arith, length_push, List, refl, ℕ, [], ◌++◌, ◌+◌, ◌∙◌, ◌∷◌}
 use Rattle.std.proofs.lemmas.Grind.{flat_map-append}
 use Rattle.external_terms.specs.Terms.{SpellsTerm}
 use Rattle.otp_edge.specs.PgMessages.{rows_in}
-use Rattle.otp_edge.proofs.ListLemmas.{none_read, one_more, left_bytes}
-use Rattle.otp_edge.proofs.LackLemmas.{lack}
+use proofs.ListLemmas.{left_bytes, none_read, one_more}
+use proofs.LackLemmas.{lack}
 use Rattle.otp_edge.proofs.groups.rows_at.Goals as goal
 
 abbrev spell : List ℕ → List ℕ

@@ -1,4 +1,4 @@
-use Rattle.otp_edge.proofs.Words.{◌≡◌, ℕ, List, length, Front}
+use Rattle.otp_edge.proofs.Words.{Front, length, List, ℕ, ◌≡◌}
 use Rattle.external_terms.specs.Terms.{SpellsTerm}
 use Rattle.otp_edge.specs.PgMessages.{rows_left}
 use Rattle.otp_edge.proofs.groups.rows_at.Given as goal

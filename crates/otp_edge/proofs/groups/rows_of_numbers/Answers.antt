@@ -1,9 +1,10 @@
-use Rattle.otp_edge.proofs.Words.{[]}
+use Rattle.otp_edge.proofs
+use proofs.Words.{[]}
 use Rattle.std.proofs.lemmas.List.{get_or_default}
 use Rattle.external_terms.specs.Values.{small_integer_bytes}
 use Rattle.otp_edge.specs.PgMessages.{rows_in}
-use Rattle.otp_edge.proofs.PutLemmas.{more_put}
-use Rattle.otp_edge.proofs.LackLemmas.{lack}
+use proofs.PutLemmas.{more_put}
+use proofs.LackLemmas.{lack}
 use Rattle.otp_edge.proofs.groups.rows_of_numbers.Goals as goal
 
 pub loop-number-preserved : goal.loop-number-preserved

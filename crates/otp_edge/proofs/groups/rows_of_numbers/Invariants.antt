@@ -1,4 +1,4 @@
-use Rattle.otp_edge.proofs.Words.{◌≡◌, map, take}
+use Rattle.otp_edge.proofs.Words.{map, take, ◌≡◌}
 use Rattle.external_terms.specs.Values.{small_integer_bytes}
 use Rattle.otp_edge.specs.PgMessages.{rows_left}
 use Rattle.otp_edge.proofs.groups.rows_of_numbers.Given as goal

@@ -1,8 +1,9 @@
-use Rattle.otp_edge.proofs.Words.{ℕ, List, ◌++◌, length, flat_map, sym, ◌∙◌}
+use Rattle.otp_edge.proofs
+use proofs.Words.{flat_map, length, List, sym, ℕ, ◌++◌, ◌∙◌}
 use Rattle.external_terms.specs.Values.{nil_bytes}
 use Rattle.external_terms.specs.Terms.{SpellsTerm}
-use Rattle.otp_edge.proofs.ListLemmas.{list_parts, none_inside, inner_of, all_read, list_first}
-use Rattle.otp_edge.proofs.LackLemmas.{lack}
+use proofs.ListLemmas.{all_read, inner_of, list_first, list_parts, none_inside}
+use proofs.LackLemmas.{lack}
 use Rattle.otp_edge.proofs.groups.terms_at.Goals as goal
 
 abbrev spell : List ℕ → List ℕ

@@ -1,7 +1,8 @@
-use Rattle.otp_edge.proofs.Words.{◌≡◌, ℕ, [], ◌==◌, List, length, sym, ap, ◌∙◌, append-nil, true, false}
-use Rattle.otp_edge.proofs.Words.{refl, pid_bytes, IsPid, Decides-eqb, nil_from_length}
-use Rattle.otp_edge.proofs.ListLemmas.{alone, alone_only}
-use Rattle.otp_edge.proofs.LackLemmas.{lack_match}
+use Rattle.otp_edge.proofs
+use proofs.Words.{ap, append-nil, Decides-eqb, false, IsPid, length, List, nil_from_length}
+use proofs.Words.{pid_bytes, refl, sym, true, ℕ, [], ◌==◌, ◌∙◌, ◌≡◌}
+use proofs.ListLemmas.{alone, alone_only}
+use proofs.LackLemmas.{lack_match}
 use Rattle.otp_edge.proofs.hearing.discover_in.Goals as goal
 
 pub returns-in_err-pid-clause-only : goal.returns-in_err-pid-clause-only

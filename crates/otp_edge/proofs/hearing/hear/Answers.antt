@@ -1,6 +1,6 @@
-use Rattle.otp_edge.proofs.SaidLemmas.{discover_meant, sync_meant, join_meant, leave_meant}
-use Rattle.otp_edge.proofs.SaidLemmas.{discover_only, sync_only, join_only, leave_only}
-use Rattle.otp_edge.proofs.SaidLemmas.{no_message}
+use Rattle.otp_edge.proofs
+use proofs.SaidLemmas.{discover_meant, discover_only, join_meant, join_only, leave_meant}
+use proofs.SaidLemmas.{leave_only, no_message, sync_meant, sync_only}
 use Rattle.otp_edge.proofs.hearing.hear.Goals as goal
 
 pub returns-in-Some-clause-found : goal.returns-in-Some-clause-found

@@ -1,8 +1,9 @@
-use Rattle.otp_edge.proofs.Words.{◌≡◌, ℕ, [], ◌==◌, ◌++◌, List, length, sym, ap, ◌∙◌, append-nil, true}
-use Rattle.otp_edge.proofs.Words.{false, pid_bytes, Decides-eqb, nil_from_length}
-use Rattle.otp_edge.proofs.ListLemmas.{alone, alone_only}
-use Rattle.otp_edge.specs.PgMessages.{members_bytes, groups_bytes, AreGroups}
-use Rattle.otp_edge.proofs.LackLemmas.{lack_match}
+use Rattle.otp_edge.proofs
+use proofs.Words.{ap, append-nil, Decides-eqb, false, length, List, nil_from_length, pid_bytes, sym}
+use proofs.Words.{true, ℕ, [], ◌++◌, ◌==◌, ◌∙◌, ◌≡◌}
+use proofs.ListLemmas.{alone, alone_only}
+use Rattle.otp_edge.specs.PgMessages.{AreGroups, groups_bytes, members_bytes}
+use proofs.LackLemmas.{lack_match}
 use Rattle.otp_edge.proofs.hearing.leave_in.Goals as goal
 
 pub returns-in_err-pid-clause-only : goal.returns-in_err-pid-clause-only

@@ -1,10 +1,10 @@
-use Rattle.otp_edge.proofs.Words.{◌≡◌, ℕ, [], ◌==◌, ◌++◌, List, length, sym, ap, ◌∙◌, append-nil, true}
-use Rattle.otp_edge.proofs.Words.{false, pid_bytes, Decides-eqb, nil_from_length, listed}
-use Rattle.otp_edge.proofs.Words.{IsList}
+use Rattle.otp_edge.proofs
+use proofs.Words.{ap, append-nil, Decides-eqb, false, IsList, length, List, listed, nil_from_length}
+use proofs.Words.{pid_bytes, sym, true, ℕ, [], ◌++◌, ◌==◌, ◌∙◌, ◌≡◌}
 use Rattle.std.specs.Prelude.{codes}
-use Rattle.otp_edge.proofs.ListLemmas.{alone, alone_only}
-use Rattle.otp_edge.specs.PgMessages.{stated_bytes, IsStated, headed}
-use Rattle.otp_edge.proofs.LackLemmas.{lack_match}
+use proofs.ListLemmas.{alone, alone_only}
+use Rattle.otp_edge.specs.PgMessages.{headed, IsStated, stated_bytes}
+use proofs.LackLemmas.{lack_match}
 use Rattle.otp_edge.proofs.hearing.sync_in.Goals as goal
 
 pub returns-in_default-clause-only : goal.returns-in_default-clause-only

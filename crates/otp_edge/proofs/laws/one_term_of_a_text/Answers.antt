@@ -1,5 +1,6 @@
-use Rattle.otp_edge.proofs.Words.{sym, ◌∙◌}
-use Rattle.otp_edge.proofs.NamedLemmas.{only_named, some_same}
+use Rattle.otp_edge.proofs
+use proofs.Words.{sym, ◌∙◌}
+use proofs.NamedLemmas.{only_named, some_same}
 use Rattle.otp_edge.proofs.laws.one_term_of_a_text.Goals as goal
 
 pub returns-clause-terms : goal.returns-clause-terms

@@ -1,7 +1,8 @@
-use Rattle.otp_edge.proofs.Words.{◌++◌, length, flat_map, sym, ◌∙◌, pid_bytes, IsPid}
+use Rattle.otp_edge.proofs
+use proofs.Words.{flat_map, IsPid, length, pid_bytes, sym, ◌++◌, ◌∙◌}
 use Rattle.external_terms.specs.Values.{nil_bytes}
-use Rattle.otp_edge.proofs.ListLemmas.{list_parts, none_inside, inner_of, all_read, list_first}
-use Rattle.otp_edge.proofs.LackLemmas.{lack}
+use proofs.ListLemmas.{all_read, inner_of, list_first, list_parts, none_inside}
+use proofs.LackLemmas.{lack}
 use Rattle.otp_edge.proofs.members.listed_at.Goals as goal
 
 pub returns-in_default-clause-only : goal.returns-in_default-clause-only
@@ -29,5 +30,6 @@ pub returns-clause-found : goal.returns-clause-found
 returns-clause-found c =
     let found = c.in_ok-pids.ensures.found in
     list_first pid_bytes IsPid c.args.bytes.now c.in-Some.count c.in-Some.rest.now
-    c.in_ok-pids.pids.items c.in_ok-pids.rest.now c.in-Some-after_nil.rest.now c.in-Some.ensures.fits
+    c.in_ok-pids.pids.items c.in_ok-pids.rest.now c.in-Some-after_nil.rest.now
+    c.in-Some.ensures.fits
     c.in-Some.ensures.found c.in-Some.ensures.only found.0 found.1 c.in-Some-after_nil.ensures.found

@@ -1,10 +1,11 @@
-use Rattle.otp_edge.proofs.Words.{◌≡◌, [], ◌∷◌, ◌++◌, ap, refl, ◌∙◌, IsPid, pid_bytes, listed, IsList}
-use Rattle.otp_edge.proofs.Words.{StandsFirst}
+use Rattle.otp_edge.proofs
+use Rattle.otp_edge.specs
+use proofs.Words.{ap, IsList, IsPid, listed, pid_bytes, refl, StandsFirst, [], ◌++◌, ◌∙◌, ◌∷◌, ◌≡◌}
 use Rattle.std.specs.Prelude.{IfErr, ◌≢◌}
-use Rattle.otp_edge.specs.PgMessages.{Members, one, many, members_bytes, members_of, AreMembers}
-use Rattle.otp_edge.specs.declared.fault.HearFault.TheVariants as faults
-use Rattle.otp_edge.proofs.FirstLemmas.{one_first, many_first, members_lack}
-use Rattle.otp_edge.proofs.SaidLemmas.{ok_so}
+use specs.PgMessages.{AreMembers, many, Members, members_bytes, members_of, one}
+use proofs.FirstLemmas.{many_first, members_lack, one_first}
+use proofs.SaidLemmas.{ok_so}
+use specs.declared.fault.HearFault.TheVariants as faults
 use Rattle.otp_edge.proofs.members.members_at.Goals as goal
 
 pub returns-in_ok-push-in-Ok-clause-found : goal.returns-in_ok-push-in-Ok-clause-found

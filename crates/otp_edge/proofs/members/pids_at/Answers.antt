@@ -1,7 +1,8 @@
-use Rattle.otp_edge.proofs.Words.{◌+◌, length, length_push, ap, arith, ◌∙◌, sym, subst, Pid, IsPid}
-use Rattle.otp_edge.proofs.Words.{pid_bytes, Front}
-use Rattle.otp_edge.proofs.ListLemmas.{none_read, one_more, left_bytes}
-use Rattle.otp_edge.proofs.LackLemmas.{lack}
+use Rattle.otp_edge.proofs
+use proofs.Words.{ap, arith, Front, IsPid, length, length_push, Pid, pid_bytes, subst, sym, ◌+◌}
+use proofs.Words.{◌∙◌}
+use proofs.ListLemmas.{left_bytes, none_read, one_more}
+use proofs.LackLemmas.{lack}
 use Rattle.otp_edge.proofs.members.pids_at.Goals as goal
 
 pub loop-init : goal.loop-init

@@ -1,4 +1,4 @@
-use Rattle.otp_edge.proofs.Words.{◌≡◌, length, Front, IsPid, pid_bytes}
+use Rattle.otp_edge.proofs.Words.{Front, IsPid, length, pid_bytes, ◌≡◌}
 use Rattle.otp_edge.proofs.members.pids_at.Given as goal
 
 abbrev pub invariant-loop : goal.invariant-loop

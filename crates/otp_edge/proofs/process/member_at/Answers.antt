@@ -1,7 +1,8 @@
-use Rattle.otp_edge.proofs.Words.{◌++◌, sym, ap, ◌∙◌, process_of}
+use Rattle.otp_edge.proofs
+use proofs.Words.{ap, process_of, sym, ◌++◌, ◌∙◌}
 use Rattle.external_terms.specs.Values.{process_bytes}
-use Rattle.otp_edge.proofs.ProcessLemmas.{pid_fits, one_pid}
-use Rattle.otp_edge.proofs.LackLemmas.{lack}
+use proofs.ProcessLemmas.{one_pid, pid_fits}
+use proofs.LackLemmas.{lack}
 use Rattle.otp_edge.proofs.process.member_at.Goals as goal
 
 pub returns-in_default-clause-only : goal.returns-in_default-clause-only

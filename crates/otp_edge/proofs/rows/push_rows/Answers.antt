@@ -1,5 +1,6 @@
-use Rattle.otp_edge.proofs.Words.{sym, ◌∙◌, arith}
-use Rattle.otp_edge.proofs.RowLemmas.{rows_none, all_rows}
+use Rattle.otp_edge.proofs
+use proofs.Words.{arith, sym, ◌∙◌}
+use proofs.RowLemmas.{all_rows, rows_none}
 use Rattle.otp_edge.proofs.rows.push_rows.Goals as goal
 
 pub returns-in_default-clause-ok : goal.returns-in_default-clause-ok

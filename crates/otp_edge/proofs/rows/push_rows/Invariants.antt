@@ -1,4 +1,4 @@
-use Rattle.otp_edge.proofs.Words.{◌≡◌, ◌++◌, take}
+use Rattle.otp_edge.proofs.Words.{take, ◌++◌, ◌≡◌}
 use Rattle.otp_edge.specs.PgMessages.{rows_of_text}
 use Rattle.otp_edge.proofs.rows.push_rows.Given as goal
 

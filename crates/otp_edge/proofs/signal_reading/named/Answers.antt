@@ -1,5 +1,6 @@
-use Rattle.otp_edge.proofs.Words.{refl}
-use Rattle.otp_edge.proofs.SignalLemmas.{same_control}
+use Rattle.otp_edge.proofs
+use proofs.Words.{refl}
+use proofs.SignalLemmas.{same_control}
 use Rattle.otp_edge.proofs.signal_reading.named.Goals as goal
 
 pub returns-in-Some-2-clause-found : goal.returns-in-Some-2-clause-found

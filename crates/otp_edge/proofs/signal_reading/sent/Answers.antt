@@ -1,5 +1,6 @@
-use Rattle.otp_edge.proofs.Words.{sym, Decides-eqb, nil_from_length}
-use Rattle.otp_edge.proofs.SignalLemmas.{same_control}
+use Rattle.otp_edge.proofs
+use proofs.Words.{Decides-eqb, nil_from_length, sym}
+use proofs.SignalLemmas.{same_control}
 use Rattle.otp_edge.proofs.signal_reading.sent.Goals as goal
 
 pub returns-in-Some-2-clause-found : goal.returns-in-Some-2-clause-found

@@ -1,6 +1,7 @@
-use Rattle.otp_edge.proofs.Words.{◌≡◌, ◌++◌, length, map, take, flat_map, list_front}
-use Rattle.otp_edge.specs.PgMessages.{stated_bytes}
-use Rattle.otp_edge.specs.Telling.{stated_of}
+use Rattle.otp_edge.specs
+use Rattle.otp_edge.proofs.Words.{flat_map, length, list_front, map, take, ◌++◌, ◌≡◌}
+use specs.PgMessages.{stated_bytes}
+use specs.Telling.{stated_of}
 use Rattle.otp_edge.proofs.spelling.put_all_stated.Given as goal
 
 abbrev pub invariant-loop-one : goal.invariant-loop-one

@@ -1,8 +1,9 @@
-use Rattle.otp_edge.proofs.Words.{◌++◌, ap, ◌∙◌, pid_bytes, listed}
+use Rattle.otp_edge.proofs
+use proofs.Words.{ap, listed, pid_bytes, ◌++◌, ◌∙◌}
 use Rattle.std.specs.Prelude.{codes}
 use Rattle.external_terms.specs.Values.{atom_bytes, tuple_head}
 use Rattle.otp_edge.specs.Telling.{pids_of}
-use Rattle.otp_edge.proofs.PutLemmas.{join_put}
+use proofs.PutLemmas.{join_put}
 use Rattle.otp_edge.proofs.spelling.put_join.Goals as goal
 
 pub returns : goal.returns

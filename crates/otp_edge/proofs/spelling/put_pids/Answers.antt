@@ -1,5 +1,6 @@
-use Rattle.otp_edge.proofs.Words.{length, list_front, pid_bytes, Row}
-use Rattle.otp_edge.proofs.PutLemmas.{more_put}
+use Rattle.otp_edge.proofs
+use proofs.Words.{length, list_front, pid_bytes, Row}
+use proofs.PutLemmas.{more_put}
 use Rattle.otp_edge.proofs.spelling.put_pids.Goals as goal
 
 pub loop-row-preserved : goal.loop-row-preserved

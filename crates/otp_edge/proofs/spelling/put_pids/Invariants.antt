@@ -1,4 +1,4 @@
-use Rattle.otp_edge.proofs.Words.{◌≡◌, ◌++◌, length, take, flat_map, list_front, pid_bytes}
+use Rattle.otp_edge.proofs.Words.{flat_map, length, list_front, pid_bytes, take, ◌++◌, ◌≡◌}
 use Rattle.otp_edge.specs.Telling.{pids_of}
 use Rattle.otp_edge.proofs.spelling.put_pids.Given as goal
 

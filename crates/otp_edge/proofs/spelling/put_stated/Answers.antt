@@ -1,7 +1,8 @@
-use Rattle.otp_edge.proofs.Words.{◌++◌, ap, ◌∙◌, pid_bytes, listed}
+use Rattle.otp_edge.proofs
+use proofs.Words.{ap, listed, pid_bytes, ◌++◌, ◌∙◌}
 use Rattle.external_terms.specs.Values.{tuple_head}
 use Rattle.otp_edge.specs.Telling.{pids_of}
-use Rattle.otp_edge.proofs.PutLemmas.{stated_put}
+use proofs.PutLemmas.{stated_put}
 use Rattle.otp_edge.proofs.spelling.put_stated.Goals as goal
 
 pub returns : goal.returns

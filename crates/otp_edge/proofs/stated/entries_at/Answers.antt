@@ -1,9 +1,9 @@
-use Rattle.otp_edge.proofs.Words.{◌+◌, [], ◌∷◌, ◌++◌, length_push, ap, arith, ◌∙◌, refl}
-use Rattle.otp_edge.proofs.Words.{append-nil}
+use Rattle.otp_edge.proofs
+use proofs.Words.{ap, append-nil, arith, length_push, refl, [], ◌++◌, ◌+◌, ◌∙◌, ◌∷◌}
 use Rattle.std.proofs.lemmas.Grind.{flat_map-append}
-use Rattle.otp_edge.specs.PgMessages.{IsStated, stated_bytes, rows_in}
-use Rattle.otp_edge.proofs.ListLemmas.{none_read, one_more, left_bytes}
-use Rattle.otp_edge.proofs.LackLemmas.{lack}
+use Rattle.otp_edge.specs.PgMessages.{IsStated, rows_in, stated_bytes}
+use proofs.ListLemmas.{left_bytes, none_read, one_more}
+use proofs.LackLemmas.{lack}
 use Rattle.otp_edge.proofs.stated.entries_at.Goals as goal
 
 pub loop-init : goal.loop-init

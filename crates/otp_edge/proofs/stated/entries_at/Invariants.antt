@@ -1,5 +1,5 @@
-use Rattle.otp_edge.proofs.Words.{◌≡◌, List, length, Front}
-use Rattle.otp_edge.specs.PgMessages.{Stated, IsStated, stated_bytes, rows_stated}
+use Rattle.otp_edge.proofs.Words.{Front, length, List, ◌≡◌}
+use Rattle.otp_edge.specs.PgMessages.{IsStated, rows_stated, Stated, stated_bytes}
 use Rattle.otp_edge.proofs.stated.entries_at.Given as goal
 
 abbrev pub invariant-loop : goal.invariant-loop

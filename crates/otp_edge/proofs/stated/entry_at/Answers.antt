@@ -1,6 +1,7 @@
-use Rattle.otp_edge.proofs.Words.{◌++◌, sym, ◌∙◌, pid_bytes, listed}
-use Rattle.otp_edge.proofs.FirstLemmas.{stated_parts, stated_first}
-use Rattle.otp_edge.proofs.LackLemmas.{lack}
+use Rattle.otp_edge.proofs
+use proofs.Words.{listed, pid_bytes, sym, ◌++◌, ◌∙◌}
+use proofs.FirstLemmas.{stated_first, stated_parts}
+use proofs.LackLemmas.{lack}
 use Rattle.otp_edge.proofs.stated.entry_at.Goals as goal
 
 pub returns-in_default-clause-only : goal.returns-in_default-clause-only

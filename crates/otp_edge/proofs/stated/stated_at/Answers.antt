@@ -1,8 +1,9 @@
-use Rattle.otp_edge.proofs.Words.{◌++◌, length, flat_map, sym, ◌∙◌}
+use Rattle.otp_edge.proofs
+use proofs.Words.{flat_map, length, sym, ◌++◌, ◌∙◌}
 use Rattle.external_terms.specs.Values.{nil_bytes}
-use Rattle.otp_edge.specs.PgMessages.{stated_bytes, IsStated}
-use Rattle.otp_edge.proofs.ListLemmas.{list_parts, none_inside, inner_of, all_read, list_first}
-use Rattle.otp_edge.proofs.LackLemmas.{lack}
+use Rattle.otp_edge.specs.PgMessages.{IsStated, stated_bytes}
+use proofs.ListLemmas.{all_read, inner_of, list_first, list_parts, none_inside}
+use proofs.LackLemmas.{lack}
 use Rattle.otp_edge.proofs.stated.stated_at.Goals as goal
 
 pub returns-in_default-clause-only : goal.returns-in_default-clause-only

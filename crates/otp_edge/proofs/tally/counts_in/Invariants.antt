@@ -1,4 +1,4 @@
-use Rattle.otp_edge.proofs.Words.{◌≡◌, ◌<◌, ℕ, length, Row}
+use Rattle.otp_edge.proofs.Words.{length, Row, ℕ, ◌<◌, ◌≡◌}
 use Rattle.std.specs.Prelude.{get_or}
 use Rattle.otp_edge.specs.Tallies.{times}
 use Rattle.otp_edge.proofs.tally.counts_in.Given as goal

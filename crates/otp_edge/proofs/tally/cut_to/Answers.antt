@@ -1,7 +1,8 @@
-use Rattle.otp_edge.proofs.TallyLemmas.{CutSoFar, kept_step, cut_start, cut_end}
+use Rattle.otp_edge.proofs
+use proofs.TallyLemmas.{cut_end, cut_start, CutSoFar, kept_step}
 use Rattle.std.proofs.lemmas.List.{take_all}
 use Rattle.std.specs.Prelude.{get_or}
-use Rattle.otp_edge.proofs.Words.{arith, ap, length, subst, sym, refl}
+use proofs.Words.{ap, arith, length, refl, subst, sym}
 use Rattle.otp_edge.proofs.tally.cut_to.Goals as goal
 
 pub loop-place-init : goal.loop-place-init

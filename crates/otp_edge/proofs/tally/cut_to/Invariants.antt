@@ -1,5 +1,6 @@
-use Rattle.otp_edge.proofs.Words.{length, ◌≤◌}
-use Rattle.otp_edge.proofs.TallyLemmas.{CutSoFar}
+use Rattle.otp_edge.proofs
+use proofs.Words.{length, ◌≤◌}
+use proofs.TallyLemmas.{CutSoFar}
 use Rattle.otp_edge.proofs.tally.cut_to.Given as goal
 
 abbrev pub invariant-loop-place : goal.invariant-loop-place

@@ -1,4 +1,4 @@
-use Rattle.otp_edge.proofs.Words.{sym, ap, ◌∙◌}
+use Rattle.otp_edge.proofs.Words.{ap, sym, ◌∙◌}
 use Rattle.std.proofs.lemmas.List.Sums.{count_by_more_no}
 use Rattle.dist_types.specs.Listing.{same_row}
 use Rattle.otp_edge.proofs.tally.place_of.Goals as goal

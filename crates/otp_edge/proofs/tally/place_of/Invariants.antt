@@ -1,4 +1,4 @@
-use Rattle.otp_edge.proofs.Words.{◌≡◌, take}
+use Rattle.otp_edge.proofs.Words.{take, ◌≡◌}
 use Rattle.otp_edge.specs.Tallies.{times}
 use Rattle.otp_edge.proofs.tally.place_of.Given as goal
 

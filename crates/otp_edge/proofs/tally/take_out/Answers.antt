@@ -1,6 +1,7 @@
-use Rattle.otp_edge.proofs.Words.{ap, ◌∙◌}
+use Rattle.otp_edge.proofs
+use proofs.Words.{ap, ◌∙◌}
 use Rattle.dist_types.specs.Listing.{same_row}
-use Rattle.otp_edge.proofs.TallyLemmas.{one_taken}
+use proofs.TallyLemmas.{one_taken}
 use Rattle.otp_edge.proofs.tally.take_out.Goals as goal
 
 pub returns-clause-change : goal.returns-clause-change

@@ -1,7 +1,8 @@
-use Rattle.otp_edge.proofs.Words.{[], ◌∷◌, ◌++◌, ap, ◌∙◌}
+use Rattle.otp_edge.proofs
+use proofs.Words.{ap, [], ◌++◌, ◌∙◌, ◌∷◌}
 use Rattle.external_terms.specs.Values.{atom_bytes}
 use Rattle.otp_edge.specs.Bodies.{control_bytes, pass_through, version}
-use Rattle.otp_edge.proofs.EdgeLemmas.{ok_so}
+use proofs.EdgeLemmas.{ok_so}
 use Rattle.otp_edge.proofs.told_bodies.begun.Goals as goal
 
 pub returns : goal.returns

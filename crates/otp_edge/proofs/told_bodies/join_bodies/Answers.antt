@@ -1,14 +1,17 @@
-use Rattle.otp_edge.proofs.Words.{[], ◌∷◌}
-use Rattle.otp_edge.specs.PgMessages.{join, many}
-use Rattle.otp_edge.specs.Telling.{pids_of}
-use Rattle.otp_edge.specs.declared.telling.Told.{Told}
-use Rattle.otp_edge.proofs.TellingLemmas.{bodies_more}
+use Rattle.otp_edge.proofs
+use Rattle.otp_edge.specs
+use specs.PgMessages.{join, many}
+use specs.Telling.{pids_of}
+use specs.declared.telling.Told.{Told}
+use proofs.TellingLemmas.{bodies_more}
 use Rattle.otp_edge.proofs.told_bodies.join_bodies.Goals as goal
 
 pub loop-one-preserved : goal.loop-one-preserved
 loop-one-preserved c = let own = c.args.ends.own.now in
-    bodies_more (λ (t : Told). join own t.group.items (many (pids_of t.rows.now))) c.args.ends.other.now
-    c.args.told.now c.loop-one.one-index c.one-item.result c.loop-one.out.items c.in_ok-body.body.items
+    bodies_more (λ (t : Told). join own t.group.items (many (pids_of t.rows.now)))
+    c.args.ends.other.now
+    c.args.told.now c.loop-one.one-index c.one-item.result c.loop-one.out.items
+    c.in_ok-body.body.items
     c.put_join.new.out.items c.deref.result.now c.put_whole.new.out.items c.loop-one-test.true
     c.one-item.is c.loop-one.invariant c.in_ok-body.ensures c.in_ok-put_join.ensures
     c.deref.ensures.value c.in_ok-put_whole.ensures

@@ -1,4 +1,4 @@
-use Rattle.otp_edge.proofs.Words.{◌≡◌, ◌++◌, take}
+use Rattle.otp_edge.proofs.Words.{take, ◌++◌, ◌≡◌}
 use Rattle.otp_edge.proofs.told_groups.push_copies.Given as goal
 
 abbrev pub invariant-loop-row : goal.invariant-loop-row

@@ -1,4 +1,4 @@
-use Rattle.otp_edge.proofs.Words.{◌≡◌, take}
+use Rattle.otp_edge.proofs.Words.{take, ◌≡◌}
 use Rattle.otp_edge.specs.Sayings.{rows_of}
 use Rattle.otp_edge.proofs.told_groups.rows_told.Given as goal
 

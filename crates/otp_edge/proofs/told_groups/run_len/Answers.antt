@@ -1,5 +1,6 @@
-use Rattle.otp_edge.proofs.Words.{rules}
-use Rattle.otp_edge.proofs.GroupedLemmas.{in_group_more}
+use Rattle.otp_edge.proofs
+use proofs.Words.{rules}
+use proofs.GroupedLemmas.{in_group_more}
 use Rattle.otp_edge.proofs.told_groups.run_len.Goals as goal
 
 pub loop-place-preserved : goal.loop-place-preserved

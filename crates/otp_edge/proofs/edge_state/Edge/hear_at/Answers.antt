@@ -1,6 +1,7 @@
-use Rattle.otp_edge.proofs.Words.{◌<◌, length, ap, ◌∙◌, arith}
+use Rattle.otp_edge.proofs
+use proofs.Words.{ap, arith, length, refl, ◌<◌, ◌∙◌}
 use Rattle.std.proofs.Common.{inr}
-use Rattle.otp_edge.proofs.EdgeLemmas.{one_there, said_there}
+use proofs.EdgeLemmas.{one_there, stays_at, takes_there}
 use Rattle.otp_edge.specs.declared.open_scope.OpenScope.{OpenScope}
 use Rattle.otp_edge.proofs.edge_state.Edge.hear_at.Goals as goal
 
@@ -18,6 +19,12 @@ hear-heard-requires-clause-copy c =
     (one_there c.args.self.now.scopes.items c.args.place c.index.result.now c.index_mut.result.now
     within c.index.ensures c.index_mut.ensures.value)
 
-pub returns : goal.returns
-returns c = inr (λ d. said_there c.args.self.now c.args.said c.hear-heard.result c.args.place
-    c.index_mut.result.now d (omega arith) c.index_mut.ensures.value c.hear-heard.ensures.heard)
+pub returns-clause-heard : goal.returns-clause-heard
+returns-clause-heard c = inr (λ d. takes_there c.args.self.now _ c.args.said c.hear-heard.result
+    c.args.place c.index_mut.result.now c.hear-heard.new.self d (omega arith)
+    c.index_mut.ensures.value c.hear-heard.ensures.heard refl c.hear-heard.ensures.seen)
+
+pub returns-clause-stays : goal.returns-clause-stays
+returns-clause-stays c = stays_at c.args.self.now _ c.args.place c.index_mut.result.now
+    c.hear-heard.new.self c.index_mut.ensures.value c.hear-heard.ensures.scope
+    c.hear-heard.ensures.own (refl, refl, refl) refl refl

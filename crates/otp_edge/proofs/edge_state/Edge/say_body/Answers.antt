@@ -1,4 +1,4 @@
-use Rattle.otp_edge.specs.Said.{whole, part}
+use Rattle.otp_edge.specs.Said.{part, whole}
 use Rattle.otp_edge.proofs.edge_state.Edge.say_body.Goals as goal
 
 pub returns-then-self-clause-said : goal.returns-then-self-clause-said

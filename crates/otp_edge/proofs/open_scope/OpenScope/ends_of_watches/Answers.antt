@@ -1,9 +1,11 @@
-use Rattle.otp_edge.proofs.Words.{ap, ◌∙◌, ◌++◌}
+use Rattle.otp_edge.proofs
+use Rattle.otp_edge.specs
+use proofs.Words.{ap, ◌++◌, ◌∙◌}
 use Rattle.std.specs.Prelude.{codes}
 use Rattle.external_terms.specs.Values.{atom_bytes}
-use Rattle.otp_edge.specs.Bodies.{control_bytes, framed}
-use Rattle.otp_edge.specs.Endings.{alone, end_bytes}
-use Rattle.otp_edge.proofs.SayingLemmas.{bytes_more}
+use specs.Bodies.{control_bytes, framed}
+use specs.Endings.{alone, end_bytes}
+use proofs.SayingLemmas.{bytes_more}
 use Rattle.otp_edge.proofs.open_scope.OpenScope.ends_of_watches.Goals as goal
 
 pub loop-watcher-preserved : goal.loop-watcher-preserved

@@ -1,4 +1,4 @@
-use Rattle.otp_edge.proofs.SayingLemmas.{sync_tells, join_tells, leave_tells}
+use Rattle.otp_edge.proofs.SayingLemmas.{join_tells, leave_tells, sync_tells}
 use Rattle.otp_edge.proofs.open_scope.OpenScope.tell.Goals as goal
 
 pub returns-in-Sync-clause-told : goal.returns-in-Sync-clause-told

@@ -1,15 +1,16 @@
-use Rattle.otp_edge.proofs.Words.{◌≡◌, ap, ◌∙◌}
-use Rattle.std.proofs.Common.{vec_len}
-use Rattle.otp_edge.specs.Opens.{open_of, with_seen}
-use Rattle.otp_edge.specs.Sayings.{syncs}
-use Rattle.otp_edge.specs.ScopeEdges.{Seen, seen_of}
-use Rattle.otp_edge.proofs.TellingLemmas.{told_here, seen_told}
+use Rattle.otp_edge.proofs
+use Rattle.otp_edge.specs
+use proofs.Words.{ap, ◌∙◌, ◌≡◌}
+use specs.Opens.{open_of, with_seen}
+use specs.Sayings.{syncs}
+use specs.ScopeEdges.{Seen, seen_of}
+use proofs.TellingLemmas.{seen_told, told_here}
 use Rattle.otp_edge.proofs.open_scope.OpenScope.tell_sync.Goals as goal
 
 pub returns-clause-told : goal.returns-clause-told
 returns-clause-told c = λ other is.
     let them : c.in-Some.ends.other.now ≡ other = cc (c.in-Some.ensures.other, is) in (
-      told_here (vec_len c.groups_of.new.life.atoms) syncs c.in-Some.ends.own.now
+      told_here c.groups_of.new.life.atoms.items syncs c.in-Some.ends.own.now
           c.args.self.now.own c.in-Some.ends.other.now other c.args.rows.items
           c.sort_unstable.new.self.items c.deref.result.now c.in_ok-told.told.items
           c.deref-2.result.now c.deref-3.result.now c.in_ok-out.out.items

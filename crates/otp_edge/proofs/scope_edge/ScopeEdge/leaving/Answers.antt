@@ -1,7 +1,8 @@
-use Rattle.otp_edge.proofs.Words.{ap, ◌∙◌}
+use Rattle.otp_edge.proofs
+use proofs.Words.{ap, ◌∙◌}
 use Rattle.std.specs.Prelude.{get_or}
 use Rattle.otp_edge.specs.Tallies.{times}
-use Rattle.otp_edge.proofs.EdgeLemmas.{ok_so}
+use proofs.EdgeLemmas.{ok_so}
 use Rattle.otp_edge.proofs.scope_edge.ScopeEdge.leaving.Goals as goal
 
 pub returns-clause-cut : goal.returns-clause-cut

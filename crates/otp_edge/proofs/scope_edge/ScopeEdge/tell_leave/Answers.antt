@@ -1,7 +1,8 @@
-use Rattle.otp_edge.proofs.Words.{◌≤◌, ◌+◌, arith, ap, sym, subst, ◌∙◌}
+use Rattle.otp_edge.proofs
+use proofs.Words.{ap, arith, subst, sym, ◌+◌, ◌∙◌, ◌≤◌}
 use Rattle.std.proofs.lemmas.List.{take_all}
 use Rattle.otp_edge.specs.Tallies.{times}
-use Rattle.otp_edge.proofs.TallyLemmas.{out_more}
+use proofs.TallyLemmas.{out_more}
 use Rattle.otp_edge.proofs.scope_edge.ScopeEdge.tell_leave.Goals as goal
 
 pub loop-row-preserved : goal.loop-row-preserved
@@ -18,6 +19,7 @@ pub returns-clause-left : goal.returns-clause-left
 returns-clause-left c = λ r few.
     let whole = take_all c.loop-row.row-index c.args.rows.now (omega arith) in
     let now = c.loop-row.self.told.items in
-    let out = c.loop-row.invariant.out r (subst (λ l. times r l ≤ times r c.args.self.now.told.items)
+    let out = c.loop-row.invariant.out r
+    (subst (λ l. times r l ≤ times r c.args.self.now.told.items)
     (sym whole) few) in
     ap (λ l. times r now + times r l) (sym whole) ∙ out

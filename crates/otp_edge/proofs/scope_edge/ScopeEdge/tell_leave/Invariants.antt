@@ -1,5 +1,6 @@
-use Rattle.otp_edge.proofs.Words.{◌≡◌}
-use Rattle.otp_edge.proofs.TallyLemmas.{OutSoFar}
+use Rattle.otp_edge.proofs
+use proofs.Words.{◌≡◌}
+use proofs.TallyLemmas.{OutSoFar}
 use Rattle.otp_edge.proofs.scope_edge.ScopeEdge.tell_leave.Given as goal
 
 abbrev pub invariant-loop-row : goal.invariant-loop-row
