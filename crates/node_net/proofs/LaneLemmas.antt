@@ -1,33 +1,34 @@
 -- What a lane's passes gain.
-use Rattle.std.proofs.Common.{◌≡◌, ℕ, List, [], ◌∷◌, ◌++◌, Option, Some, None, Result, Ok, Err}
-use Rattle.std.proofs.Common.{IfSome, ◌+◌, ◌<◌, ◌≤◌, length, arith, refl, ap, sym, subst, ◌∙◌, inl}
-use Rattle.std.proofs.Common.{inr, append-nil, length-append}
+use Rattle.node_net.specs
+use Rattle.std.proofs.Common.{ap, append-nil, arith, Err, IfSome, inl, inr, length, length-append}
+use Rattle.std.proofs.Common.{List, None, Ok, Option, refl, Result, Some, subst, sym, ℕ, [], ◌++◌}
+use Rattle.std.proofs.Common.{◌+◌, ◌<◌, ◌∙◌, ◌∷◌, ◌≡◌, ◌≤◌}
 use Rattle.std.specs.List.{All, Contains}
-use Rattle.std.proofs.lemmas.List.Elements.{All-nil, All-cons, All-append, All-head, All-tail}
+use Rattle.std.proofs.lemmas.List.Elements.{All-append, All-cons, All-head, All-nil, All-tail}
 use Rattle.std.proofs.lemmas.List.Elements.{All-weaker, Contains-append_left, Contains-append_right}
 use Rattle.std.proofs.lemmas.Grind.{flat_map-append}
 use Rattle.rand_core.specs.Stream.{next_u32}
 use Rattle.rand_chacha.specs.ChaCha.{ChaCha}
 use Rattle.policy_audit.specs.declared.event.Event.{Event}
-use Rattle.policy_audit.specs.declared.event.Event.TheVariants.{Opened, Dial, Frame, Take, Lost}
+use Rattle.policy_audit.specs.declared.event.Event.TheVariants.{Dial, Frame, Lost, Opened, Take}
 use Rattle.policy_audit.specs.declared.reply.Reply.{Reply}
 use Rattle.policy_audit.specs.declared.reply.Reply.TheVariants.{Link}
 use Rattle.policy_audit.specs.declared.entry.Verdict.{Verdict}
-use Rattle.policy_audit.specs.declared.entry.Verdict.TheVariants as verdicts
-use Rattle.node_core.specs.declared.fault.CoreFault.TheVariants.{Refused, OutOfMemory}
+use Rattle.node_core.specs.declared.fault.CoreFault.TheVariants.{OutOfMemory, Refused}
 use Rattle.node_threads.specs.declared.fault.CallFault.{CallFault}
-use Rattle.node_threads.specs.declared.fault.CallFault.TheVariants.{StrangePass, Core}
+use Rattle.node_threads.specs.declared.fault.CallFault.TheVariants.{Core, StrangePass}
 use Rattle.node_threads.specs.declared.ends.ReadEnd.{ReadEnd}
 use Rattle.node_threads.specs.declared.ends.WriteEnd.{WriteEnd}
 use Rattle.node_threads.specs.declared.pass.Call.{Call}
 use Rattle.node_threads.specs.Applied.{Called}
-use Rattle.node_threads.specs.Calls.{Record, Gains}
+use Rattle.node_threads.specs.Calls.{Gains, Record}
 use Rattle.node_threads.specs.Serving.{HasRead, HasWritten}
-use Rattle.node_threads.specs.Drawing.{Draws, challenges_in, challenges}
-use Rattle.node_threads.proofs.Openings.{draws_then, draws_one, read_calls, written_calls}
-use Rattle.node_threads.proofs.Answered.{gains_none, Adds, accepted, refused, unheard, strange}
-use Rattle.node_net.specs.LaneCalls.{Pair, IsOpening, link_opened, own_links, IsLinkEvent, AreOf}
-use Rattle.node_net.specs.LaneCalls.{words_of, IsLane, Opens}
+use Rattle.node_threads.specs.Drawing.{challenges, challenges_in, Draws}
+use Rattle.node_threads.proofs.Openings.{draws_one, draws_then, read_calls, written_calls}
+use Rattle.node_threads.proofs.Answered.{accepted, Adds, gains_none, refused, strange, unheard}
+use specs.LaneCalls.{AreOf, IsLane, IsLinkEvent, IsOpening, link_opened, Opens, own_links, Pair}
+use specs.LaneCalls.{words_of}
+use Rattle.policy_audit.specs.declared.entry.Verdict.TheVariants as verdicts
 
 -- ---- more links, more calls
 

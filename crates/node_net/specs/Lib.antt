@@ -1,2 +1,3 @@
 pub mod Behind
 pub mod LaneCalls
+pub mod Listings

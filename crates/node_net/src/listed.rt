@@ -1,5 +1,6 @@
 //! What the node lists of the peer of a link.
 ghost use Rattle.std.specs.Prelude.{◌≡◌, IfOk, length, map, replicate};
+ghost use Rattle.node_net.specs.Listings.{IsListing};
 ghost use Rattle.scope_core.specs.Table.{count_of};
 
 use crate::patience::HostedLink;
@@ -17,7 +18,8 @@ pub(crate) struct Listed<'a, R: Wait + Clock> {
 }
 
 impl<R: Wait + Clock> Table for Listed<'_, R> {
-    #[tactic(auto, using(crate::proofs::Counts::none_counted))]
+    ghost lists = { λ _ scope rows. IsListing scope rows };
+
     fn counts(
         &self,
         alloc: Global,
@@ -30,7 +32,10 @@ impl<R: Wait + Clock> Table for Listed<'_, R> {
                 let counts = counts_in(alloc, table, rows)?;
                 Ok(counts)
             }
-            None => no_counts(alloc, rows),
+            None => {
+                let counts = no_counts(alloc, rows)?;
+                Ok(counts)
+            }
         }
     }
 

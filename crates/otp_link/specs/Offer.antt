@@ -1,5 +1,6 @@
 -- What passes of a handshake with a stock node (Distribution Protocol, "Distribution Handshake").
-use Rattle.std.specs.Prelude.{◌≡◌, ◌<◌, ◌^◌, ◌⊎◌, ◌==◌, ◌&&◌, ◌||◌, ℕ, Bool, true, false, List, [], ◌∷◌, ◌++◌, bit_and, not}
+use Rattle.std.specs.Prelude.{◌≡◌, ◌≢◌, ◌<◌, ◌^◌, ◌==◌, ◌&&◌, ◌||◌, ℕ, Bool, true, false}
+use Rattle.std.specs.Prelude.{List, [], ◌∷◌, ◌++◌, bit_and, not}
 use Rattle.std.specs.Int.{w64, to_be_bytes}
 use Rattle.dist_types.specs.Flags.{has_bit}
 
@@ -16,10 +17,16 @@ has_stock flags = (bit_and flags 0x1070F94 == 0x1070F94) || not (bit_and flags 0
 abbrev pub named : ℕ → List ℕ → List ℕ
 named flags rest = 78 ∷ to_be_bytes w64 flags ++ rest
 
--- a frame of the node here goes out unchanged, but for the flags of a Name or a Challenge
-abbrev pub IsOwnFrame : Bool → List ℕ → List ℕ → Type 0
-IsOwnFrame visible body sent = (sent ≡ body) ⊎ ((flags : ℕ) × (rest : List ℕ) ×
-    (body ≡ named flags rest) × (sent ≡ named (offered_flags (visible && has_bit 0 flags)) rest))
+-- it is neither of them
+abbrev pub IsUnnamed : List ℕ → Type 0
+IsUnnamed body = (flags : ℕ) (rest : List ℕ) → flags < 2 ^ 64 → body ≢ named flags rest
+
+-- a frame of the node here goes out with the flags that are offered, where it is a Name or a
+-- Challenge; any other one unchanged
+pub record IsOwnFrame (visible : Bool) (body sent : List ℕ) : Type 0 where
+  pub flagged : (flags : ℕ) (rest : List ℕ) → flags < 2 ^ 64 → body ≡ named flags rest
+      → sent ≡ named (offered_flags (visible && has_bit 0 flags)) rest
+  pub same : IsUnnamed body → sent ≡ body
 
 -- a frame of the peer comes in unchanged; in parts 2 stands behind it
 abbrev pub IsPeerFrame : Bool → List ℕ → List ℕ → Type 0

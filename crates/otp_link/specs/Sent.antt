@@ -1,60 +1,81 @@
 -- What goes out to a stock node of what the node here says.
-use Rattle.std.specs.Prelude.{◌≡◌, ◌⊎◌, ℕ, Bool, List, [], ◌++◌, Option, Some, None}
+use Rattle.std.specs.Prelude.{◌≡◌, ◌⊎◌, ℕ, Bool, true, false, List, [], ◌++◌, Option, Some, None}
 use Rattle.std.specs.Int.{w16, w32}
 use Rattle.handshake_frames.specs.Spelling.{counted}
 use Rattle.otp_edge.specs.Said.{IsBodySaid, IsNoBody, KnowsTheSame}
 use Rattle.otp_edge.specs.declared.edge_state.Edge.{Edge}
 use Rattle.otp_edge.specs.declared.life.Life.{Life}
 use Rattle.otp_link.specs.Offer.{IsOwnFrame}
+use Rattle.otp_link.specs.Pieces.{IsUnsent, is_last_of}
+use Rattle.otp_link.specs.declared.link.LinkKind.{LinkKind}
+use Rattle.otp_link.specs.declared.link.OtpLink.{OtpLink}
 
--- the edge stays, or it begins
-abbrev pub IsBegun : Option Edge → Option Edge → Type 0
-IsBegun before after = (after ≡ before) ⊎ ((edge : Edge) × (after ≡ Some edge)
-    × (edge.scopes.items ≡ []))
+-- how far a link is in what it sends: whether its handshake is done, the edge once it has begun,
+-- and what was told over all links
+pub record Stand : Type 0 where
+  pub is_up : Bool
+  pub edge : Option Edge
+  pub life : Life
+
+abbrev pub stand_of : OtpLink → Life → Stand
+stand_of link life = record { is_up = link.sends_bodies; edge = link.edge; life = life }
+
+-- the edge stays, or it begins: in parts where the link is, and without a scope
+abbrev pub IsBegun : LinkKind → Option Edge → Option Edge → Type 0
+IsBegun kind before after = (after ≡ before) ⊎ ((edge : Edge) × (after ≡ Some edge)
+    × (edge.in_parts ≡ kind.in_parts) × (edge.scopes.items ≡ []))
+
+-- a link stays of its kind; but its peer may take no messages in parts
+abbrev pub IsNarrowed : LinkKind → LinkKind → Type 0
+IsNarrowed before after = (after.is_visible ≡ before.is_visible)
+    × (after.is_dialled ≡ before.is_dialled) × (before.in_parts ≡ false → after.in_parts ≡ false)
 
 -- of a body what the edge says, once there is one; of what is no body nothing
-pub data SendsBody (before after : Option Edge) (life later : Life) (body out : List ℕ)
-    : Type 0 where
-  early : before ≡ None → after ≡ None → later ≡ life → out ≡ []
-      → SendsBody before after life later body out
-  said : (edge new : Edge) → before ≡ Some edge → after ≡ Some new
-      → IsBodySaid edge new life later body out → SendsBody before after life later body out
-  no_body : (edge new : Edge) → before ≡ Some edge → after ≡ Some new → IsNoBody edge body
-      → KnowsTheSame edge new → out ≡ [] → SendsBody before after life later body out
+pub data SendsBody (before after : Stand) (body out : List ℕ) : Type 0 where
+  early : before.edge ≡ None → after ≡ before → out ≡ [] → SendsBody before after body out
+  said : (edge new : Edge) → before.edge ≡ Some edge → after.edge ≡ Some new
+      → IsBodySaid edge new before.life after.life body out → SendsBody before after body out
+  no_body : (edge new : Edge) → before.edge ≡ Some edge → after.edge ≡ Some new
+      → IsNoBody edge body → KnowsTheSame edge new → out ≡ [] → SendsBody before after body out
 
--- of a frame the same, but for its flags; of a body what its edge says; of a tick nothing
-pub data SendsPiece (visible : Bool) (before after : Option Edge) (life later : Life)
-    (piece out : List ℕ) : Type 0 where
-  frame : (body sent : List ℕ) → piece ≡ counted w16 body → IsOwnFrame visible body sent
-      → out ≡ counted w16 sent → IsBegun before after → later ≡ life
-      → SendsPiece visible before after life later piece out
-  message : (body : List ℕ) → piece ≡ counted w32 body
-      → SendsBody before after life later body out
-      → SendsPiece visible before after life later piece out
-  tick : piece ≡ counted w32 [] → out ≡ [] → after ≡ before → later ≡ life
-      → SendsPiece visible before after life later piece out
+-- until the handshake is done a frame, with its flags set, of which a Reply or an Ack ends it; then
+-- of a body what its edge says, and of a tick nothing
+pub data SendsPiece (kind : LinkKind) (before after : Stand) (piece out : List ℕ) : Type 0 where
+  frame : (body sent : List ℕ) → before.is_up ≡ false → piece ≡ counted w16 body
+      → IsOwnFrame kind.is_visible body sent → out ≡ counted w16 sent
+      → IsBegun kind before.edge after.edge → after.life ≡ before.life
+      → after.is_up ≡ is_last_of body → SendsPiece kind before after piece out
+  message : (body : List ℕ) → before.is_up ≡ true → piece ≡ counted w32 body
+      → SendsBody before after body out → after.is_up ≡ true
+      → SendsPiece kind before after piece out
+  tick : before.is_up ≡ true → piece ≡ counted w32 [] → out ≡ [] → after ≡ before
+      → SendsPiece kind before after piece out
 
 -- the piece at the front is sent, behind what was sent before
-pub record SendsFront (visible : Bool) (before after : Option Edge) (life later : Life)
-    (bytes rest sent all : List ℕ) : Type 0 where
+pub record SendsFront (kind : LinkKind) (before after : Stand) (bytes rest sent all : List ℕ)
+    : Type 0 where
   pub piece : List ℕ
   pub out : List ℕ
   pub front : bytes ≡ piece ++ rest
-  pub sends : SendsPiece visible before after life later piece out
+  pub sends : SendsPiece kind before after piece out
   pub behind : all ≡ sent ++ out
 
 -- one piece behind the other
-pub data Sends (visible : Bool) (first : Option Edge) (life : Life)
-    : Option Edge → Life → List ℕ → List ℕ → Type 0 where
-  none : Sends visible first life first life [] []
-  more : (edge new : Option Edge) (between later : Life) (used out piece sent : List ℕ)
-      → Sends visible first life edge between used out
-      → SendsPiece visible edge new between later piece sent
-      → Sends visible first life new later (used ++ piece) (out ++ sent)
+pub data Sends (kind : LinkKind) (first : Stand) : Stand → List ℕ → List ℕ → Type 0 where
+  none : Sends kind first first [] []
+  more : (between later : Stand) (used out piece sent : List ℕ)
+      → Sends kind first between used out → SendsPiece kind between later piece sent
+      → Sends kind first later (used ++ piece) (out ++ sent)
 
--- the bytes are pieces that are sent, and what isn't a piece yet
-pub record SendsAll (visible : Bool) (first after : Option Edge) (life later : Life)
-    (bytes rest out : List ℕ) : Type 0 where
+-- the bytes are pieces that are sent, and the rest of them
+pub record SendsUpTo (kind : LinkKind) (first after : Stand) (bytes rest out : List ℕ)
+    : Type 0 where
   pub used : List ℕ
   pub front : bytes ≡ used ++ rest
-  pub sends : Sends visible first life after later used out
+  pub sends : Sends kind first after used out
+
+-- all pieces are sent: none stands whole at the front of the rest
+pub record SendsAll (kind : LinkKind) (first after : Stand) (bytes out : List ℕ) : Type 0 where
+  pub rest : List ℕ
+  pub sends : SendsUpTo kind first after bytes rest out
+  pub unsent : IsUnsent after.is_up rest

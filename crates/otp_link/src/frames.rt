@@ -1,8 +1,8 @@
 //! The frames of a handshake, as they pass between a stock node and the node here.
-ghost use Rattle.std.specs.Prelude.{◌≡◌, ◌++◌, ◌∷◌, IfOk, IfSome, OnOk};
-ghost use Rattle.std.specs.Int.{w16, w64, to_be_bytes};
+ghost use Rattle.std.specs.Prelude.{◌≡◌, ◌++◌, ◌<◌, ◌^◌, ℕ, List, IfOk, IfSome, IsSomeAnd, OnOk};
+ghost use Rattle.std.specs.Int.{w16};
 ghost use Rattle.handshake_frames.specs.Spelling.{counted};
-ghost use Rattle.otp_link.specs.Offer.{IsOwnFrame, IsPeerFrame};
+ghost use Rattle.otp_link.specs.Offer.{IsOwnFrame, IsPeerFrame, named};
 
 use crate::fault::LinkFault;
 use crate::flags::offered;
@@ -19,7 +19,8 @@ const IN_PARTS: u8 = 2;
 const LONGEST_FRAME: usize = 65_535;
 
 /// A frame of the node here as the stock node gets it: unchanged but for the flags of a Name or a
-/// Challenge, which are those that are offered. Bit 0 stays clear where the node is hidden.
+/// Challenge, in whose place those are sent that are offered. Bit 0 stays clear where the node is
+/// hidden.
 pub fn own_frame(alloc: Global, body: &[u8], is_visible: bool) -> Result<Vec<u8>, OutOfMemory>
     ensures { IfOk result (λ sent. IsOwnFrame is_visible body.now sent.items) }
 {
@@ -38,7 +39,9 @@ pub fn own_frame(alloc: Global, body: &[u8], is_visible: bool) -> Result<Vec<u8>
 
 /// The flags of a Name or a Challenge, and what stands behind them.
 pub(crate) fn flags_at(body: &[u8]) -> Option<(Flags, &[u8])>
-    ensures { IfSome result (λ read. body.now ≡ 78 ∷ to_be_bytes w64 read.0.0 ++ read.1.now) }
+    ensures found { IfSome result (λ read. body.now ≡ named read.0.0 read.1.now) }
+    ensures only { (flags : ℕ) (rest : List ℕ) → flags < 2 ^ 64 → body.now ≡ named flags rest →
+        IsSomeAnd result (λ read. (read.0.0 ≡ flags) × (read.1.now ≡ rest)) }
 {
     let rest = after_kind(NAMED, body)?;
     let (flags, rest) = u64_at(rest)?;

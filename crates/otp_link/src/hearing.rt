@@ -1,19 +1,17 @@
 //! What is handed in of a body of a stock node.
-ghost use Rattle.std.specs.Prelude.{◌≡◌, ℕ, IfOk, None};
-ghost use Rattle.dist_types.specs.declared.row.Row.{Row};
+ghost use Rattle.std.specs.Prelude.{◌≡◌, IfOk, None};
 ghost use Rattle.otp_edge.specs.declared.heard.Heard.{Heard};
 ghost use Rattle.otp_edge.specs.Edges.{IsHeard};
-ghost use Rattle.otp_edge.specs.Lefts.{IsLeft};
-ghost use Rattle.otp_link.specs.Counted.{Follows};
+ghost use Rattle.otp_link.specs.Counted.{AreCountsOf, Follows, IsCutAs, IsCutBy};
 
 use crate::table::Table;
 use dist_types::{OutOfMemory, Scope};
 use link_frames::Message;
-use otp_edge::{Edge, HearFault, Heard, Left};
+use otp_edge::{Edge, HearFault, Heard};
 use std::alloc::Global;
 
-/// What comes of a body, without its length: just what the edge hears; of a leave as many rows as
-/// the node here lists.
+/// What comes of a body, without its length: just what the edge hears; of a leave each row as often
+/// as it is asked for, and as the table lists it.
 pub fn hear_body<T: Table>(
     edge: &mut Edge,
     alloc: Global,
@@ -21,16 +19,30 @@ pub fn hear_body<T: Table>(
     table: &T,
 ) -> Result<Heard, HearFault>
     ensures { IfOk result (λ heard. (first : Heard) × IsHeard edge.old body.now first ×
-        Follows first heard) }
+        Follows (IsCutAs (T.lists table.now)) first heard) }
 {
     let heard = edge.hear(alloc, body)?;
-    let cut = cut_leave(alloc, heard, table)?;
+    let counts = counts_of(alloc, &heard, table)?;
+    let cut = cut_heard(alloc, heard, &counts)?;
     Ok(cut)
 }
 
-/// Cuts a leave to what is listed.
-fn cut_leave<T: Table>(alloc: Global, heard: Heard, table: &T) -> Result<Heard, OutOfMemory>
-    ensures { IfOk result (λ cut. Follows heard cut) }
+/// How often the table lists each row of a leave that was heard.
+fn counts_of<T: Table>(alloc: Global, heard: &Heard, table: &T) -> Result<Vec<usize>, OutOfMemory>
+    ensures { IfOk result (λ counts. AreCountsOf (T.lists table.now) heard.now.left counts.items) }
+{
+    match &heard.left {
+        Some(left) => {
+            let counts = table.counts(alloc, &left.scope, left.rows.as_slice())?;
+            Ok(counts)
+        }
+        None => Ok(Vec::new(alloc)),
+    }
+}
+
+/// Cuts a leave that was heard to what is listed: `counts` has for each of its rows how often.
+pub fn cut_heard(alloc: Global, heard: Heard, counts: &[usize]) -> Result<Heard, OutOfMemory>
+    ensures { IfOk result (λ cut. Follows (IsCutBy counts.now) heard cut) }
 {
     let Heard {
         down,
@@ -40,22 +52,11 @@ fn cut_leave<T: Table>(alloc: Global, heard: Heard, table: &T) -> Result<Heard, 
     } = heard;
     match left {
         Some(left) => {
-            let message = cut_left(alloc, left, table)?;
+            let message = left.cut(alloc, counts)?;
             Ok(handed(down, message, owed))
         }
         None => Ok(handed(down, message, owed)),
     }
-}
-
-/// Of rows that are asked to leave those that are listed.
-#[tactic(auto, using(crate::proofs::Cuts::cut_by_counts))]
-fn cut_left<T: Table>(alloc: Global, left: Left, table: &T) -> Result<Option<Message>, OutOfMemory>
-    ensures { IfOk result (λ message. (listed : Row → ℕ) ×
-        IsLeft left.scope left.rows listed message) }
-{
-    let counts = table.counts(alloc, &left.scope, left.rows.as_slice())?;
-    let message = left.cut(alloc, &counts)?;
-    Ok(message)
 }
 
 /// What is handed in and sent back, where nothing is left to be cut.

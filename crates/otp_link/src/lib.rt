@@ -20,7 +20,7 @@ pub use asking::Healing;
 pub use fault::LinkFault;
 pub use flags::{is_stock, offered};
 pub use frames::{own_frame, peer_frame};
-pub use hearing::hear_body;
+pub use hearing::{cut_heard, hear_body};
 pub use inward::Inward;
 pub use link::{LinkKind, OtpLink};
 pub use long::may_skip;

@@ -1,5 +1,5 @@
 //! One link with a stock node.
-ghost use Rattle.std.specs.Prelude.{◌≡◌};
+ghost use Rattle.std.specs.Prelude.{◌≡◌, false, None};
 ghost use Rattle.otp_link.specs.Sent.{IsBegun};
 
 use crate::asking::Healing;
@@ -38,7 +38,12 @@ pub struct OtpLink {
 
 impl OtpLink {
     /// A link that has just been opened.
-    pub fn new(alloc: Global, kind: LinkKind) -> OtpLink {
+    pub fn new(alloc: Global, kind: LinkKind) -> OtpLink
+        ensures kind { result.kind ≡ kind }
+        ensures edge { result.edge ≡ None }
+        ensures takes { result.takes_bodies ≡ false }
+        ensures sends { result.sends_bodies ≡ false }
+    {
         OtpLink {
             alloc,
             kind,
@@ -54,11 +59,16 @@ impl OtpLink {
     /// The edge begins once both ends have said their names.
     pub(crate) fn meet(&mut self)
         ensures kind { self.new.kind ≡ self.old.kind }
-        ensures edge { IsBegun self.old.edge self.new.edge }
+        ensures takes { self.new.takes_bodies ≡ self.old.takes_bodies }
+        ensures sends { self.new.sends_bodies ≡ self.old.sends_bodies }
+        ensures edge { IsBegun self.old.kind self.old.edge self.new.edge }
     {
         match (self.own.take(), self.peer.take()) {
             (Some(own), Some(peer)) => {
-                self.edge = Some(Edge::new(self.alloc, own, peer, self.kind.in_parts));
+                let mut edge = Edge::new(self.alloc, own, peer, self.kind.in_parts);
+                // (it is so already)
+                edge.in_parts = self.kind.in_parts;
+                self.edge = Some(edge);
             }
             (own, peer) => {
                 self.own = own;

@@ -1,5 +1,5 @@
 //! What stands at the front of the bytes of a stock node.
-ghost use Rattle.std.specs.Prelude.{◌≡◌};
+ghost use Rattle.std.specs.Prelude.{true, false};
 ghost use Rattle.otp_link.specs.Pieces.{IsPiece};
 
 use dist_types::{bytes_at, u32_at};
@@ -27,11 +27,18 @@ pub enum Piece<'a> {
 
 /// Cuts off a frame up to the end of the handshake, and a body behind that.
 pub fn cut(bytes: &[u8], is_up: bool) -> Piece<'_>
-    ensures { IsPiece bytes.now result }
+    ensures { IsPiece is_up bytes.now result }
 {
     if is_up {
-        return cut_body(bytes);
+        cut_body(bytes)
+    } else {
+        cut_frame(bytes)
     }
+}
+
+fn cut_frame(bytes: &[u8]) -> Piece<'_>
+    ensures { IsPiece false bytes.now result }
+{
     match counted_at(bytes) {
         Some((body, rest)) => Piece::Frame(body, rest),
         None => Piece::More,
@@ -39,7 +46,7 @@ pub fn cut(bytes: &[u8], is_up: bool) -> Piece<'_>
 }
 
 fn cut_body(bytes: &[u8]) -> Piece<'_>
-    ensures { IsPiece bytes.now result }
+    ensures { IsPiece true bytes.now result }
 {
     let Some((len, rest)) = u32_at(bytes) else {
         return Piece::More;

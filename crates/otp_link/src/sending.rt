@@ -1,9 +1,8 @@
 //! What goes out to a stock node of what the node here says.
-ghost use Rattle.std.specs.Prelude.{◌≡◌, ◌++◌, List, ℕ, IfOk, MatchOption};
-ghost use Rattle.std.specs.Int.{w16};
-ghost use Rattle.handshake_frames.specs.Spelling.{counted};
+ghost use Rattle.std.specs.Prelude.{◌≡◌, IfOk, MatchOption};
 ghost use Rattle.otp_link.specs.Offer.{IsOwnFrame};
-ghost use Rattle.otp_link.specs.Sent.{IsBegun, SendsAll, SendsBody, SendsFront};
+ghost use Rattle.otp_link.specs.Pieces.{IsUnsent, is_last_of};
+ghost use Rattle.otp_link.specs.Sent.{IsBegun, SendsAll, SendsBody, SendsFront, stand_of};
 
 use crate::fault::LinkFault;
 use crate::frames::{own_frame, put_frame};
@@ -18,14 +17,15 @@ impl OtpLink {
     /// The bytes that go out of whole frames and messages of the node here, each behind its length.
     /// They may be none.
     pub fn send(&mut self, batch: &[u8], life: &mut Life) -> Result<Vec<u8>, LinkFault>
-        ensures { IfOk result (λ out. (rest : List ℕ) × SendsAll self.old.kind.is_visible
-            self.old.edge self.new.edge life.old life.new batch.now rest out.items) }
+        ensures kind { self.new.kind ≡ self.old.kind }
+        ensures sent { IfOk result (λ out. SendsAll self.old.kind (stand_of self.old life.old)
+            (stand_of self.new life.new) batch.now out.items) }
     {
         let mut out = Vec::new(self.alloc);
         let mut left = batch;
-        for _ in 0..batch.len() {
+        while !left.is_empty() {
             let Some(rest) = self.send_piece(left, life, &mut out)? else {
-                break;
+                return Ok(out);
             };
             left = rest;
         }
@@ -41,10 +41,11 @@ impl OtpLink {
         out: &mut Vec<u8>,
     ) -> Result<Option<&'a [u8]>, LinkFault>
         ensures kind { self.new.kind ≡ self.old.kind }
-        ensures sent { IfOk result (λ read. MatchOption read ((self.new.edge ≡ self.old.edge) ×
-            (life.new ≡ life.old) × (out.new.items ≡ out.old.items)) (λ rest. SendsFront
-            self.old.kind.is_visible self.old.edge self.new.edge life.old life.new left.now
-            rest.now out.old.items out.new.items)) }
+        ensures sent { IfOk result (λ read. MatchOption read
+            ((stand_of self.new life.new ≡ stand_of self.old life.old)
+            × (out.new.items ≡ out.old.items) × IsUnsent self.old.sends_bodies left.now)
+            (λ rest. SendsFront self.old.kind (stand_of self.old life.old)
+            (stand_of self.new life.new) left.now rest.now out.old.items out.new.items)) }
     {
         match cut(left, self.sends_bodies) {
             Piece::Frame(body, rest) => {
@@ -68,7 +69,8 @@ impl OtpLink {
         ensures kind { self.new.kind ≡ self.old.kind }
         ensures frame { IfOk result (λ sent. IsOwnFrame self.old.kind.is_visible body.now
             sent.items) }
-        ensures edge { IsBegun self.old.edge self.new.edge }
+        ensures edge { IsBegun self.old.kind self.old.edge self.new.edge }
+        ensures sends { IfOk result (λ _. self.new.sends_bodies ≡ is_last_of body.now) }
     {
         let frame = own_frame(self.alloc, body, self.kind.is_visible)?;
         self.note_name(body)?;
@@ -79,7 +81,7 @@ impl OtpLink {
     /// A frame with the own name: from then on the edge may begin.
     fn note_name(&mut self, body: &[u8]) -> Result<(), LinkFault>
         ensures kind { self.new.kind ≡ self.old.kind }
-        ensures edge { IsBegun self.old.edge self.new.edge }
+        ensures edge { IsBegun self.old.kind self.old.edge self.new.edge }
     {
         if let Some(said) = said_in(body, !self.kind.is_dialled) {
             self.own = run_of(self.alloc, &said)?;
@@ -91,8 +93,9 @@ impl OtpLink {
     /// A message of the node here, as the edge says it.
     fn bodies_sent(&mut self, body: &[u8], life: &mut Life) -> Result<Vec<u8>, LinkFault>
         ensures kind { self.new.kind ≡ self.old.kind }
-        ensures said { IfOk result (λ out. SendsBody self.old.edge self.new.edge life.old life.new
-            body.now out.items) }
+        ensures sends { self.new.sends_bodies ≡ self.old.sends_bodies }
+        ensures said { IfOk result (λ out. SendsBody (stand_of self.old life.old)
+            (stand_of self.new life.new) body.now out.items) }
     {
         let Some(edge) = &mut self.edge else {
             return Ok(Vec::new(self.alloc));

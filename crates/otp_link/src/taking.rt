@@ -1,4 +1,8 @@
 //! What comes of the bytes of a stock node.
+ghost use Rattle.std.specs.Prelude.{◌≡◌};
+ghost use Rattle.otp_link.specs.Pieces.{is_last_of};
+ghost use Rattle.otp_link.specs.Sent.{IsNarrowed};
+
 use crate::fault::LinkFault;
 use crate::flags::is_stock;
 use crate::frames::{peer_frame, put_frame};
@@ -37,7 +41,9 @@ impl OtpLink {
         front: &[u8],
         table: &T,
         now: Duration,
-    ) -> Result<Option<Taken>, LinkFault> {
+    ) -> Result<Option<Taken>, LinkFault>
+        ensures kind { IsNarrowed self.old.kind self.new.kind }
+    {
         match cut(front, self.takes_bodies) {
             Piece::More => Ok(None),
             Piece::Frame(body, rest) => self.take_frame(body, len_before(front, rest)),
@@ -57,7 +63,9 @@ impl OtpLink {
 
     /// A frame of the handshake, of which that with the peer's name is looked at. Behind a Reply
     /// and an Ack come bodies.
-    fn take_frame(&mut self, body: &[u8], used: usize) -> Result<Option<Taken>, LinkFault> {
+    fn take_frame(&mut self, body: &[u8], used: usize) -> Result<Option<Taken>, LinkFault>
+        ensures kind { IsNarrowed self.old.kind self.new.kind }
+    {
         let mut is_bare = false;
         if let Some(said) = said_in(body, self.kind.is_dialled) {
             if !is_stock(said.flags) {
@@ -81,7 +89,9 @@ impl OtpLink {
         used: usize,
         table: &T,
         now: Duration,
-    ) -> Result<Option<Taken>, LinkFault> {
+    ) -> Result<Option<Taken>, LinkFault>
+        ensures kind { self.new.kind ≡ self.old.kind }
+    {
         let Some(edge) = &mut self.edge else {
             return Err(LinkFault::NoMessage);
         };
@@ -99,7 +109,9 @@ impl OtpLink {
     }
 
     /// A body that isn't kept: it is skipped, where nothing is to be heard of it.
-    fn take_long(&mut self, begin: &[u8], len: usize) -> Result<Option<Taken>, LinkFault> {
+    fn take_long(&mut self, begin: &[u8], len: usize) -> Result<Option<Taken>, LinkFault>
+        ensures kind { self.new.kind ≡ self.old.kind }
+    {
         let Some(edge) = &mut self.edge else {
             return Err(LinkFault::TooLong);
         };
@@ -117,7 +129,9 @@ fn len_before(front: &[u8], rest: &[u8]) -> usize {
 }
 
 /// Whether the frame is the last one of the handshake: a Reply or an Ack.
-pub(crate) fn is_last(body: &[u8]) -> bool {
+pub(crate) fn is_last(body: &[u8]) -> bool
+    ensures { result ≡ is_last_of body.now }
+{
     matches!(body.first(), Some(b'r' | b'a'))
 }
 

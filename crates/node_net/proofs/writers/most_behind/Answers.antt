@@ -1,5 +1,5 @@
-use Rattle.std.proofs.Common.{unwrap_or, ap, ◌∙◌, rules, tests}
-use Rattle.std.proofs.lemmas.Iterator.{YieldsList-from_slice, YieldsList-from_map}
+use Rattle.std.proofs.Common.{ap, rules, tests, unwrap_or, ◌∙◌}
+use Rattle.std.proofs.lemmas.Iterator.{YieldsList-from_map, YieldsList-from_slice}
 use Rattle.std.proofs.lemmas.Iterator.Consumers.{reduce_from_yields_List}
 use Rattle.std.proofs.lemmas.List.Folds.{max_of_map}
 use Rattle.node_net.specs.Behind.{frames_behind}

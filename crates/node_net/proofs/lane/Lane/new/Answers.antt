@@ -1,4 +1,4 @@
-use Rattle.std.proofs.Common.{◌≡◌, ◌<◌, ℕ, List, [], ◌∷◌, length, refl, arith}
+use Rattle.std.proofs.Common.{arith, length, List, refl, ℕ, [], ◌<◌, ◌∷◌, ◌≡◌}
 use Rattle.node_threads.specs.declared.pass.Call.{Call}
 use Rattle.node_net.proofs.LaneLemmas.{begins_lane}
 use Rattle.node_net.proofs.lane.Lane.new.Goals as goal

@@ -1,4 +1,4 @@
-use Rattle.std.proofs.Common.{arith, refl, ◌<◌, ◌≤◌, length}
+use Rattle.std.proofs.Common.{arith, length, refl, ◌<◌, ◌≤◌}
 use Rattle.node_net.specs.LaneCalls.{Pair}
 use Rattle.node_net.proofs.LaneLemmas.{keeps_lane, opens_lane, opens_own}
 use Rattle.node_net.proofs.lane.Lane.open.Goals as goal

@@ -1,5 +1,5 @@
 use Rattle.std.proofs.Common.{refl}
-use Rattle.otp_link.specs.Sent.{said, no_body}
+use Rattle.otp_link.specs.Sent.{no_body, said}
 use Rattle.otp_link.proofs.link.OtpLink.bodies_sent.Goals as goal
 
 pub returns-in-Ok-clause-said : goal.returns-in-Ok-clause-said

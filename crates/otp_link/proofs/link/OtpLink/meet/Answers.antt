@@ -1,5 +1,6 @@
-use Rattle.std.proofs.Common.{inr, refl}
+use Rattle.std.proofs.Common.{arith, inr, refl, [], ◌≡◌}
 use Rattle.otp_link.proofs.link.OtpLink.meet.Goals as goal
 
 pub returns-in-Some-Some-clause-edge : goal.returns-in-Some-Some-clause-edge
-returns-in-Some-Some-clause-edge c = inr (c.new.result, refl, c.new.ensures)
+returns-in-Some-Some-clause-edge c =
+    let empty : c.new-edge.result.scopes.items ≡ [] = grind arith in inr (_, refl, refl, empty)

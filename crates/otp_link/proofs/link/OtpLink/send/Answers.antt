@@ -1,22 +1,23 @@
-use Rattle.std.proofs.Common.{refl, ap, ◌∙◌}
-use Rattle.otp_link.specs.declared.link.LinkKind.{LinkKind}
-use Rattle.otp_link.proofs.Sends.{sends_none, sends_more}
+use Rattle.otp_link.proofs
+use Rattle.std.proofs.Common.{refl, ◌∙◌}
+use Rattle.otp_link.specs.Sent.{stand_of}
+use proofs.Sends.{sends_more, sends_none}
 use Rattle.otp_link.proofs.link.OtpLink.send.Goals as goal
 
-pub loop-init : goal.loop-init
-loop-init c = (
-  sends_none c.args.self.now.kind.is_visible c.args.self.now.edge c.args.life.now
-      c.args.batch.now c.new-out.result.items c.new-out.ensures.items,
-  refl,
-)
+pub loop-left-init : goal.loop-left-init
+loop-left-init c = record {
+  sends = sends_none c.args.self.now.kind (stand_of c.args.self.now c.args.life.now)
+      c.args.batch.now c.new-out.result.items c.new-out.ensures.items;
+  kind = refl;
+}
 
-pub loop-preserved : goal.loop-preserved
-loop-preserved c =
-    let front = rw c.in-Some.is at c.in_ok-rest.ensures.sent in (
-      sends_more c.args.self.now.kind.is_visible c.loop.self.kind.is_visible
-          c.args.self.now.edge c.loop.self.edge c.send_piece.new.self.edge c.args.life.now
-          c.loop.life c.send_piece.new.life c.args.batch.now c.loop.left.now c.in-Some.rest.now
-          c.loop.out.items c.send_piece.new.out.items
-          (ap (λ (k : LinkKind). k.is_visible) c.loop.invariant.1) c.loop.invariant.0 front,
-      c.in_ok-rest.ensures.kind ∙ c.loop.invariant.1,
-    )
+pub loop-left-preserved : goal.loop-left-preserved
+loop-left-preserved c =
+    let front = rw c.in-Some.is at c.in_ok-rest.ensures.sent in record {
+      sends = sends_more c.args.self.now.kind c.loop-left.self.kind
+          (stand_of c.args.self.now c.args.life.now) (stand_of c.loop-left.self c.loop-left.life)
+          (stand_of c.send_piece.new.self c.send_piece.new.life) c.args.batch.now
+          c.loop-left.left.now c.in-Some.rest.now c.loop-left.out.items
+          c.send_piece.new.out.items c.loop-left.invariant.kind c.loop-left.invariant.sends front;
+      kind = c.in_ok-rest.ensures.kind ∙ c.loop-left.invariant.kind;
+    }

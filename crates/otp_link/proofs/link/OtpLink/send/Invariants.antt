@@ -1,6 +1,13 @@
-use Rattle.std.proofs.Common.{◌≡◌}
-use Rattle.otp_link.specs.Sent.{SendsAll}
+use Rattle.std.proofs.Common.{length, ◌≡◌}
+use Rattle.otp_link.specs.Sent.{SendsUpTo, stand_of}
 use Rattle.otp_link.proofs.link.OtpLink.send.Given as goal
 
-abbrev pub invariant-loop : goal.invariant-loop
-invariant-loop l = SendsAll l.fn.self.kind.is_visible l.fn.self.edge l.self.edge l.fn.life l.life l.fn.batch l.left l.out.items × (l.self.kind ≡ l.fn.self.kind)
+abbrev pub invariant-loop-left : goal.invariant-loop-left
+invariant-loop-left l = record {
+  sends : SendsUpTo l.fn.self.kind (stand_of l.fn.self l.fn.life) (stand_of l.self l.life)
+      l.fn.batch l.left l.out.items;
+  kind : l.self.kind ≡ l.fn.self.kind;
+}
+
+abbrev pub decreases-loop-left : goal.decreases-loop-left
+decreases-loop-left l = length l.left

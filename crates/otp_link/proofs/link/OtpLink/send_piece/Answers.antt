@@ -1,4 +1,4 @@
-use Rattle.std.proofs.Common.{[], ◌++◌, refl, sym, ap, ◌∙◌, append-nil}
+use Rattle.std.proofs.Common.{ap, append-nil, refl, sym, [], ◌++◌, ◌∙◌}
 use Rattle.std.specs.Int.{w16, w32}
 use Rattle.handshake_frames.specs.Spelling.{counted}
 use Rattle.otp_link.specs.Sent.{frame, message, tick}
@@ -9,19 +9,23 @@ returns-in_ok-put_frame-in-Frame-clause-sent c =
     let sent = c.in_ok-frame-in-Frame.frame.items in record {
       piece = counted w16 c.in-Frame.body.now;
       out = counted w16 sent;
-      front = c.in-Frame.ensures;
-      sends = frame c.in-Frame.body.now sent refl c.in_ok-frame-in-Frame.ensures.frame refl
-          c.in_ok-frame-in-Frame.ensures.edge refl;
+      front = c.in-Frame.ensures.1;
+      sends = frame c.in-Frame.body.now sent c.in-Frame.ensures.0 refl
+          c.in_ok-frame-in-Frame.ensures.frame refl c.in_ok-frame-in-Frame.ensures.edge refl
+          c.in_ok-frame-in-Frame.ensures.sends;
       behind = c.in_ok-put_frame-in-Frame.ensures
           ∙ ap (λ l. c.args.out.now.items ++ counted w16 l) c.deref.ensures.value;
     }
 
-pub returns-in_ok-extend_from_slice-in-Body-clause-sent : goal.returns-in_ok-extend_from_slice-in-Body-clause-sent
+pub returns-in_ok-extend_from_slice-in-Body-clause-sent
+    : goal.returns-in_ok-extend_from_slice-in-Body-clause-sent
 returns-in_ok-extend_from_slice-in-Body-clause-sent c = record {
   piece = counted w32 c.in-Body.body.now;
   out = c.in_ok-bodies-in-Body.bodies.items;
-  front = c.in-Body.ensures.2;
-  sends = message c.in-Body.body.now refl c.in_ok-bodies-in-Body.ensures.said;
+  front = c.in-Body.ensures.3;
+  sends = message c.in-Body.body.now c.in-Body.ensures.0 refl
+      c.in_ok-bodies-in-Body.ensures.said
+      (c.in_ok-bodies-in-Body.ensures.sends ∙ c.in-Body.ensures.0);
   behind = c.in_ok-extend_from_slice-in-Body.ensures.items
       ∙ ap (λ l. c.args.out.now.items ++ l) c.deref-in-Body.ensures.value;
 }
@@ -30,7 +34,7 @@ pub returns-in-Tick-clause-sent : goal.returns-in-Tick-clause-sent
 returns-in-Tick-clause-sent c = record {
   piece = counted w32 [];
   out = [];
-  front = c.in-Tick.ensures;
-  sends = tick refl refl refl refl;
+  front = c.in-Tick.ensures.1;
+  sends = tick c.in-Tick.ensures.0 refl refl refl;
   behind = sym (append-nil c.args.out.now.items);
 }
