@@ -1,2 +1,3 @@
 pub mod Alive
+pub mod Head
 pub mod Port

@@ -1,11 +1,12 @@
 -- How EPMD is asked for the port of a node (Distribution Protocol, "Get the Distribution Port of
 -- Another Node"). Numbers are big-endian.
-use Rattle.std.specs.Prelude.{◌≡◌, ◌≢◌, ⊤, ℕ, ◌+◌, ◌≤◌, ◌<◌, ◌^◌, ◌⊎◌, List, [], ◌∷◌, ◌++◌, length}
+use Rattle.std.specs.Prelude.{◌≡◌, ◌≢◌, ℕ, ◌+◌, ◌≤◌, ◌<◌, ◌^◌, ◌⊎◌, List, ◌∷◌, ◌++◌, length}
 use Rattle.std.specs.Int.{w16, to_be_bytes}
 use Rattle.handshake_frames.specs.Spelling.{counted}
 use Rattle.epmd.specs.declared.port.PortAnswer.{PortAnswer}
 use Rattle.epmd.specs.declared.fault.EpmdFault.{EpmdFault}
 use Rattle.epmd.specs.declared.fault.EpmdFault.TheVariants as faults
+use Rattle.epmd.specs.Head.{IsHeadFault}
 
 -- behind its length z, and the name
 abbrev pub please_bytes : List ℕ → List ℕ
@@ -59,13 +60,10 @@ pub record Behind (bytes : List ℕ) (p : Port) : Type 0 where
   pub extra : List ℕ
   pub is : bytes ≡ behind_code p ++ extra
 
--- why bytes are no answer that speaks of a node
+-- why bytes are no answer that speaks of a node: their head, or they end before the name does
 abbrev pub IsPortFault : EpmdFault → List ℕ → Type 0
-IsPortFault faults.Refused bytes = (code : ℕ) × (rest : List ℕ) × (code ≢ 0) ×
-    (bytes ≡ 119 ∷ code ∷ rest)
-IsPortFault faults.Short bytes = (p : Port) → SpellsPort bytes p → ⊥
-IsPortFault faults.NoAnswer bytes = (rest : List ℕ) → bytes ≢ 119 ∷ rest
-IsPortFault fault bytes = ⊥
+IsPortFault fault bytes = IsHeadFault fault 119 bytes ⊎ ((rest : List ℕ) ×
+    (bytes ≡ 119 ∷ 0 ∷ rest) × (fault ≡ faults.Short) × ((p : Port) → Behind rest p → ⊥))
 
 -- it is of that node, over TCP, and the node knows version 6
 pub record IsUsable (p : Port) (name : List ℕ) : Type 0 where

@@ -1,9 +1,11 @@
 //! How a node registers: ALIVE2_REQ, and its answer. The registration lasts as long as its
 //! connection.
 ghost use Rattle.std.specs.Prelude.{◌≡◌, ◌≤◌, ◌<◌, ◌^◌, ◌++◌, ℕ, length, Ok, IfOk, IfErr, OnOk};
+ghost use Rattle.epmd.specs.Head.{IsNameFault};
 ghost use Rattle.epmd.specs.Alive.{alive_bytes, registered_bytes, IsAliveFault, kind_code};
 
 use crate::fault::EpmdFault;
+use crate::head::behind_code;
 use dist_types::u32_at;
 
 /// ALIVE2_REQ.
@@ -51,6 +53,7 @@ pub struct Alive<'a> {
 pub fn put_alive(alive: &Alive<'_>, out: &mut Vec<u8>) -> Result<(), EpmdFault>
     ensures ok { OnOk result ((length alive.now.name.now ≤ 255) × (out.new.items ≡ out.old.items ++
         alive_bytes alive.now.port alive.now.kind alive.now.name.now)) }
+    ensures refused { IfErr result (λ fault. IsNameFault fault alive.now.name.now) }
 {
     if alive.name.len() > LONGEST {
         return Err(EpmdFault::LongName);
@@ -74,18 +77,7 @@ pub fn alive_answer(bytes: &[u8]) -> Result<u32, EpmdFault>
         result ≡ Ok creation }
     ensures refused { IfErr result (λ fault. IsAliveFault fault bytes.now) }
 {
-    let Some((first, rest)) = bytes.split_first() else {
-        return Err(EpmdFault::Short);
-    };
-    if *first != ANSWER {
-        return Err(EpmdFault::NoAnswer);
-    }
-    let Some((code, rest)) = rest.split_first() else {
-        return Err(EpmdFault::Short);
-    };
-    if *code != 0 {
-        return Err(EpmdFault::Refused);
-    }
+    let rest = behind_code(ANSWER, bytes)?;
     match u32_at(rest) {
         Some((creation, behind)) if behind.is_empty() => Ok(creation),
         Some(_) => Err(EpmdFault::NoAnswer),

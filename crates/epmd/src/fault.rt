@@ -1,4 +1,7 @@
 //! Why EPMD can't be asked, or has no answer that helps.
+ghost use Rattle.std.specs.Prelude.{◌≡◌};
+ghost use Rattle.epmd.specs.declared.fault.EpmdFault.TheVariants as faults;
+
 use dist_types::OutOfMemory;
 use std::alloc::{AllocError, AllocFailed};
 use thiserror::Error;
@@ -32,18 +35,24 @@ pub enum EpmdFault {
 }
 
 impl From<OutOfMemory> for EpmdFault {
+    ghost from_gives = { λ _ fault. fault ≡ faults.OutOfMemory };
+
     fn from(_error: OutOfMemory) -> EpmdFault {
         EpmdFault::OutOfMemory
     }
 }
 
 impl From<AllocError> for EpmdFault {
+    ghost from_gives = { λ _ fault. fault ≡ faults.OutOfMemory };
+
     fn from(_error: AllocError) -> EpmdFault {
         EpmdFault::OutOfMemory
     }
 }
 
 impl<T: Drop> From<AllocFailed<T>> for EpmdFault {
+    ghost from_gives = { λ _ fault. fault ≡ faults.OutOfMemory };
+
     fn from(_error: AllocFailed<T>) -> EpmdFault {
         EpmdFault::OutOfMemory
     }

@@ -3,7 +3,7 @@ ghost use Rattle.std.specs.Prelude.{◌≡◌, ◌<◌, ◌^◌, ◌++◌, ℕ, 
 ghost use Rattle.epmd.specs.Alive.{registered_bytes};
 ghost use Rattle.epmd.specs.Port.{Port, SpellsPort, port_bytes, PortFits};
 
-/// What an answer is written as is read as it; bytes are one answer at most.
+/// What an answer is written as is read as it, and the bytes of a registration are of one alone.
 pub fn round_trips()
     ensures alive { (creation other : ℕ) → creation < 2 ^ 32 → other < 2 ^ 32 →
         registered_bytes creation ≡ registered_bytes other → creation ≡ other }

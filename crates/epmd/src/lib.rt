@@ -5,6 +5,7 @@
 mod alive;
 mod client;
 mod fault;
+mod head;
 mod laws;
 mod name_halves;
 mod port;

@@ -2,9 +2,11 @@
 ghost use Rattle.std.specs.Prelude.{◌≡◌, ◌≢◌, ◌≤◌, ◌<◌, ◌^◌, ◌∷◌, ◌++◌, ℕ, List, length};
 ghost use Rattle.std.specs.Prelude.{IfOk, IfErr, IsOkAnd, IfSome, IsSomeAnd, OnOk};
 ghost use Rattle.std.specs.Int.{w16, to_be_bytes};
+ghost use Rattle.epmd.specs.Head.{IsNameFault};
 ghost use Rattle.epmd.specs.Port.{please_bytes, Port, said, SpellsPort, Behind, IsPortFault, IsUsable, IsUseFault};
 
 use crate::fault::EpmdFault;
+use crate::head::behind_code;
 use dist_types::u16_at;
 use handshake_frames::counted_at;
 
@@ -43,6 +45,7 @@ pub struct PortAnswer<'a> {
 pub fn put_port_please(name: &[u8], out: &mut Vec<u8>) -> Result<(), EpmdFault>
     ensures ok { OnOk result ((length name.now ≤ 255) × (out.new.items ≡ out.old.items ++
         please_bytes name.now)) }
+    ensures refused { IfErr result (λ fault. IsNameFault fault name.now) }
 {
     if name.len() > LONGEST {
         return Err(EpmdFault::LongName);
@@ -60,18 +63,7 @@ pub fn port_answer(bytes: &[u8]) -> Result<PortAnswer<'_>, EpmdFault>
         said read ≡ port) }
     ensures refused { IfErr result (λ fault. IsPortFault fault bytes.now) }
 {
-    let Some((first, rest)) = bytes.split_first() else {
-        return Err(EpmdFault::Short);
-    };
-    if *first != ANSWER {
-        return Err(EpmdFault::NoAnswer);
-    }
-    let Some((code, rest)) = rest.split_first() else {
-        return Err(EpmdFault::Short);
-    };
-    if *code != 0 {
-        return Err(EpmdFault::Refused);
-    }
+    let rest = behind_code(ANSWER, bytes)?;
     match port_at(rest) {
         Some(answer) => Ok(answer),
         None => Err(EpmdFault::Short),

@@ -1,5 +1,5 @@
-use Rattle.std.proofs.Common.{◌≡◌, ◌∷◌, ◌++◌}
-use Rattle.std.specs.Int.{w16, to_be_bytes}
+use Rattle.std.proofs.Common.{◌++◌, ◌∷◌}
+use Rattle.std.specs.Int.{to_be_bytes, w16}
 use Rattle.handshake_frames.specs.Spelling.{counted}
 use Rattle.epmd.proofs.port.port_at.Goals as goal
 
