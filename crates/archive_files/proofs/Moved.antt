@@ -1,10 +1,12 @@
 -- Bytes on their way from what waits to what is held.
-use Rattle.std.proofs.Common.{◌≡◌, ℕ, ◌≤◌, List, [], ◌∷◌, ◌++◌, length, take, drop, arith, append_assoc, ap, sym, ◌∙◌, refl, inl, inr, Option, None, Some}
-use Rattle.std.proofs.lemmas.List.{drop-append-le, take-append-le, take-append-drop, length-drop}
+use Rattle.archive_files.specs
+use Rattle.std.proofs.Common.{ap, append_assoc, arith, drop, inl, inr, length, List, None, Option}
+use Rattle.std.proofs.Common.{refl, Some, sym, take, ℕ, [], ◌++◌, ◌∙◌, ◌∷◌, ◌≡◌, ◌≤◌}
+use Rattle.std.proofs.lemmas.List.{drop-append-le, length-drop, take-append-drop, take-append-le}
 use Rattle.std.proofs.lemmas.Bool.{cases_lt}
 use Rattle.std.specs.Io.KnownBytes.{Appends, Keeps}
-use Rattle.archive_files.specs.Text.{Text}
-use Rattle.archive_files.specs.Waiting.{IsMoved, bytes_of, piece_of}
+use specs.Text.{Text}
+use specs.Waiting.{bytes_of, IsMoved, piece_of}
 
 -- nothing has moved yet
 pub moved_none : (a : Option (List ℕ)) (r : List ℕ) → IsMoved a r a r
@@ -12,7 +14,8 @@ moved_none None r = tt
 moved_none (Some x) r = refl
 
 -- one move behind another is one
-pub moved_on : (a b c : Option (List ℕ)) (r s t : List ℕ) → IsMoved a r b s → IsMoved b s c t → IsMoved a r c t
+pub moved_on : (a b c : Option (List ℕ)) (r s t : List ℕ) → IsMoved a r b s → IsMoved b s c t
+    → IsMoved a r c t
 moved_on None b c r s t first second = tt
 moved_on (Some x) None c r s t first second = absurd first
 moved_on (Some x) (Some y) None r s t first second = absurd second
@@ -25,15 +28,19 @@ moved_kept (Some x) None r keeps = absurd keeps
 moved_kept (Some x) (Some y) r keeps = ap (λ z. z ++ r) keeps
 
 -- the front of what waits went behind what is held
-pub moved_front : (a b : Option (List ℕ)) (r front : List ℕ) (n : ℕ) → front ++ drop n r ≡ r → Appends a b front → IsMoved a r b (drop n r)
+pub moved_front : (a b : Option (List ℕ)) (r front : List ℕ) (n : ℕ) → front ++ drop n r ≡ r
+    → Appends a b front → IsMoved a r b (drop n r)
 moved_front None b r front n whole appends = tt
 moved_front (Some x) None r front n whole appends = absurd appends
 moved_front (Some x) (Some y) r front n whole appends =
     ap (λ z. z ++ drop n r) appends ∙ append_assoc x front (drop n r) ∙ ap (λ z. x ++ z) whole
 
 -- the front of a list that begins with another's end
-front_within : (piece more : List ℕ) (n : ℕ) → n ≤ length piece → take n piece ++ drop n (piece ++ more) ≡ piece ++ more
-front_within piece more n short = sym (ap (λ z. z ++ drop n (piece ++ more)) (take-append-le n piece more short)) ∙ take-append-drop n (piece ++ more)
+front_within : (piece more : List ℕ) (n : ℕ) → n ≤ length piece
+    → take n piece ++ drop n (piece ++ more) ≡ piece ++ more
+front_within piece more n short =
+    sym (ap (λ z. z ++ drop n (piece ++ more)) (take-append-le n piece more short))
+    ∙ take-append-drop n (piece ++ more)
 
 -- what goes next is the front of all that is to go
 pub front_of : (lines : List Text) (b n : ℕ) → n ≤ length (piece_of lines b)
@@ -42,5 +49,6 @@ front_of [] b n short = let none : n ≡ 0 = omega arith in rw none refl
 front_of (line ∷ lines) b n short =
     elim (cases_lt (length line.bytes) b) [
       | inl over ↦ let none : n ≡ 0 = omega (arith, length-drop b line.bytes) in rw none refl
-      | inr within ↦ rw (drop-append-le b line.bytes (bytes_of lines) within) (front_within (drop b line.bytes) (bytes_of lines) n short)
+      | inr within ↦ rw (drop-append-le b line.bytes (bytes_of lines) within)
+          (front_within (drop b line.bytes) (bytes_of lines) n short)
     ]

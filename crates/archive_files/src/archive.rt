@@ -1,5 +1,5 @@
 //! An archive that grows.
-ghost use Rattle.std.specs.Prelude.{◌≡◌, ◌+◌, ◌≤◌, ◌<◌, ◌^◌, true, false, [], ◌∷◌, ◌++◌, OnOk, OnErr, OnSome, IfSome, IfNone, IsTrue, length, drop, map};
+ghost use Rattle.std.specs.Prelude.{◌≡◌, ◌+◌, ◌≤◌, ◌<◌, ◌^◌, None, true, false, [], ◌∷◌, ◌++◌, OnOk, OnErr, OnSome, IfSome, IfNone, IsTrue, length, drop, map};
 ghost use Rattle.std.specs.Io.KnownBytes.{Keeps};
 ghost use Rattle.archive_files.specs.Taking.{IsLeft};
 ghost use Rattle.archive_files.specs.Turning.{IsTooLong};
@@ -68,8 +68,10 @@ impl<S: Store + Drop> Archive<S> {
 
     /// Takes the line of a life that begins. Entries that follow are of it.
     pub fn begin(&mut self, life: &Life) -> Result<(), OutOfMemory>
-        ensures ok { OnOk result ((self.new.lines ≡ record self.old.lines { lines = self.old.lines.lines ++ text_of_life life.now ∷ [] })
-            × (self.new.creation ≡ life.now.creation)) }
+        ensures ok { OnOk result (self.new ≡ record self.old {
+          lines = record self.old.lines { lines = self.old.lines.lines ++ text_of_life life.now ∷ [] };
+          creation = life.now.creation;
+        }) }
         ensures same { OnErr result (self.new ≡ self.old) }
     {
         self.lines.put_life(self.alloc, life)?;
@@ -79,7 +81,9 @@ impl<S: Store + Drop> Archive<S> {
 
     /// Takes the lines of entries, all or none. None is written yet.
     pub fn put(&mut self, entries: &[Entry]) -> Result<(), OutOfMemory>
-        ensures ok { OnOk result (self.new.lines ≡ record self.old.lines { lines = self.old.lines.lines ++ map (text_of_entry self.old.creation) entries.now }) }
+        ensures ok { OnOk result (self.new ≡ record self.old {
+          lines = record self.old.lines { lines = self.old.lines.lines ++ map (text_of_entry self.old.creation) entries.now };
+        }) }
         ensures same { OnErr result (self.new ≡ self.old) }
     {
         self.lines.put(self.alloc, self.creation, entries)
@@ -91,6 +95,7 @@ impl<S: Store + Drop> Archive<S> {
         ensures whole { OnOk result (self.new.lines.lines ≡ []) }
         ensures counted { IsCounted self.old.archived self.old.lines.lines self.new.archived self.new.lines.lines }
         ensures lost { self.new.lost ≡ self.old.lost }
+        ensures same { (self.new.size ≡ self.old.size) × (self.new.creation ≡ self.old.creation) }
     {
         for _ in 0..u64::MAX {
             if self.lines.len() == 0 {
@@ -105,7 +110,10 @@ impl<S: Store + Drop> Archive<S> {
     /// Begins a new file before a line that would make this one larger than it may be, unless none went into it yet.
     fn turn_if_due(&mut self) -> io::Result<()>
         ensures bytes { Keeps (S.contents self.old.store) (S.contents self.new.store) }
-        ensures same { (self.new.lines ≡ self.old.lines) × (self.new.archived ≡ self.old.archived) × (self.new.lost ≡ self.old.lost) }
+        ensures same { (self.new.lines ≡ self.old.lines) × (self.new.archived ≡ self.old.archived) × (self.new.lost ≡ self.old.lost)
+            × (self.new.size ≡ self.old.size) × (self.new.creation ≡ self.old.creation) }
+        ensures room { ¬ IsTooLong self.old.size self.old.held self.old.lines.begun self.old.lines.lines → self.new ≡ self.old }
+        ensures due { OnOk result (IsTooLong self.old.size self.old.held self.old.lines.begun self.old.lines.lines → self.new.first ≡ None) }
     {
         if let Some(first) = self.due() {
             self.held = self.store.turn(first)?;
@@ -134,6 +142,7 @@ impl<S: Store + Drop> Archive<S> {
         ensures order { IsMoved (S.contents self.old.store) (rest_of self.old.lines) (S.contents self.new.store) (rest_of self.new.lines) }
         ensures counted { IsCounted self.old.archived self.old.lines.lines self.new.archived self.new.lines.lines }
         ensures lost { self.new.lost ≡ self.old.lost }
+        ensures same { (self.new.size ≡ self.old.size) × (self.new.creation ≡ self.old.creation) }
     {
         let count = match self.store.write(self.lines.piece()) {
             Ok(0) => return Err(io::Error::from(ErrorKind::WriteZero)),
@@ -150,7 +159,8 @@ impl<S: Store + Drop> Archive<S> {
         requires { count ≤ length (piece_of self.old.lines.lines self.old.lines.begun) }
         ensures rest { rest_of self.new.lines ≡ drop count (rest_of self.old.lines) }
         ensures counted { IsCounted self.old.archived self.old.lines.lines self.new.archived self.new.lines.lines }
-        ensures same { (self.new.store ≡ self.old.store) × (self.new.lost ≡ self.old.lost) }
+        ensures same { (self.new.store ≡ self.old.store) × (self.new.lost ≡ self.old.lost)
+            × (self.new.size ≡ self.old.size) × (self.new.creation ≡ self.old.creation) }
     {
         self.held = self.held.saturating_add(count as u64);
         if self.first.is_none() {
@@ -165,7 +175,8 @@ impl<S: Store + Drop> Archive<S> {
     pub fn let_go(&mut self)
         ensures part { self.new.lines ≡ record self.old.lines { lines = part_of self.old.lines.lines self.old.lines.begun } }
         ensures counted { IsCounted self.old.lost self.old.lines.lines self.new.lost self.new.lines.lines }
-        ensures same { (self.new.store ≡ self.old.store) × (self.new.archived ≡ self.old.archived) }
+        ensures same { (self.new.store ≡ self.old.store) × (self.new.archived ≡ self.old.archived)
+            × (self.new.size ≡ self.old.size) × (self.new.creation ≡ self.old.creation) }
     {
         let before = self.lines.entries();
         self.lines.let_go();
@@ -178,7 +189,8 @@ impl<S: Store + Drop> Archive<S> {
     pub fn reopen(&mut self) -> io::Result<()>
         ensures ok { OnOk result (self.new.lines ≡ record self.old.lines { begun = 0 }) }
         ensures bytes { IsLeft (S.contents self.old.store) self.old.lines.begun (S.contents self.new.store) self.new.lines.begun }
-        ensures same { (self.new.lines.lines ≡ self.old.lines.lines) × (self.new.archived ≡ self.old.archived) × (self.new.lost ≡ self.old.lost) }
+        ensures same { (self.new.lines.lines ≡ self.old.lines.lines) × (self.new.archived ≡ self.old.archived) × (self.new.lost ≡ self.old.lost)
+            × (self.new.size ≡ self.old.size) × (self.new.creation ≡ self.old.creation) }
     {
         self.take_back()?;
         self.held = self.store.reopen()?;
@@ -191,7 +203,8 @@ impl<S: Store + Drop> Archive<S> {
         ensures ok { OnOk result (self.new.lines ≡ record self.old.lines { begun = 0 }) }
         ensures refused { OnErr result (self.new.lines ≡ self.old.lines) }
         ensures bytes { IsLeft (S.contents self.old.store) self.old.lines.begun (S.contents self.new.store) self.new.lines.begun }
-        ensures same { (self.new.archived ≡ self.old.archived) × (self.new.lost ≡ self.old.lost) }
+        ensures same { (self.new.archived ≡ self.old.archived) × (self.new.lost ≡ self.old.lost)
+            × (self.new.size ≡ self.old.size) × (self.new.creation ≡ self.old.creation) }
     {
         let begun = self.lines.begun() as u64;
         if begun > 0 {

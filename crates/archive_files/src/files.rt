@@ -15,6 +15,14 @@ const OWNERS: u32 = 0o600;
 /// How many bytes of a file's end are looked at in one read.
 const PIECE: usize = 4_096;
 
+/// How the lines of an archive begin: that of a life, and that of an entry.
+const LIFE: &[u8] = b"{\"life\":\"";
+
+const ENTRY: &[u8] = b"{\"entry\":";
+
+/// The bytes of each.
+const HEAD: usize = 9;
+
 /// The file at a path, which is written to at its end, and those that were full.
 #[derive(Drop)]
 pub struct ArchiveFiles<'a> {
@@ -108,11 +116,11 @@ fn cut_torn(files: &HostRuntime, path: &str, file: &File, length: u64) -> io::Re
         return Ok(0);
     }
     let reader = File::open(files, path)?;
-    check_line(&reader, 0)?;
+    check_line(&reader, 0, length)?;
     let cut = torn_end(&reader, length)?;
     if cut > 0 {
         let whole = length.saturating_sub(cut);
-        check_line(&reader, whole)?;
+        check_line(&reader, whole, length)?;
         file.set_len(whole)?;
     }
     Ok(cut)
@@ -136,11 +144,13 @@ fn torn_end<F: FileExt>(file: &F, length: u64) -> io::Result<u64> {
     Err(Error::from(ErrorKind::Other))
 }
 
-/// An error where the byte there doesn't begin a line of an archive: what isn't one is left as it is.
-fn check_line<F: FileExt>(file: &F, place: u64) -> io::Result<()> {
-    let mut byte = [0u8];
-    file.read_exact_at(&mut byte, place)?;
-    if byte[0] == b'{' {
+/// An error where no line of an archive begins there, as far as a file of this length goes: what isn't one is left as it is.
+fn check_line<F: FileExt>(file: &F, place: u64, length: u64) -> io::Result<()> {
+    let mut bytes = [0u8; HEAD];
+    let size = length.saturating_sub(place).min(HEAD as u64);
+    let begun = &mut bytes[..size as usize];
+    file.read_exact_at(begun, place)?;
+    if LIFE.starts_with(begun) || ENTRY.starts_with(begun) {
         return Ok(());
     }
     let message = "it is no archive";

@@ -1,5 +1,5 @@
 -- A text without a quote and a backslash stands for itself.
-use Rattle.std.proofs.Common.{◌≡◌, ℕ, List, [], ◌∷◌, eqb, false, refl, arith}
+use Rattle.std.proofs.Common.{arith, eqb, false, List, refl, ℕ, [], ◌∷◌, ◌≡◌}
 use Rattle.std.specs.List.{list_any}
 use Rattle.pg_archive.specs.Texts.{escaped}
 

@@ -1,7 +1,7 @@
 //! Reading the lines of an archive.
 ghost use Rattle.std.specs.Prelude.{◌≡◌, ◌++◌, List, ℕ, IfOk};
 ghost use Rattle.std.specs.Io.BufRead.{strip_last};
-ghost use Rattle.pg_archive.specs.Following.{IsRead};
+ghost use Rattle.pg_archive.specs.Following.{HasNoCookie, IsRead};
 ghost use Rattle.pg_archive.specs.Entries.{life_text};
 ghost use Rattle.pg_archive.specs.Events.{told_head};
 
@@ -138,7 +138,8 @@ fn read_life(scratch: &mut Scratch, line: &[u8]) -> Result<Life, LineFault>
 
 #[tactic(auto, using(crate::proofs::Compared::begins))]
 fn read_entry(scratch: &mut Scratch, line: &[u8]) -> Result<Told, LineFault>
-    ensures { IfOk result (λ told. (rest : List ℕ) × (line.now ≡ told_head told ++ rest)) }
+    ensures told { IfOk result (λ told. (rest : List ℕ) × (line.now ≡ told_head told ++ rest)) }
+    ensures cookies { IfOk result (λ told. HasNoCookie told.asked) }
 {
     let told = told_of(scratch, line)?;
     scratch.spelled.clear();
@@ -179,7 +180,9 @@ fn life_of(scratch: &mut Scratch, line: &[u8]) -> Result<Life, LineFault> {
 }
 
 /// The values before the verdict of an entry, whatever stands between them.
-fn told_of(scratch: &mut Scratch, line: &[u8]) -> Result<Told, LineFault> {
+fn told_of(scratch: &mut Scratch, line: &[u8]) -> Result<Told, LineFault>
+    ensures { IfOk result (λ told. HasNoCookie told.asked) }
+{
     let (number, rest) = number_behind(line, b"{\"entry\":")?;
     let (seat, rest) = number_behind(rest, b",\"seat\":")?;
     let rest = behind(rest, b",\"event\":\"")?;
@@ -192,7 +195,9 @@ fn told_of(scratch: &mut Scratch, line: &[u8]) -> Result<Told, LineFault> {
 }
 
 /// The event of this kind, which stands before the next quote, and of the values behind it.
-fn asked_of(scratch: &mut Scratch, rest: &[u8]) -> Result<Asked, LineFault> {
+fn asked_of(scratch: &mut Scratch, rest: &[u8]) -> Result<Asked, LineFault>
+    ensures { IfOk result (λ asked. HasNoCookie asked) }
+{
     let words = &mut scratch.words;
     words.clear();
     let rest = text_to(rest, words)?;
@@ -206,21 +211,35 @@ fn asked_of(scratch: &mut Scratch, rest: &[u8]) -> Result<Asked, LineFault> {
 }
 
 /// What a line of this command says. Cookies aren't told, and a frame may have no byte.
-fn said(alloc: Global, command: &str, line: &[u8]) -> Result<Asked, LineFault> {
+fn said(alloc: Global, command: &str, line: &[u8]) -> Result<Asked, LineFault>
+    ensures { IfOk result (λ asked. HasNoCookie asked) }
+{
     let (_, words) = first_word(line);
     match command {
         "cookie" => Ok(Asked::SetCookie),
         "cookie_for" => Ok(Asked::SetCookieFor(only(alloc, words)?)),
         "frame" => frame(alloc, words),
         _ => match parse(alloc, line)? {
-            Command::Step(event) => Ok(Asked::Event(event)),
+            Command::Step(event) => told_whole(event),
             Command::Seat(_) | Command::Size | Command::Audit(_) => Err(LineFault::Kind),
         },
     }
 }
 
+/// An event that a line tells whole, as none that sets a cookie.
+fn told_whole(event: Event) -> Result<Asked, LineFault>
+    ensures { IfOk result (λ asked. HasNoCookie asked) }
+{
+    match event {
+        Event::SetCookie(_) | Event::SetCookieFor(_, _) => Err(LineFault::Kind),
+        event => Ok(Asked::Event(event)),
+    }
+}
+
 /// A frame, by its link and its bytes in hex.
-fn frame(alloc: Global, words: Option<&[u8]>) -> Result<Asked, LineFault> {
+fn frame(alloc: Global, words: Option<&[u8]>) -> Result<Asked, LineFault>
+    ensures { IfOk result (λ asked. HasNoCookie asked) }
+{
     let (link, rest) = first::<u32>(alloc, words)?;
     let Some(text) = only_word(rest) else {
         return Err(LineFault::Arguments);

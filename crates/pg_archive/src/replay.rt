@@ -3,7 +3,7 @@ ghost use Rattle.std.specs.Prelude.{◌≡◌, ◌↔◌, ◌+◌, [], Some, IfO
 ghost use Rattle.policy_audit.specs.History.{past, entered};
 ghost use Rattle.node_core.specs.Step.{IsOpenFault};
 ghost use Rattle.pg_archive.specs.Entries.{opened, entry_text};
-ghost use Rattle.pg_archive.specs.Following.{line_at, Steps, IsFault, Differs};
+ghost use Rattle.pg_archive.specs.Following.{line_at, Steps, IsJudgedSo, IsFault, Differs};
 
 use crate::life::Life;
 use crate::lines::{add_entry, add_judged};
@@ -95,21 +95,31 @@ impl Replay {
         ensures ok { OnOk result (line_at number self.new.history ≡ Some line.now) }
         ensures stepped { OnOk result (Steps self.old.history seat event self.new.history) }
         ensures fault { IfErr result (λ fault.
-            IsFault fault number line.now self.old.history self.new.history) }
+            IsFault fault number seat event line.now self.old.history self.new.history) }
     {
         if self.core.audit().len() as u64 + 1 != u64::from(number) {
             drop(event);
             return Err(ReplayFault::Order(number));
         }
-        if let Err(CoreFault::OutOfMemory) = self.core.step(seat, event) {
-            return Err(ReplayFault::Memory);
-        }
+        self.play(seat, event)?;
         let Some(entry) = self.core.audit().get(number) else {
             return Err(ReplayFault::Verdict(number));
         };
         let compared = compare(self.alloc, number, entry, line, &mut self.spelled);
         self.forget(number);
         compared
+    }
+
+    /// Plays an event, whatever it is answered.
+    #[tactic(auto, using(crate::proofs::Played::accepted, crate::proofs::Played::refused))]
+    fn play(&mut self, seat: u32, event: Event) -> Result<(), OutOfMemory>
+        ensures stepped { OnOk result (Steps self.old.history seat event self.new.history) }
+        ensures forgotten { self.new.forgotten ≡ self.old.forgotten }
+    {
+        match self.core.step(seat, event) {
+            Ok(_) | Err(CoreFault::Refused(_)) => Ok(()),
+            Err(CoreFault::OutOfMemory) => Err(OutOfMemory),
+        }
     }
 
     /// Lets the oldest page of entries go, twice for each page of new ones.
@@ -131,8 +141,7 @@ fn compare(
     text: &mut Vec<u8>,
 ) -> Result<(), ReplayFault>
     ensures ok { OnOk result (line.now ≡ entry_text entry.now) }
-    ensures fault { IfErr result (λ fault.
-        Differs fault number (Some (entry_text entry.now)) line.now) }
+    ensures fault { IfErr result (λ fault. Differs fault number (Some entry.now) line.now) }
 {
     if is_line_of(alloc, entry, line, text)? {
         return Ok(());
@@ -160,12 +169,15 @@ fn is_line_of(
 }
 
 /// Whether a line begins as that of an entry, up to what it changed.
+#[tactic(auto, using(crate::proofs::Compared::begins, crate::proofs::Compared::begun))]
 fn is_judged_so(
     alloc: Global,
     entry: &Entry,
     line: &[u8],
     text: &mut Vec<u8>,
-) -> Result<bool, OutOfMemory> {
+) -> Result<bool, OutOfMemory>
+    ensures { IfOk result (λ so. IsTrue so ↔ IsJudgedSo entry.now line.now) }
+{
     text.clear();
     add_judged(alloc, entry, text)?;
     Ok(line.starts_with(text.as_slice()))

@@ -1,4 +1,4 @@
-use Rattle.std.proofs.Common.{◌≡◌, ◌++◌, take}
+use Rattle.std.proofs.Common.{take, ◌++◌, ◌≡◌}
 use Rattle.pg_archive.specs.Texts.{escaped}
 use Rattle.pg_archive.proofs.archived.put_each_byte.Given as goal
 

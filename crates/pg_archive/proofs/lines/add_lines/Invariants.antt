@@ -1,4 +1,4 @@
-use Rattle.std.proofs.Common.{◌≡◌, ◌++◌, take}
+use Rattle.std.proofs.Common.{take, ◌++◌, ◌≡◌}
 use Rattle.pg_archive.specs.Entries.{entry_lines}
 use Rattle.pg_archive.proofs.lines.add_lines.Given as goal
 

@@ -1,6 +1,6 @@
 -- What was written is the front of what waits.
-use Rattle.std.proofs.Common.{◌≤◌, length, take}
-use Rattle.archive_files.proofs.Moved.{moved_front, front_of}
+use Rattle.std.proofs.Common.{length, take, ◌≤◌}
+use Rattle.archive_files.proofs.Moved.{front_of, moved_front}
 use Rattle.archive_files.specs.Waiting.{piece_of, rest_of}
 use Rattle.archive_files.proofs.archive.Archive.write_some.Goals as goal
 
