@@ -1,14 +1,15 @@
 -- A request that is what the line says.
-use Rattle.std.proofs.Common.{◌≡◌, ◌↔◌, ◌++◌, ℕ, Bool, true, false, IsTrue, List, Option, Some}
-use Rattle.std.proofs.Common.{None, refl, sym, subst, inr}
+use Rattle.pg_session.specs
+use Rattle.std.proofs.Common.{Bool, false, inr, IsTrue, List, None, Option, refl, Some, subst, sym}
+use Rattle.std.proofs.Common.{true, ℕ, ◌++◌, ◌↔◌, ◌≡◌}
 use Rattle.std.proofs.lemmas.Bool.{false≢true}
-use Rattle.pg_session.specs.declared.request.Request.{Request}
-use Rattle.pg_session.specs.declared.request.Request.TheVariants as request
+use specs.declared.request.Request.{Request}
 use Rattle.node_threads.specs.Calls.{Record}
 use Rattle.node_threads.specs.Room.{Room}
 use Rattle.node_threads.specs.Applied.{Fits}
-use Rattle.pg_session.specs.Calls.{Seat, stranger_line}
-use Rattle.pg_session.specs.Answers.{Answers, AnswersRead, Makes}
+use specs.Calls.{Seat, stranger_line}
+use specs.Answers.{Answers, AnswersRead, Makes}
+use specs.declared.request.Request.TheVariants as request
 
 -- what a node that doesn't know the pass answers
 pub answers_stranger : (r : Request) (room : Room) (pass : Record) (knows : Bool) (out out' : List

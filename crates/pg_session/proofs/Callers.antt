@@ -1,9 +1,10 @@
 -- What a call adds to the calls of a connection.
-use Rattle.std.proofs.Common.{◌≡◌, ◌⊎◌, ℕ, Bool, true, false, cond, ◌&&◌, ◌||◌, List, [], ◌∷◌, ◌++◌}
-use Rattle.std.proofs.Common.{Option, Some, None, IfSome, option_to_list, Result, Ok, Err, OnOk}
-use Rattle.std.proofs.Common.{refl, sym, ap, subst, ◌∙◌, inl, inr, arith}
+use Rattle.pg_session.specs
+use Rattle.std.proofs.Common.{ap, arith, Bool, cond, Err, false, IfSome, inl, inr, List, None, Ok}
+use Rattle.std.proofs.Common.{OnOk, Option, option_to_list, refl, Result, Some, subst, sym, true, ℕ}
+use Rattle.std.proofs.Common.{[], ◌&&◌, ◌++◌, ◌||◌, ◌∙◌, ◌∷◌, ◌≡◌, ◌⊎◌}
 use Rattle.std.specs.List.{All, list_all}
-use Rattle.std.proofs.lemmas.List.Elements.{All-nil, All-cons, All-append, All-weaker}
+use Rattle.std.proofs.lemmas.List.Elements.{All-append, All-cons, All-nil, All-weaker}
 use Rattle.std.proofs.lemmas.List.Folds.{list_any-append}
 use Rattle.std.proofs.lemmas.Grind.{flat_map-append}
 use Rattle.dist_types.specs.declared.pid.Pid.{Pid}
@@ -12,23 +13,22 @@ use Rattle.dist_types.proofs.Orders.{same_pid_decides}
 use Rattle.policy_audit.specs.declared.event.Event.{Event}
 use Rattle.policy_audit.specs.declared.event.Event.TheVariants.{Exit}
 use Rattle.policy_audit.specs.declared.reply.Reply.{Reply}
-use Rattle.policy_audit.specs.declared.reply.Reply.TheVariants as replies
-use Rattle.node_core.specs.declared.fault.CoreFault.TheVariants.{Refused, OutOfMemory}
+use Rattle.node_core.specs.declared.fault.CoreFault.TheVariants.{OutOfMemory, Refused}
 use Rattle.node_threads.specs.declared.fault.CallFault.{CallFault}
-use Rattle.node_threads.specs.declared.fault.CallFault.TheVariants.{StrangePass, Core}
+use Rattle.node_threads.specs.declared.fault.CallFault.TheVariants.{Core, StrangePass}
 use Rattle.node_threads.specs.declared.pass.Call.{Call}
 use Rattle.node_threads.specs.Applied.{Called}
 use Rattle.node_threads.specs.Calls.{Record}
-use Rattle.node_threads.proofs.Answered.{gains_none, gains_more, accepted, refused, unheard}
-use Rattle.node_threads.proofs.Answered.{strange}
+use Rattle.node_threads.proofs.Answered.{accepted, gains_more, gains_none, refused, strange}
+use Rattle.node_threads.proofs.Answered.{unheard}
 use Rattle.pg_text.specs.Asked.{moved_pids}
-use Rattle.pg_session.specs.declared.caller.Outcome.{Outcome}
-use Rattle.pg_session.specs.declared.caller.Outcome.TheVariants as outcomes
-use Rattle.pg_session.specs.Asked.{is_call, is_fetch, is_made}
-use Rattle.pg_session.specs.Processes.{has, made_in, spawned, exited_by, moves_only, OwnAfter}
-use Rattle.pg_session.specs.Calls.{may_call, AreConnections, IsCalled, GoesOn, Seat, IsSeat}
-use Rattle.pg_session.specs.Calls.{call_line, AnswersCall}
-use Rattle.pg_session.specs.Outcomes.{IsOutcome, CameFrom, Kept}
+use specs.declared.caller.Outcome.{Outcome}
+use specs.Asked.{is_call, is_fetch, is_made}
+use specs.Processes.{exited_by, has, made_in, moves_only, OwnAfter, spawned}
+use specs.Calls.{AnswersCall, AreConnections, call_line, GoesOn, IsCalled, IsSeat, may_call, Seat}
+use specs.Outcomes.{CameFrom, IsOutcome, Kept}
+use Rattle.policy_audit.specs.declared.reply.Reply.TheVariants as replies
+use specs.declared.caller.Outcome.TheVariants as outcomes
 
 pub on_ok : {T E A B : Type 0} (r : Result T E) → (A → B) → OnOk r A → OnOk r B
 on_ok (Ok x) then holds = then holds

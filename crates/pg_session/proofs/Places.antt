@@ -1,7 +1,7 @@
 -- Where a peer stands among those that are up.
-use Rattle.std.proofs.Common.{◌≡◌, ℕ, ◌<◌, ◌+◌, Bool, true, false, cond, not, ◌||◌, nat_lt, suc}
-use Rattle.std.proofs.Common.{List, [], ◌∷◌, ◌++◌, length, get_or, take, drop, position, Some, None}
-use Rattle.std.proofs.Common.{refl, sym, ap, ◌∙◌, add-one, arith}
+use Rattle.std.proofs.Common.{add-one, ap, arith, Bool, cond, drop, false, get_or, length, List}
+use Rattle.std.proofs.Common.{nat_lt, None, not, position, refl, Some, suc, sym, take, true, ℕ, []}
+use Rattle.std.proofs.Common.{◌++◌, ◌+◌, ◌<◌, ◌||◌, ◌∙◌, ◌∷◌, ◌≡◌}
 use Rattle.std.specs.List.{list_any, position_or_len, prefix_len}
 use Rattle.std.proofs.lemmas.Bool.Decides.{nat_tests}
 use Rattle.std.proofs.lemmas.List.{take-append-drop}

@@ -1,28 +1,29 @@
 -- What is told unasked, piece by piece.
-use Rattle.std.proofs.Common.{◌≡◌, ℕ, true, false, List, [], ◌∷◌, ◌++◌, Option, None, map, Result}
-use Rattle.std.proofs.Common.{Ok, Err, refl, sym, ap, subst, ◌∙◌, inl, inr, append-nil}
-use Rattle.std.proofs.Common.{append_assoc}
+use Rattle.pg_session.specs
+use Rattle.std.proofs.Common.{ap, append-nil, append_assoc, Err, false, inl, inr, List, map, None}
+use Rattle.std.proofs.Common.{Ok, Option, refl, Result, subst, sym, true, ℕ, [], ◌++◌, ◌∙◌, ◌∷◌}
+use Rattle.std.proofs.Common.{◌≡◌}
 use Rattle.std.specs.List.{filter, flat_map}
-use Rattle.std.proofs.lemmas.List.Elements.{All-nil, All-cons, All-append, filter-append}
+use Rattle.std.proofs.lemmas.List.Elements.{All-append, All-cons, All-nil, filter-append}
 use Rattle.std.proofs.lemmas.Grind.{flat_map-append}
 use Rattle.policy_audit.specs.declared.event.Event.TheVariants.{Updates}
 use Rattle.policy_audit.specs.declared.reply.Reply.{Reply}
-use Rattle.policy_audit.specs.declared.reply.Reply.TheVariants as replies
 use Rattle.policy_audit.specs.declared.reply.Update.{Update}
-use Rattle.node_core.specs.declared.fault.CoreFault.TheVariants.{Refused, OutOfMemory}
+use Rattle.node_core.specs.declared.fault.CoreFault.TheVariants.{OutOfMemory, Refused}
 use Rattle.node_threads.specs.declared.fault.CallFault.{CallFault}
-use Rattle.node_threads.specs.declared.fault.CallFault.TheVariants.{StrangePass, Core}
+use Rattle.node_threads.specs.declared.fault.CallFault.TheVariants.{Core, StrangePass}
 use Rattle.node_threads.specs.declared.pass.Call.{Call}
 use Rattle.node_threads.specs.Applied.{Called}
 use Rattle.node_threads.specs.Calls.{Record}
-use Rattle.node_threads.proofs.Answered.{gains_none, gains_more, accepted, refused, unheard}
-use Rattle.node_threads.proofs.Answered.{strange}
-use Rattle.pg_session.specs.declared.notice.DownReason.{DownReason}
-use Rattle.pg_session.specs.declared.notice.Peer.{Peer}
-use Rattle.pg_session.specs.Asked.{is_fetch}
-use Rattle.pg_session.specs.Notices.{Notice, change, ended, up, down, stopped, restarted}
-use Rattle.pg_session.specs.Notices.{notice_line, is_change, changes_of, changes_in, fetched, Known}
-use Rattle.pg_session.specs.Notices.{Becomes, BecomesAll, gone, Tells, TellsNews, TellsMore}
+use Rattle.node_threads.proofs.Answered.{accepted, gains_more, gains_none, refused, strange}
+use Rattle.node_threads.proofs.Answered.{unheard}
+use specs.declared.notice.DownReason.{DownReason}
+use specs.declared.notice.Peer.{Peer}
+use specs.Asked.{is_fetch}
+use specs.Notices.{Becomes, BecomesAll, change, changes_in, changes_of, down, ended, fetched, gone}
+use specs.Notices.{is_change, Known, Notice, notice_line, restarted, stopped, Tells, TellsMore}
+use specs.Notices.{TellsNews, up}
+use Rattle.policy_audit.specs.declared.reply.Reply.TheVariants as replies
 
 -- ---- who is up
 
@@ -237,15 +238,16 @@ module _ (k : ℕ) (known : Known) (p p' : Record) (out out' : List ℕ) where
       }
   tells_fetched (Err StrangePass) called is = unchanged (strange p p' (Updates k) called) is
   tells_fetched (Err (Core OutOfMemory)) called is = unchanged (unheard p p' (Updates k) called) is
-  tells_fetched (Err (Core (Refused rule))) called is = elim (refused p p' (Updates k) rule called) [
-    | inl full ↦ unchanged full.0 is
-    | inr a ↦ record {
-      more = a.0 ∷ [];
-      notices = [];
-      gains = a.3;
-      asks = All-cons Asks a.0 [] (rw a.1 refl) (All-nil Asks);
-      lines = is;
-      changes = rw (a.1, a.2) refl;
-      becomes = refl;
-    }
-  ]
+  tells_fetched (Err (Core (Refused rule))) called is =
+      elim (refused p p' (Updates k) rule called) [
+        | inl full ↦ unchanged full.0 is
+        | inr a ↦ record {
+          more = a.0 ∷ [];
+          notices = [];
+          gains = a.3;
+          asks = All-cons Asks a.0 [] (rw a.1 refl) (All-nil Asks);
+          lines = is;
+          changes = rw (a.1, a.2) refl;
+          becomes = refl;
+        }
+      ]

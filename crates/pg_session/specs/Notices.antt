@@ -34,6 +34,7 @@ reason_word reasons.Closed = codes "closed"
 reason_word reasons.Silent = codes "silent"
 reason_word reasons.Slow = codes "slow"
 reason_word reasons.Replaced = codes "replaced"
+reason_word reasons.Unreadable = codes "unreadable"
 reason_word reasons.Disconnected = codes "disconnected"
 reason_word reasons.Restarted = codes "restarted"
 

@@ -18,6 +18,8 @@ pub enum DownReason {
     Slow,
     /// A newer link of that name took its place.
     Replaced,
+    /// What came can't be read, or is more than is taken.
+    Unreadable,
     /// By a Disconnect of this node.
     Disconnected,
     /// This node begins anew.
@@ -33,6 +35,7 @@ impl DownReason {
             DownReason::Silent => "silent",
             DownReason::Slow => "slow",
             DownReason::Replaced => "replaced",
+            DownReason::Unreadable => "unreadable",
             DownReason::Disconnected => "disconnected",
             DownReason::Restarted => "restarted",
         }

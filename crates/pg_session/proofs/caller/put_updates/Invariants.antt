@@ -1,4 +1,4 @@
-use Rattle.std.proofs.Common.{◌≡◌, ◌++◌, take}
+use Rattle.std.proofs.Common.{take, ◌++◌, ◌≡◌}
 use Rattle.std.specs.List.{flat_map}
 use Rattle.pg_session.specs.Notices.{change, notice_line}
 use Rattle.pg_session.proofs.caller.put_updates.Given as goal

@@ -1,6 +1,6 @@
 use Rattle.std.proofs.Common.{refl}
 use Rattle.policy_audit.specs.declared.event.Event.TheVariants.{Exit}
-use Rattle.pg_session.proofs.Callers.{goes_none, goes_further, called_or_on, may_go_on}
+use Rattle.pg_session.proofs.Callers.{called_or_on, goes_further, goes_none, may_go_on}
 use Rattle.pg_session.proofs.leaving.end_process.Goals as goal
 
 pub loop-init : goal.loop-init

@@ -1,7 +1,8 @@
-use Rattle.std.proofs.Common.{◌≡◌, true}
+use Rattle.pg_session.specs
+use Rattle.std.proofs.Common.{true, ◌≡◌}
 use Rattle.policy_audit.specs.declared.event.Event.TheVariants.{Exit}
-use Rattle.pg_session.specs.Processes.{spawned}
-use Rattle.pg_session.specs.Calls.{GoesOn, may_call}
+use specs.Processes.{spawned}
+use specs.Calls.{GoesOn, may_call}
 use Rattle.pg_session.proofs.leaving.end_process.Given as goal
 
 abbrev pub invariant-loop : goal.invariant-loop

@@ -1,5 +1,5 @@
 use Rattle.policy_audit.specs.declared.event.Event.TheVariants.{Demonitor}
-use Rattle.pg_session.proofs.Callers.{goes_further, called_on}
+use Rattle.pg_session.proofs.Callers.{called_on, goes_further}
 use Rattle.pg_session.proofs.leaving.end_watch.Goals as goal
 
 pub loop-preserved : goal.loop-preserved

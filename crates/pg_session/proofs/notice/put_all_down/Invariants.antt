@@ -1,4 +1,4 @@
-use Rattle.std.proofs.Common.{◌≡◌, ◌++◌, take}
+use Rattle.std.proofs.Common.{take, ◌++◌, ◌≡◌}
 use Rattle.std.specs.List.{flat_map}
 use Rattle.pg_session.specs.Notices.{gone, notice_line}
 use Rattle.pg_session.proofs.notice.put_all_down.Given as goal

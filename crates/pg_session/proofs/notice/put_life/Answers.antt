@@ -1,8 +1,10 @@
-use Rattle.std.proofs.Common.{◌≡◌, ◌++◌, Some, None, [], refl, subst, codes, decimal}
-use Rattle.pg_session.specs.declared.notice.DownReason.TheVariants as reasons
-use Rattle.pg_session.specs.Notices.{restarted}
-use Rattle.pg_session.proofs.Callers.{on_ok}
-use Rattle.pg_session.proofs.Telling.{news_one, news_more, news_all_gone, in_line}
+use Rattle.pg_session.proofs
+use Rattle.pg_session.specs
+use Rattle.std.proofs.Common.{codes, decimal, None, refl, Some, subst, [], ◌++◌, ◌≡◌}
+use specs.Notices.{restarted}
+use proofs.Callers.{on_ok}
+use proofs.Telling.{in_line, news_all_gone, news_more, news_one}
+use specs.declared.notice.DownReason.TheVariants as reasons
 use Rattle.pg_session.proofs.notice.put_life.Goals as goal
 
 pub returns : goal.returns

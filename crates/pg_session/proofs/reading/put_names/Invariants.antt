@@ -1,4 +1,4 @@
-use Rattle.std.proofs.Common.{◌≡◌, ◌++◌, take}
+use Rattle.std.proofs.Common.{take, ◌++◌, ◌≡◌}
 use Rattle.pg_text.specs.Answers.{spaced}
 use Rattle.pg_session.proofs.reading.put_names.Given as goal
 

@@ -1,6 +1,7 @@
+use Rattle.pg_session.proofs
+use proofs.Asking.{answers_stranger}
+use proofs.Callers.{on_ok}
 use Rattle.pg_session.specs.declared.request.Request.TheVariants as requests
-use Rattle.pg_session.proofs.Asking.{answers_stranger}
-use Rattle.pg_session.proofs.Callers.{on_ok}
 use Rattle.pg_session.proofs.reading.put_size.Goals as goal
 
 pub returns-then-not-is_known_to : goal.returns-then-not-is_known_to

@@ -1,7 +1,8 @@
+use Rattle.pg_session.proofs
 use Rattle.std.proofs.Common.{refl}
 use Rattle.pg_session.specs.Notices.{stopped}
-use Rattle.pg_session.proofs.Callers.{on_ok}
-use Rattle.pg_session.proofs.Telling.{news_none, news_one}
+use proofs.Callers.{on_ok}
+use proofs.Telling.{news_none, news_one}
 use Rattle.pg_session.proofs.stops.put_stop.Goals as goal
 
 pub returns-in-StopScope : goal.returns-in-StopScope

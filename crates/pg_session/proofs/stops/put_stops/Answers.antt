@@ -1,4 +1,4 @@
-use Rattle.pg_session.proofs.Telling.{news_none, more_more}
+use Rattle.pg_session.proofs.Telling.{more_more, news_none}
 use Rattle.pg_session.proofs.stops.put_stops.Goals as goal
 
 pub loop-entry-init : goal.loop-entry-init

@@ -1,6 +1,7 @@
+use Rattle.pg_session.proofs
 use Rattle.std.proofs.Common.{refl}
-use Rattle.pg_session.proofs.Callers.{goes_none, goes_further, called_or_on}
-use Rattle.pg_session.proofs.Telling.{news_none, tells_more}
+use proofs.Callers.{called_or_on, goes_further, goes_none}
+use proofs.Telling.{news_none, tells_more}
 use Rattle.pg_session.proofs.watch.tell_all.Goals as goal
 
 pub loop-watch-init : goal.loop-watch-init

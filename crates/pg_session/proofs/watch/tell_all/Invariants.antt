@@ -1,5 +1,6 @@
-use Rattle.pg_session.specs.Calls.{GoesOn}
-use Rattle.pg_session.specs.Notices.{Known, Tells}
+use Rattle.pg_session.specs
+use specs.Calls.{GoesOn}
+use specs.Notices.{Known, Tells}
 use Rattle.pg_session.proofs.watch.tell_all.Given as goal
 
 abbrev pub invariant-loop-watch : goal.invariant-loop-watch

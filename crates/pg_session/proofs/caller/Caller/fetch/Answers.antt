@@ -1,7 +1,8 @@
+use Rattle.pg_session.proofs
 use Rattle.std.proofs.Common.{refl}
 use Rattle.policy_audit.specs.declared.event.Event.TheVariants.{Updates}
-use Rattle.pg_session.proofs.Callers.{called_connections, on_ok}
-use Rattle.pg_session.proofs.Telling.{tells_fetched}
+use proofs.Callers.{called_connections, on_ok}
+use proofs.Telling.{tells_fetched}
 use Rattle.pg_session.proofs.caller.Caller.fetch.Goals as goal
 
 pub invariant_of-self : goal.invariant_of-self

@@ -1,4 +1,4 @@
-use Rattle.pg_session.proofs.Telling.{news_none, news_more}
+use Rattle.pg_session.proofs.Telling.{news_more, news_none}
 use Rattle.pg_session.proofs.news.News.put_entries.Goals as goal
 
 pub loop-entry-init : goal.loop-entry-init

@@ -1,6 +1,7 @@
-use Rattle.std.proofs.Common.{◌+◌, take, drop}
-use Rattle.pg_session.proofs.Places.{around}
-use Rattle.pg_session.proofs.Telling.{news_gone}
+use Rattle.pg_session.proofs
+use Rattle.std.proofs.Common.{drop, take, ◌+◌}
+use proofs.Places.{around}
+use proofs.Telling.{news_gone}
 use Rattle.pg_session.proofs.news.News.put_gone.Goals as goal
 
 pub returns-clause-told : goal.returns-clause-told

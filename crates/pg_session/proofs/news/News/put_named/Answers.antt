@@ -1,7 +1,8 @@
+use Rattle.pg_session.proofs
 use Rattle.std.proofs.Common.{sym, ◌∙◌}
 use Rattle.pg_session.specs.Notices.{is_named}
-use Rattle.pg_session.proofs.Places.{place_within, no_place}
-use Rattle.pg_session.proofs.Telling.{news_none, news_more}
+use proofs.Places.{no_place, place_within}
+use proofs.Telling.{news_more, news_none}
 use Rattle.pg_session.proofs.news.News.put_named.Goals as goal
 
 pub loop-place-init : goal.loop-place-init

@@ -1,6 +1,6 @@
 use Rattle.std.proofs.Common.{refl}
 use Rattle.pg_session.specs.Notices.{up}
-use Rattle.pg_session.proofs.Telling.{news_one, news_more, added}
+use Rattle.pg_session.proofs.Telling.{added, news_more, news_one}
 use Rattle.pg_session.proofs.news.News.put_newer.Goals as goal
 
 pub returns : goal.returns

@@ -1,13 +1,14 @@
-use Rattle.std.proofs.Common.{◌≡◌, true, sym, subst, ◌∙◌, inl}
+use Rattle.pg_session.specs
+use Rattle.std.proofs.Common.{inl, subst, sym, true, ◌∙◌, ◌≡◌}
 use Rattle.std.specs.List.{list_all}
-use Rattle.pg_session.specs.Processes.{has, spawned, moves_only}
-use Rattle.pg_session.specs.Calls.{Seat}
-use Rattle.pg_session.specs.Kinds.{exit_at}
-use Rattle.pg_session.specs.Outcomes.{Kept}
-use Rattle.pg_session.proofs.Callers.{may_own, answers_call, makes_seat, on_ok}
+use specs.Processes.{has, moves_only, spawned}
+use specs.Calls.{Seat}
+use specs.Kinds.{exit_at}
+use specs.Outcomes.{Kept}
+use Rattle.pg_session.proofs.Callers.{answers_call, makes_seat, may_own, on_ok}
 use Rattle.pg_session.proofs.session.Session.call.Given.{Over}
-use Rattle.pg_session.proofs.session.Session.call.Goals as goal
 use Rattle.pg_session.proofs.session.Session.call.Goals.{After-has_all}
+use Rattle.pg_session.proofs.session.Session.call.Goals as goal
 
 -- the processes that the event moves are the connection's
 moves : (g : Over) (c : After-has_all g) → c.has_all.result ≡ true

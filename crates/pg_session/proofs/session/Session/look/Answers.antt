@@ -1,5 +1,6 @@
-use Rattle.pg_session.proofs.Callers.{on_ok}
-use Rattle.pg_session.proofs.Telling.{news_more}
+use Rattle.pg_session.proofs
+use proofs.Callers.{on_ok}
+use proofs.Telling.{news_more}
 use Rattle.pg_session.proofs.session.Session.look.Goals as goal
 
 pub returns-clause-told : goal.returns-clause-told

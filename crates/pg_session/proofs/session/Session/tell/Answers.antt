@@ -1,7 +1,8 @@
+use Rattle.pg_session.specs
 use Rattle.std.proofs.Common.{ap, ◌∙◌}
-use Rattle.pg_session.specs.Calls.{Seat}
-use Rattle.pg_session.specs.Notices.{Known}
-use Rattle.pg_session.proofs.Telling.{news_more, tells_then, all_told}
+use specs.Calls.{Seat}
+use specs.Notices.{Known}
+use Rattle.pg_session.proofs.Telling.{all_told, news_more, tells_then}
 use Rattle.pg_session.proofs.session.Session.tell.Goals as goal
 
 pub returns-clause-told : goal.returns-clause-told

@@ -1,7 +1,8 @@
-use Rattle.std.proofs.Common.{refl, codes, decimal}
+use Rattle.pg_session.proofs
+use Rattle.std.proofs.Common.{codes, decimal, refl}
 use Rattle.pg_session.specs.Notices.{ended}
-use Rattle.pg_session.proofs.Callers.{on_ok}
-use Rattle.pg_session.proofs.Telling.{news_none, news_one, in_line}
+use proofs.Callers.{on_ok}
+use proofs.Telling.{in_line, news_none, news_one}
 use Rattle.pg_session.proofs.watch.Watch.put_end.Goals as goal
 
 pub returns-then-not-self : goal.returns-then-not-self

@@ -1,5 +1,6 @@
-use Rattle.pg_session.proofs.Callers.{on_ok}
-use Rattle.pg_session.proofs.Telling.{tells_more}
+use Rattle.pg_session.proofs
+use proofs.Callers.{on_ok}
+use proofs.Telling.{tells_more}
 use Rattle.pg_session.proofs.watch.Watch.tell.Goals as goal
 
 pub returns-then-not-self-clause-told : goal.returns-then-not-self-clause-told
