@@ -2,9 +2,9 @@
 use crate::arrivals::Arrivals;
 use crate::backoff::Backoff;
 use crate::host::Host;
-use crate::kind::Kind;
 use crate::lanes::Lanes;
-use crate::serving::{Opener, serve_stream};
+use crate::peer_kind::PeerKind;
+use crate::serving::{Opener, Served, serve_stream};
 use node_threads::Node;
 use std::alloc::Global;
 use std::net::TcpStream;
@@ -33,7 +33,7 @@ pub fn start_accepting<'s, E: 's, R: Threads + Wait + Clock + Sync + 's>(
 
 /// Serves the link of one connection after another, until the stop. After a link that didn't come up it rests, the longer the more
 /// there were in a row, so that strangers can't fill the audit.
-pub fn take_connections<'a, R: Threads + Wait + Clock + Sync>(
+fn take_connections<'a, R: Threads + Wait + Clock + Sync>(
     rt: &'a R,
     alloc: Global,
     node: &'a Node,
@@ -64,12 +64,12 @@ pub fn take_connections<'a, R: Threads + Wait + Clock + Sync>(
 fn take_in<R: Threads + Wait + Clock + Sync>(
     host: &Host<'_, R>,
     stream: TcpStream,
-    kind: Kind,
+    kind: PeerKind,
 ) -> bool {
     let Some(lane) = host.lanes.take_for_peer(host.rt) else {
         return false;
     };
-    let (lane, came_up) = serve_stream(host, lane, stream, Opener::Peer, kind);
+    let (lane, served) = serve_stream(host, lane, stream, Opener::Peer, kind);
     host.lanes.give_back(host.rt, lane);
-    came_up
+    served == Served::CameUp
 }

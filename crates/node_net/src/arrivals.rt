@@ -1,8 +1,8 @@
 //! Where peers connect. One thread takes connections there, over all lives of the node, and hands each to one that serves links.
-use crate::kind::Kind;
 use crate::lanes::Lanes;
+use crate::peer_kind::PeerKind;
 use std::io;
-use std::net::{Shutdown, TcpListener, TcpStream};
+use std::net::{Shutdown, SocketAddr, TcpListener, TcpStream};
 use std::os::fd::OwnedFd;
 use std::sync::{Condvar, CondvarTimeouts, Mutex, Wait};
 use std::thread::{Scope, Threads};
@@ -30,7 +30,7 @@ struct Hall {
 /// The connections that peers open.
 #[derive(Drop)]
 pub struct Arrivals {
-    kind: Kind,
+    kind: PeerKind,
     listener: TcpListener,
     /// The same socket, held from the start: so the end needs no further descriptor.
     handle: TcpStream,
@@ -42,13 +42,8 @@ pub struct Arrivals {
 }
 
 impl Arrivals {
-    /// Those of nodes of this program.
-    pub fn new(listener: TcpListener) -> io::Result<Arrivals> {
-        Arrivals::of_kind(listener, Kind::Native)
-    }
-
     /// Those of nodes of this kind.
-    pub fn of_kind(listener: TcpListener, kind: Kind) -> io::Result<Arrivals> {
+    pub fn new(listener: TcpListener, kind: PeerKind) -> io::Result<Arrivals> {
         let handle = TcpStream::from(OwnedFd::from(listener.try_clone()?));
         let hall = Hall {
             arrived: None,
@@ -66,8 +61,13 @@ impl Arrivals {
     }
 
     /// Which nodes connect here.
-    pub(crate) fn kind(&self) -> Kind {
+    pub(crate) fn kind(&self) -> PeerKind {
         self.kind
+    }
+
+    /// Where they connect.
+    pub fn address(&self) -> io::Result<SocketAddr> {
+        self.listener.local_addr()
     }
 
     /// Takes one connection after another, each once a thread waits for one, until the end. The others wait in the system.

@@ -14,7 +14,7 @@ pub enum DialFault {
     Unreachable,
     /// Any other fault of the system.
     System,
-    /// EPMD doesn't answer at the host, or says what isn't understood.
+    /// EPMD isn't there at the host, or says nothing that is understood.
     NoEpmd,
     /// EPMD at the host doesn't have the name.
     Unregistered,
@@ -58,7 +58,7 @@ impl DialFault {
             DialFault::Timeout => "nobody answers there in time",
             DialFault::Unreachable => "no way leads there",
             DialFault::System => "the system makes no connection",
-            DialFault::NoEpmd => "EPMD says nothing there that is understood",
+            DialFault::NoEpmd => "EPMD isn't there, or says nothing that is understood",
             DialFault::Unregistered => "EPMD there doesn't have the name",
             DialFault::Handshake =>
                 "no link came up: one end has refused the other, or said nothing",

@@ -2,7 +2,7 @@
 use crate::dial_fault::DialFault;
 use crate::host::Host;
 use crate::lanes::Lanes;
-use crate::serving::{Opener, serve_stream};
+use crate::serving::{Opener, Served, serve_stream};
 use crate::target::Target;
 use crate::tries::{Dialled, Tries};
 use dist_types::NodeName;
@@ -40,7 +40,7 @@ where
 
 /// Dials a peer whenever no link to it is up, until the stop, or the end of the target: then no
 /// lane is kept for it any more.
-pub fn keep_dialling<'a, R>(
+fn keep_dialling<'a, R>(
     rt: &'a R,
     alloc: Global,
     node: &'a Node,
@@ -178,12 +178,12 @@ where
     };
     let begun = Begun::now(rt, node);
     let opener = Opener::Own(target.peer());
-    let (lane, came_up) = serve_stream(host, lane, stream, opener, target.kind());
+    let (lane, served) = serve_stream(host, lane, stream, opener, target.kind());
     lanes.give_back_from_dial(rt, lane);
-    if came_up {
-        begun.end(rt, node, target)
-    } else {
-        Dialled::Failed(DialFault::Handshake)
+    match served {
+        Served::CameUp => begun.end(rt, node, target),
+        Served::NotUp => Dialled::Failed(DialFault::Handshake),
+        Served::NotBegun => Dialled::Failed(DialFault::System),
     }
 }
 

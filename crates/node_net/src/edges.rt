@@ -1,74 +1,36 @@
 //! What all links with stock nodes of Erlang/OTP share, over all lives of the node.
-use crate::kind::Kind;
+use crate::last_noted::LastNoted;
+use crate::peer_kind::PeerKind;
+use dist_types::OutOfMemory;
 use otp_edge::{Dropped, Life};
 use std::alloc::Global;
 use std::sync::atomic::{AtomicBool, AtomicU64, Ordering};
 use std::sync::{Mutex, MutexGuard, Wait};
 
-/// Of how many links the kind is kept.
-const KEPT: usize = 256;
-
 /// How many reasons there are to drop something.
-const REASONS: usize = 7;
-
-#[derive(Clone, Copy, Debug)]
-struct Noted {
-    link: u32,
-    kind: Kind,
-}
-
-/// The kinds of the last links, the oldest at `next`.
-#[derive(Clone, Copy, Debug)]
-struct Ring {
-    noted: [Noted; KEPT],
-    next: usize,
-}
-
-impl Ring {
-    /// What is said of links of which nothing was noted.
-    const EMPTY: Ring = Ring {
-        noted: [Noted {
-            link: 0,
-            kind: Kind::Native,
-        }; KEPT],
-        next: 0,
-    };
-
-    fn of(&self, link: u32) -> Kind {
-        match self.noted.iter().find(|noted| noted.link == link) {
-            Some(noted) => noted.kind,
-            None => Kind::Native,
-        }
-    }
-
-    fn note(&mut self, noted: Noted) {
-        let place = self.next % KEPT;
-        self.noted[place] = noted;
-        self.next = place + 1;
-    }
-}
+pub(crate) const REASONS: usize = Dropped::ALL.len();
 
 /// What all links with stock nodes share: the groups that these were told as atoms, and how often
 /// something was dropped. Its locks are innermost ones.
 #[derive(Drop)]
 pub struct Edges {
     life: Mutex<Life>,
-    kinds: Mutex<Ring>,
+    kinds: Mutex<LastNoted<PeerKind>>,
     dropped: Mutex<[u64; REASONS]>,
     /// How often rows of a group weren't told, since there were too many atoms.
-    untold: AtomicU64,
+    refused_atoms: AtomicU64,
     in_parts: AtomicBool,
 }
 
 impl Edges {
-    pub fn new(alloc: Global) -> Edges {
-        Edges {
+    pub(crate) fn new(alloc: Global) -> Result<Edges, OutOfMemory> {
+        Ok(Edges {
             life: Mutex::new(Life::new(alloc)),
-            kinds: Mutex::new(Ring::EMPTY),
+            kinds: Mutex::new(LastNoted::new(alloc)?),
             dropped: Mutex::new([0; REASONS]),
-            untold: AtomicU64::new(0),
+            refused_atoms: AtomicU64::new(0),
             in_parts: AtomicBool::new(false),
-        }
+        })
     }
 
     /// Whether the node takes messages in parts, which is said before its first link.
@@ -81,17 +43,17 @@ impl Edges {
     }
 
     /// Which nodes a link leads to: one of this program, where nothing else was noted.
-    pub fn kind_of<R: Wait>(&self, rt: &R, link: u32) -> Kind {
-        self.kinds.lock(rt).of(link)
+    pub fn kind_of<R: Wait>(&self, rt: &R, link: u32) -> PeerKind {
+        self.kinds.lock(rt).of(link).unwrap_or(PeerKind::Native)
     }
 
-    pub(crate) fn note<R: Wait>(&self, rt: &R, link: u32, kind: Kind) {
-        self.kinds.lock(rt).note(Noted { link, kind });
+    pub(crate) fn note<R: Wait>(&self, rt: &R, link: u32, kind: PeerKind) {
+        self.kinds.lock(rt).note(link, kind);
     }
 
     /// Forgets the kinds of links, since a new life counts them anew.
     pub(crate) fn clear<R: Wait>(&self, rt: &R) {
-        *self.kinds.lock(rt) = Ring::EMPTY;
+        self.kinds.lock(rt).clear();
     }
 
     pub(crate) fn life<R: Wait>(&self, rt: &R) -> MutexGuard<'_, Life> {
@@ -111,12 +73,12 @@ impl Edges {
     }
 
     /// Notes how often rows of a group weren't told: whether that is news.
-    pub(crate) fn note_untold(&self, times: u64) -> bool {
-        self.untold.swap(times, Ordering::SeqCst) == 0 && times > 0
+    pub(crate) fn note_refused_atoms(&self, times: u64) -> bool {
+        self.refused_atoms.swap(times, Ordering::SeqCst) == 0 && times > 0
     }
 
     /// How often rows of a group weren't told, since the node has told 65,536 others as atoms.
-    pub fn untold(&self) -> u64 {
-        self.untold.load(Ordering::SeqCst)
+    pub fn refused_atoms(&self) -> u64 {
+        self.refused_atoms.load(Ordering::SeqCst)
     }
 }

@@ -3,6 +3,7 @@ use crate::dial_fault::DialFault;
 use dist_types::{NodeName, OutOfMemory};
 use epmd::{AskFault, EpmdFault, ask_port, halves};
 use std::alloc::Global;
+use std::io::ErrorKind;
 use std::net::{Net, TcpListener, TcpStream, ToSocketAddrs};
 use std::time::Duration;
 
@@ -47,7 +48,7 @@ impl EpmdPlace {
     where
         R: Net<Listener = TcpListener, Stream = TcpStream>,
     {
-        let mut stream = self.connect_at(rt, self.port, time)?;
+        let mut stream = self.connect_to_epmd(rt, time)?;
         let is_limited = stream.set_read_timeout(Some(time)).is_ok()
             && stream.set_write_timeout(Some(time)).is_ok();
         if !is_limited {
@@ -55,8 +56,20 @@ impl EpmdPlace {
         }
         match ask_port(self.alloc, &mut stream, self.name.as_bytes()) {
             Ok(port) => self.connect_at(rt, port, time),
-            Err(AskFault::Answer(EpmdFault::Refused)) => Err(DialFault::Unregistered),
-            Err(_) => Err(DialFault::NoEpmd),
+            Err(fault) => Err(told_of(fault)),
+        }
+    }
+
+    /// Connects to EPMD, which isn't there where nobody answers.
+    fn connect_to_epmd<R>(&self, rt: &R, time: Duration) -> Result<TcpStream, DialFault>
+    where
+        R: Net<Listener = TcpListener, Stream = TcpStream>,
+    {
+        match self.connect_at(rt, self.port, time) {
+            Err(DialFault::Refused | DialFault::Timeout | DialFault::Unreachable) => {
+                Err(DialFault::NoEpmd)
+            }
+            connected => connected,
         }
     }
 
@@ -69,6 +82,17 @@ impl EpmdPlace {
             Ok(place) => connect(rt, place.as_str(), time),
             Err(_) => Err(DialFault::System),
         }
+    }
+}
+
+/// Why EPMD couldn't be asked, or what it has answered.
+fn told_of(fault: AskFault) -> DialFault {
+    match fault {
+        AskFault::Answer(EpmdFault::Refused) => DialFault::Unregistered,
+        AskFault::Answer(EpmdFault::OutOfMemory) | AskFault::Stream(ErrorKind::OutOfMemory) => {
+            DialFault::System
+        }
+        _ => DialFault::NoEpmd,
     }
 }
 

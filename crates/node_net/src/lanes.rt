@@ -3,11 +3,11 @@ ghost use Rattle.std.specs.Prelude.{◌≡◌, IfOk};
 
 use crate::edges::Edges;
 use crate::endings::Ending;
-use crate::kind::Kind;
 use crate::lane::Lane;
 use crate::limits::Limits;
 use crate::met::Met;
 use crate::notes::Notes;
+use crate::peer_kind::PeerKind;
 use crate::target::Target;
 use std::alloc::Global;
 use std::io::{self, ErrorKind};
@@ -174,7 +174,7 @@ impl<'a> Lanes<'a> {
             failed_dials: self.failed_dials.load(Ordering::SeqCst),
             stock_nodes: self.stock_nodes.load(Ordering::SeqCst),
             native_nodes: self.native_nodes.load(Ordering::SeqCst),
-            untold: self.notes.edges.untold(),
+            refused_atoms: self.notes.edges.refused_atoms(),
         }
     }
 
@@ -184,7 +184,7 @@ impl<'a> Lanes<'a> {
     }
 
     /// Notes which nodes a link leads to.
-    pub(crate) fn note_kind<R: Wait>(&self, rt: &R, link: u32, kind: Kind) {
+    pub(crate) fn note_kind<R: Wait>(&self, rt: &R, link: u32, kind: PeerKind) {
         self.notes.edges.note(rt, link, kind);
     }
 

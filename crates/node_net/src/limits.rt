@@ -1,5 +1,5 @@
 //! Limits of time.
-use crate::kind::Kind;
+use crate::peer_kind::PeerKind;
 use std::time::Duration;
 
 /// In how many parts the time is cut that a peer may be silent.
@@ -35,7 +35,7 @@ impl Limits {
     }
 
     /// How often the reader of a link looks whether something has come.
-    pub(crate) fn looks(&self, kind: Kind) -> Looks {
+    pub(crate) fn looks(&self, kind: PeerKind) -> Looks {
         let pulse = self.pulse();
         if !kind.is_otp() {
             return Looks {

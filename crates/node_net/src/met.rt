@@ -16,7 +16,7 @@ pub struct Met {
     /// Another node was at a link that is for stock nodes.
     pub native_nodes: u64,
     /// Rows of a group weren't told to stock nodes, since they were told too many others.
-    pub untold: u64,
+    pub refused_atoms: u64,
 }
 
 impl Met {
@@ -27,6 +27,6 @@ impl Met {
         failed_dials: 0,
         stock_nodes: 0,
         native_nodes: 0,
-        untold: 0,
+        refused_atoms: 0,
     };
 }

@@ -4,6 +4,7 @@ use crate::edges::Edges;
 use crate::endings::Endings;
 use crate::limits::Limits;
 use crate::writers::Writers;
+use dist_types::OutOfMemory;
 use std::alloc::Global;
 use std::sync::Wait;
 
@@ -21,13 +22,13 @@ pub struct Notes {
 }
 
 impl Notes {
-    pub fn new(alloc: Global) -> Notes {
-        Notes {
-            endings: Endings::new(),
+    pub fn new(alloc: Global) -> Result<Notes, OutOfMemory> {
+        Ok(Notes {
+            endings: Endings::new(alloc)?,
             writers: Writers::new(),
-            addresses: Addresses::new(),
-            edges: Edges::new(alloc),
-        }
+            addresses: Addresses::new(alloc)?,
+            edges: Edges::new(alloc)?,
+        })
     }
 
     /// Forgets all, since a new life counts its links anew. Those have these limits.

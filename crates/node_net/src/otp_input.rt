@@ -3,8 +3,8 @@ ghost use Rattle.std.specs.Prelude.{◌≤◌, length, vec_len};
 
 use crate::input::LinkInput;
 use crate::listed::Listed;
-use crate::otp_side::OtpSide;
-use otp_link::{Inward, LinkFault, Taken};
+use crate::otp_side::{OtpSide, end_by};
+use otp_link::{Inward, Taken};
 use std::io::{self, ErrorKind, Read};
 use std::sync::Wait;
 use std::time::{Clock, Instant};
@@ -66,7 +66,7 @@ impl<'a, R: Wait + Clock> OtpInput<'a, R> {
         let taken = match taken {
             Ok(Some(taken)) => taken,
             Ok(None) => return Ok(false),
-            Err(fault) => return Err(self.fault(fault)),
+            Err(fault) => return Err(end_by(at, fault)),
         };
         self.settle(taken)?;
         Ok(true)
@@ -86,20 +86,6 @@ impl<'a, R: Wait + Clock> OtpInput<'a, R> {
             return Ok(());
         }
         self.input.outlet.send(self.input.at, bodies)
-    }
-
-    /// The error by which the link ends.
-    fn fault(&self, fault: LinkFault) -> io::Error {
-        let kind = match fault {
-            LinkFault::OutOfMemory => ErrorKind::OutOfMemory,
-            LinkFault::NotStock => {
-                self.input.at.lanes.count_native();
-                self.input.at.node.wake(self.input.at.rt);
-                ErrorKind::PermissionDenied
-            }
-            _ => ErrorKind::InvalidData,
-        };
-        io::Error::from(kind)
     }
 
     /// Reads what comes, and asks the peer again where that is due: whether the stream goes on.

@@ -1,8 +1,8 @@
 //! What goes out on a link with a stock node of Erlang/OTP, of what the node gives.
-use crate::otp_side::OtpSide;
+use crate::otp_side::{OtpSide, end_by};
 use crate::output::LinkOutput;
 use node_threads::LinkOut;
-use std::io::{self, ErrorKind, Write};
+use std::io::{self, Write};
 use std::sync::Wait;
 use std::time::Clock;
 
@@ -25,14 +25,15 @@ impl<'a, R: Wait + Clock> OtpOutput<'a, R> {
         let mut link = self.side.link.lock(at.rt);
         let mut life = edges.life(at.rt);
         let said = link.send(batch, &mut life);
-        if edges.note_untold(life.refused()) {
+        if edges.note_refused_atoms(life.refused()) {
             at.node.wake(at.rt);
         }
         drop(life);
         self.side.count(at.rt, edges, &link);
+        drop(link);
         match said {
             Ok(bytes) => Ok(bytes),
-            Err(_) => Err(io::Error::from(ErrorKind::OutOfMemory)),
+            Err(fault) => Err(end_by(at, fault)),
         }
     }
 }

@@ -1,12 +1,13 @@
 //! What both directions of a link with a stock node of Erlang/OTP share.
-use crate::edges::Edges;
+use crate::edges::{Edges, REASONS};
+use crate::endings::Ending;
+use crate::patience::HostedLink;
 use otp_edge::Dropped;
-use otp_link::OtpLink;
+use otp_link::{LinkFault, OtpLink};
 use std::alloc::Global;
+use std::io::{self, ErrorKind};
 use std::sync::{Mutex, Wait};
-
-/// How many reasons there are to drop something.
-const REASONS: usize = 7;
+use std::time::Clock;
 
 /// A link with a stock node, behind its lock, and what was counted of it. The reader takes the
 /// node's lock inside, and the writer that of the groups that were told; neither is held in a read
@@ -40,4 +41,21 @@ impl<'a> OtpSide<'a> {
             }
         }
     }
+}
+
+/// The error by which the link ends, and notes why it does where that can't be seen of its socket.
+pub(crate) fn end_by<R: Wait + Clock>(at: &HostedLink<'_, R>, fault: LinkFault) -> io::Error {
+    let kind = match fault {
+        LinkFault::OutOfMemory => ErrorKind::OutOfMemory,
+        LinkFault::NotStock => {
+            at.lanes.count_native();
+            at.node.wake(at.rt);
+            ErrorKind::PermissionDenied
+        }
+        LinkFault::NoMessage | LinkFault::TooManyRows | LinkFault::TooLong => {
+            at.note(Ending::Unreadable);
+            ErrorKind::InvalidData
+        }
+    };
+    io::Error::from(kind)
 }

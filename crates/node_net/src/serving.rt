@@ -6,7 +6,6 @@ ghost use Rattle.node_net.specs.LaneCalls.{IsOpening, own_links};
 use crate::guard::ReflectionGuard;
 use crate::host::Host;
 use crate::input::{LinkInput, Stage};
-use crate::kind::Kind;
 use crate::lane::Lane;
 use crate::lanes::Ticket;
 use crate::otp_input::OtpInput;
@@ -14,6 +13,7 @@ use crate::otp_output::OtpOutput;
 use crate::otp_side::OtpSide;
 use crate::output::{LinkOutput, Outlet};
 use crate::patience::HostedLink;
+use crate::peer_kind::PeerKind;
 use crate::progress::Progress;
 use dist_types::{NodeName, OutOfMemory, TryClone};
 use node_threads::Connection;
@@ -55,30 +55,52 @@ impl Opener<'_> {
     }
 }
 
-/// Serves a link over a connection until it ends: whether it came up.
+/// How far a link came that was served.
+#[derive(Clone, Copy, Debug, PartialEq, Eq)]
+pub(crate) enum Served {
+    /// It was up.
+    CameUp,
+    /// The node has refused it, or its handshake has come to nothing.
+    NotUp,
+    /// The node wasn't told of it: the system gave no memory, or no time.
+    NotBegun,
+}
+
+impl Served {
+    /// Of a link that was begun.
+    fn of(was_up: bool) -> Served {
+        if was_up {
+            Served::CameUp
+        } else {
+            Served::NotUp
+        }
+    }
+}
+
+/// Serves a link over a connection until it ends: how far it came.
 pub(crate) fn serve_stream<R: Threads + Wait + Clock + Sync>(
     host: &Host<'_, R>,
     lane: Lane,
     stream: TcpStream,
     opener: Opener<'_>,
-    kind: Kind,
-) -> (Lane, bool) {
+    kind: PeerKind,
+) -> (Lane, Served) {
     let Ok(stream) = Arc::new(host.alloc, stream) else {
-        return (lane, false);
+        return (lane, Served::NotBegun);
     };
     let Ok(ticket) = host.lanes.enter(host.rt, lane.challenge(), &stream) else {
-        return (lane, false);
+        return (lane, Served::NotBegun);
     };
-    let (lane, came_up) = serve_entered(host, lane, &stream, Opening { opener, kind }, ticket);
+    let (lane, served) = serve_entered(host, lane, &stream, Opening { opener, kind }, ticket);
     host.lanes.leave(host.rt, ticket);
-    (lane, came_up)
+    (lane, served)
 }
 
 /// Who has opened a connection, and which nodes it leads to.
 #[derive(Clone, Copy)]
 struct Opening<'a> {
     opener: Opener<'a>,
-    kind: Kind,
+    kind: PeerKind,
 }
 
 impl Opening<'_> {
@@ -90,7 +112,7 @@ impl Opening<'_> {
     /// How the link is made, to a stock node.
     fn link_kind(&self, in_parts: bool) -> LinkKind {
         LinkKind {
-            is_visible: self.kind == Kind::Visible,
+            is_visible: self.kind == PeerKind::Visible,
             is_dialled: self.opener.is_own(),
             in_parts,
         }
@@ -104,7 +126,7 @@ fn serve_entered<R: Threads + Wait + Clock + Sync>(
     stream: &TcpStream,
     opening: Opening<'_>,
     ticket: Ticket,
-) -> (Lane, bool)
+) -> (Lane, Served)
     requires guarded { ticket.challenge ≡ lane.challenge }
 {
     let Host {
@@ -114,16 +136,16 @@ fn serve_entered<R: Threads + Wait + Clock + Sync>(
         lanes,
     } = *host;
     let Ok(outlet) = Outlet::new(rt, stream, lanes.limits()) else {
-        return (lane, false);
+        return (lane, Served::NotBegun);
     };
     let Ok(start) = Instant::now(rt) else {
-        return (lane, false);
+        return (lane, Served::NotBegun);
     };
     let Ok(event) = opening.opener.event(alloc, ticket.challenge) else {
-        return (lane, false);
+        return (lane, Served::NotBegun);
     };
     let Some(link) = lane.open(rt, node, event) else {
-        return (lane, false);
+        return (lane, Served::NotUp);
     };
     lanes.note_address(rt, link, stream);
     lanes.note_kind(rt, link, opening.kind);
@@ -144,8 +166,7 @@ fn serve_entered<R: Threads + Wait + Clock + Sync>(
         is_native: opening.is_from_native(),
     };
     let lane = serve_opened(host, lane, input, opening, start);
-    let came_up = outlet.was_up(rt);
-    (lane, came_up)
+    (lane, Served::of(outlet.was_up(rt)))
 }
 
 /// Serves the link that was opened, by its kind.

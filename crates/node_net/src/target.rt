@@ -2,7 +2,7 @@
 use crate::connector::{Connector, Goal};
 use crate::dial_fault::DialFault;
 use crate::epmd_place::EpmdPlace;
-use crate::kind::Kind;
+use crate::peer_kind::PeerKind;
 use dist_types::{NodeName, OutOfMemory, TextFault};
 use std::alloc::Global;
 use std::net::{Net, TcpListener, TcpStream};
@@ -24,11 +24,17 @@ pub enum TargetFault {
     OutOfMemory,
 }
 
+impl From<OutOfMemory> for TargetFault {
+    fn from(_error: OutOfMemory) -> TargetFault {
+        TargetFault::OutOfMemory
+    }
+}
+
 /// How stock nodes of Erlang/OTP are dialled: as which kind of link, and at which port EPMD is
 /// asked for those that have no address.
 #[derive(Clone, Copy, Debug)]
 pub struct EpmdUse {
-    pub kind: Kind,
+    pub kind: PeerKind,
     pub port: u16,
 }
 
@@ -54,7 +60,7 @@ struct State {
 /// A peer to dial.
 pub struct Target {
     peer: NodeName,
-    kind: Kind,
+    kind: PeerKind,
     /// HOST:PORT, or where EPMD is asked.
     place: String,
     epmd: Option<EpmdPlace>,
@@ -84,10 +90,10 @@ impl Drop for Target {
 impl Target {
     /// A node of this program, at HOST:PORT.
     pub fn new(peer: NodeName, place: String) -> Target {
-        Target::of(peer, Kind::Native, place, None)
+        Target::of(peer, PeerKind::Native, place, None)
     }
 
-    fn of(peer: NodeName, kind: Kind, place: String, epmd: Option<EpmdPlace>) -> Target {
+    fn of(peer: NodeName, kind: PeerKind, place: String, epmd: Option<EpmdPlace>) -> Target {
         Target {
             peer,
             kind,
@@ -117,10 +123,8 @@ impl Target {
         if !is_place(place) {
             return Err(TargetFault::NoPlace);
         }
-        match copied(alloc, place) {
-            Ok(place) => Ok(Target::new(peer, place)),
-            Err(_) => Err(TargetFault::OutOfMemory),
-        }
+        let place = copied(alloc, place)?;
+        Ok(Target::new(peer, place))
     }
 
     /// The stock node that a word NAME or NAME=HOST:PORT names. The port of one without an address
@@ -133,24 +137,17 @@ impl Target {
         if !is_place(place) {
             return Err(TargetFault::NoStockNode);
         }
-        match copied(alloc, place) {
-            Ok(place) => Ok(Target::of(peer, epmd.kind, place, None)),
-            Err(_) => Err(TargetFault::OutOfMemory),
-        }
+        let place = copied(alloc, place)?;
+        Ok(Target::of(peer, epmd.kind, place, None))
     }
 
     /// The stock node of that name, whose port EPMD is asked for.
     fn asked(alloc: Global, peer: NodeName, epmd: EpmdUse) -> Result<Target, TargetFault> {
-        let Ok(found) = EpmdPlace::of(alloc, &peer, epmd.port) else {
-            return Err(TargetFault::OutOfMemory);
-        };
-        let Some(place) = found else {
+        let Some(place) = EpmdPlace::of(alloc, &peer, epmd.port)? else {
             return Err(TargetFault::NoStockNode);
         };
-        match place.shown() {
-            Ok(shown) => Ok(Target::of(peer, epmd.kind, shown, Some(place))),
-            Err(_) => Err(TargetFault::OutOfMemory),
-        }
+        let shown = place.shown()?;
+        Ok(Target::of(peer, epmd.kind, shown, Some(place)))
     }
 
     pub fn peer(&self) -> &NodeName {
@@ -158,7 +155,7 @@ impl Target {
     }
 
     /// Which nodes the link leads to.
-    pub fn kind(&self) -> Kind {
+    pub fn kind(&self) -> PeerKind {
         self.kind
     }
 

@@ -27,7 +27,7 @@ struct State {
 
 /// Why a peer isn't dialled.
 #[derive(Clone, Copy, Debug, PartialEq, Eq)]
-pub enum FullTargets {
+pub enum NotAdded {
     /// There are as many as may be.
     Full,
     OutOfMemory,
@@ -82,18 +82,18 @@ impl Targets {
     }
 
     /// Adds a peer to dial, which takes the place of one of its name.
-    pub fn add<R: Wait>(&self, rt: &R, alloc: Global, target: Target) -> Result<(), FullTargets> {
+    pub fn add<R: Wait>(&self, rt: &R, alloc: Global, target: Target) -> Result<(), NotAdded> {
         let Ok(target) = Arc::new(alloc, target) else {
-            return Err(FullTargets::OutOfMemory);
+            return Err(NotAdded::OutOfMemory);
         };
         let mut state = self.state.lock(rt);
         let taken = place_of(&state, target.peer());
         if taken.is_none() && state.targets.len() >= MOST {
-            return Err(FullTargets::Full);
+            return Err(NotAdded::Full);
         }
         let number = state.next;
         if state.targets.push(Numbered { number, target }).is_err() {
-            return Err(FullTargets::OutOfMemory);
+            return Err(NotAdded::OutOfMemory);
         }
         state.next = number.saturating_add(1);
         if let Some(place) = taken {

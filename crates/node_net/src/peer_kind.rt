@@ -2,7 +2,7 @@
 
 /// Which nodes the links of a port or a dial lead to. It isn't guessed from what comes.
 #[derive(Clone, Copy, Debug, PartialEq, Eq)]
-pub enum Kind {
+pub enum PeerKind {
     /// Nodes of this program.
     Native,
     /// Stock nodes of Erlang/OTP, of whose hidden nodes this one is.
@@ -11,19 +11,19 @@ pub enum Kind {
     Visible,
 }
 
-impl Kind {
+impl PeerKind {
     /// Whether they lead to stock nodes of Erlang/OTP.
     pub fn is_otp(self) -> bool {
-        self != Kind::Native
+        self != PeerKind::Native
     }
 
     /// As one word, of a link that is up. Rows pass over no link that both ends aren't published
     /// on.
     pub fn word(self, is_published: bool) -> &'static str {
         match self {
-            Kind::Native if is_published => "visible",
-            Kind::Hidden if is_published => "otp_hidden",
-            Kind::Visible if is_published => "otp_visible",
+            PeerKind::Native if is_published => "visible",
+            PeerKind::Hidden if is_published => "otp_hidden",
+            PeerKind::Visible if is_published => "otp_visible",
             _ => "hidden",
         }
     }
