@@ -2,7 +2,7 @@
 use crate::connection::Desk;
 use crate::door::Door;
 use crate::refusing::{refuse, refuse_here};
-use pg_hub::{Hub, Stream};
+use pg_hub::{Hub, Stream, Taking};
 use pg_session::{Rights, Seen};
 use pg_streams::ReadLines;
 use std::io::BufReader;
@@ -15,9 +15,6 @@ use std::time::{Clock, Duration};
 
 /// The milliseconds that a write may stand still, because the connection isn't read from.
 const PATIENCE: u64 = 10_000;
-
-/// The milliseconds of rest after a connection that couldn't be taken.
-const REST: u64 = 100;
 
 /// Starts the thread that takes connections, where there is a door for them: whether it could be made.
 pub fn start_control<'s, E: 's, R: Threads + Wait + Clock + Sync + 's>(
@@ -39,32 +36,21 @@ fn serve_control<R: Threads + Wait + Clock + Sync>(rt: &R, hub: &Hub, door: &Doo
     });
 }
 
-/// Takes connections until the program is to end. Where none can be taken it rests, and says so for
-/// the first time.
+/// Takes connections until the program is to end.
 fn take_all<'s, E: 's, R: Threads + Wait + Clock + Sync + 's>(
     scope: &'s Scope<'s, E>,
     rt: &'s R,
     hub: &'s Hub,
     door: &Door<'_>,
 ) {
-    let mut has_failed = false;
+    let mut taking = Taking::of("client");
     for _ in rt.forever() {
         let accepted = door.listener.accept();
         if hub.is_quitting() {
             return;
         }
-        match accepted {
-            Ok((stream, _)) => {
-                has_failed = false;
-                take_in(scope, rt, hub, door.rights, stream);
-            }
-            Err(error) => {
-                if !has_failed {
-                    hub.log_untaken(rt, "client", &error);
-                }
-                has_failed = true;
-                thread::sleep(rt, Duration::from_millis(REST));
-            }
+        if let Some((stream, _)) = taking.taken(rt, hub, accepted) {
+            take_in(scope, rt, hub, door.rights, stream);
         }
     }
 }
@@ -99,7 +85,7 @@ fn is_served<'s, E: 's, R: Threads + Wait + Clock + Sync + 's>(
     if stream.set_write_timeout(Some(patience)).is_err() {
         return false;
     }
-    let Some((seat, seen)) = hub.enter(rt) else {
+    let Some((seat, seen)) = hub.enter(rt, seats_left(rights)) else {
         return false;
     };
     let desk = Desk::new(hub, seat, rights);
@@ -108,6 +94,14 @@ fn is_served<'s, E: 's, R: Threads + Wait + Clock + Sync + 's>(
         give_up(rt, hub, seat);
     }
     is_started
+}
+
+/// How many free seats are left to others: who may only read doesn't keep out who may do more.
+fn seats_left(rights: Rights) -> usize {
+    match rights {
+        Rights::All => 0,
+        Rights::Reads => 1,
+    }
 }
 
 /// Starts the thread of a connection, if whoever ends the program can have its stream: whether it could be made.

@@ -1,17 +1,12 @@
 //! Clients for which there is no room.
 use pg_hub::{Hub, Stream};
-use std::io::{self, Read, Write};
+use pg_streams::{hear_out, is_at_end};
+use std::io::Write;
 use std::net::Shutdown;
 use std::os::unix::net::UnixStream;
 use std::sync::{Arc, Wait};
 use std::thread::{Scope, Threads};
-use std::time::{Clock, Duration, Instant};
-
-/// The milliseconds for which such a client is heard out at most.
-const HEARING: u64 = 300;
-
-/// How many bytes are read at a time.
-const PIECE: usize = 4_096;
+use std::time::Clock;
 
 /// Tells a client that there is no room, and hears it out on a thread, so that it can write its line before it reads. Where there
 /// are too many such threads it can't.
@@ -64,29 +59,6 @@ fn hear<R: Clock>(rt: &R, hub: &Hub, stream: &UnixStream) {
     hear_out(rt, stream).ok();
     end(stream);
     hub.clients.remove_hearer();
-}
-
-/// Reads until the client ends, or for as long as it is heard out.
-fn hear_out<R: Clock>(rt: &R, stream: &UnixStream) -> io::Result<()> {
-    let start = Instant::now(rt)?;
-    let limit = Duration::from_millis(HEARING);
-    for _ in 0..u64::MAX {
-        let left = limit.saturating_sub(start.elapsed(rt)?);
-        if left.is_zero() {
-            return Ok(());
-        }
-        stream.set_read_timeout(Some(left))?;
-        if is_at_end(stream)? {
-            return Ok(());
-        }
-    }
-    Ok(())
-}
-
-fn is_at_end(stream: &UnixStream) -> io::Result<bool> {
-    let mut reader = stream;
-    let mut piece = [0u8; PIECE];
-    Ok(reader.read(&mut piece)? == 0)
 }
 
 /// Ends a connection. What the client has written is read, since a socket that is closed with unread bytes takes the last line from

@@ -1,5 +1,5 @@
 -- Lines that are too short to name many processes.
-use Rattle.std.proofs.Common.{◌≡◌, ℕ, ◌<◌, ◌/◌, ◌==◌, List, length, arith}
+use Rattle.std.proofs.Common.{arith, length, List, ℕ, ◌/◌, ◌<◌, ◌==◌, ◌≡◌}
 use Rattle.std.proofs.lemmas.List.Sums.{count_by-le-length}
 use Rattle.pg_hub.specs.Brake.{named_in}
 

@@ -1,8 +1,7 @@
 //! Changes beside the node, as lines ask for them: of the peers to dial, and of the archive's file.
 use crate::hub::Hub;
-use crate::logging::text_of;
 use dist_types::{NodeName, OutOfMemory, TextFault};
-use node_net::{FullTargets, Target, TargetFault};
+use node_net::{NotAdded, Target, TargetFault};
 use pg_log::{Level, text};
 use pg_session::Change;
 use pg_text::{first_word, put_bytes, put_word};
@@ -113,8 +112,8 @@ impl Hub {
                 self.wake(rt);
                 Ok(())
             }
-            Err(FullTargets::Full) => Err(Reason::Full.alone()),
-            Err(FullTargets::OutOfMemory) => Err(Reason::OutOfMemory.alone()),
+            Err(NotAdded::Full) => Err(Reason::Full.alone()),
+            Err(NotAdded::OutOfMemory) => Err(Reason::OutOfMemory.alone()),
         }
     }
 
@@ -131,7 +130,7 @@ impl Hub {
             return Err(Reason::NotDialled.about(word));
         }
         self.log
-            .tell(rt, Level::Info, "undial", &[text("peer", text_of(&peer))]);
+            .tell(rt, Level::Info, "undial", &[text("peer", peer.as_str())]);
         self.wake(rt);
         Ok(())
     }

@@ -11,6 +11,7 @@ pub type Stream = Arc<UnixStream, Global>;
 /// The most threads that hear out clients which aren't served.
 const HEARERS: usize = 8;
 
+/// The streams of the clients that are served, and how many others are heard out.
 #[derive(Drop)]
 pub struct Clients {
     streams: Mutex<Streams>,

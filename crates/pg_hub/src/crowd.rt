@@ -2,6 +2,7 @@
 use std::sync::atomic::{AtomicU64, Ordering};
 use std::sync::{Condvar, Mutex, Wait};
 
+/// How many lines wait for their answers, for connections that let others go first.
 #[derive(Drop)]
 pub struct Crowd {
     /// How many lines have come, and how many of them have their answers.

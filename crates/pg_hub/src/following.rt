@@ -1,7 +1,6 @@
 //! What follows the node's audit as it grows.
 use crate::hub::Hub;
 use crate::ledger::Look;
-use crate::logging::text_of;
 use dist_types::NodeName;
 use pg_log::{Level, text};
 use policy_audit::Page;
@@ -61,7 +60,7 @@ impl Hub {
 
     fn warn_of_twins<R: Wait + Clock>(&self, rt: &R, name: &NodeName) {
         let fields = [
-            text("peer", text_of(name)),
+            text("peer", name.as_str()),
             text(
                 "reason",
                 "two nodes have this name: each ends the link of the other",

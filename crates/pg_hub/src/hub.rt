@@ -39,6 +39,8 @@ pub struct HubSettings {
     pub last_entry: u32,
     pub keeping: Keeping,
     pub readers: Readers,
+    /// What links tell beside the node.
+    pub notes: Notes,
     /// That of the program.
     pub version: &'static str,
     /// Where decisions are logged.
@@ -108,6 +110,7 @@ impl Hub {
             last_entry,
             keeping,
             readers,
+            notes,
             version,
             log,
             targets,
@@ -125,7 +128,7 @@ impl Hub {
             ledger: Mutex::new(Ledger::new(alloc)),
             log,
             targets,
-            notes: Notes::new(alloc),
+            notes,
             brake: Brake::new(),
             last_entry,
             keeping,

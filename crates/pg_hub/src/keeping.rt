@@ -120,13 +120,15 @@ impl Hub {
     /// Whether the node keeps no more entries than it is to.
     pub fn is_settled<R: Wait>(&self, rt: &R) -> bool {
         let shared = self.node.shared.lock(rt);
-        self.kept(shared.core()) <= self.keeping.entries.max(PAGE)
+        kept(shared.core()) <= self.keeping.entries.max(PAGE)
     }
 
-    /// How many entries the node keeps.
-    fn kept(&self, core: &NodeCore) -> u32 {
-        let entries = core.audit().len() as u32;
-        entries.saturating_sub(core.audit().forgotten())
+    /// Whether the node may keep still more for a file that is slower than entries come: as many again as
+    /// for a connection that doesn't read.
+    pub fn may_keep_more<R: Wait>(&self, rt: &R) -> bool {
+        let shared = self.node.shared.lock(rt);
+        let most = self.keeping.entries.saturating_add(self.keeping.patience());
+        kept(shared.core()) <= most
     }
 
     /// Takes pages out of the node while it keeps more entries than it is to. Who has to look at their
@@ -153,7 +155,7 @@ impl Hub {
     /// oldest page.
     fn has_spare(&self, core: &NodeCore) -> bool {
         let entries = core.audit().len() as u32;
-        let kept = self.kept(core);
+        let kept = kept(core);
         let told = kept.saturating_sub(self.readers.most_lag(entries));
         kept > self.keeping.entries.max(PAGE) && told >= PAGE
     }
@@ -250,4 +252,10 @@ impl Hub {
             None => false,
         }
     }
+}
+
+/// How many entries a node keeps.
+pub(crate) fn kept(core: &NodeCore) -> u32 {
+    let entries = core.audit().len() as u32;
+    entries.saturating_sub(core.audit().forgotten())
 }

@@ -5,7 +5,7 @@ use crate::hub::Hub;
 use crate::refusals::Refusals;
 use dist_types::{NodeName, OutOfMemory, Scope, TryClone};
 use node_core::NodeCore;
-use node_net::Kind;
+use node_net::PeerKind;
 use pg_session::DownReason;
 use policy_audit::{Entry, Event, Reply, Verdict};
 use std::alloc::Global;
@@ -22,7 +22,7 @@ pub(crate) struct UpLink {
     pub(crate) creation: u32,
     pub(crate) is_visible: bool,
     /// Which nodes it leads to.
-    pub(crate) kind: Kind,
+    pub(crate) kind: PeerKind,
     pub(crate) address: Option<SocketAddr>,
     /// When it was seen up first.
     pub(crate) since: Option<Instant>,
@@ -44,7 +44,7 @@ impl<R: Wait + Clock> Look<'_, '_, R> {
         Instant::now(self.rt).ok()
     }
 
-    fn kind(&self, link: u32) -> Kind {
+    fn kind(&self, link: u32) -> PeerKind {
         self.hub.notes.edges.kind_of(self.rt, link)
     }
 }

@@ -25,6 +25,7 @@ mod refusals;
 mod reporting;
 mod seating;
 mod stock;
+mod taking;
 mod twins;
 mod viewing;
 
@@ -38,3 +39,4 @@ pub use logging::UntakenPeers;
 pub use memory::Memory;
 pub use page_queue::PageQueue;
 pub use readers::Readers;
+pub use taking::Taking;

@@ -4,7 +4,7 @@ use crate::hub::Hub;
 use crate::ledger::UpLink;
 use crate::refusals::Refusal;
 use dist_types::NodeName;
-use node_net::TakingFaults;
+use node_net::{Ending, TakingFaults};
 use pg_log::{Decision, Field, Level, Source, number, text};
 use pg_session::{DownReason, Seen};
 use policy_audit::Rule;
@@ -15,11 +15,6 @@ use std::{io, thread};
 
 /// The milliseconds between two looks at the audit: a burst costs no more looks.
 const REST: u64 = 50;
-
-/// A name as text. It has no bytes but those of ASCII.
-pub(crate) fn text_of(name: &NodeName) -> &str {
-    str::from_utf8(name.as_bytes()).unwrap_or("")
-}
 
 /// A log that is told where no connection of a peer can be taken.
 #[derive(Drop)]
@@ -101,7 +96,7 @@ impl Hub {
         address: Option<SocketAddr>,
     ) {
         let fields = [
-            text("peer", text_of(peer)),
+            text("peer", peer.as_str()),
             Field::address("at", address),
             number("creation", u64::from(creation)),
             text("kind", kind),
@@ -111,11 +106,12 @@ impl Hub {
 
     fn log_down<R: Wait + Clock>(&self, rt: &R, link: &UpLink, reason: DownReason) {
         let level = match reason {
-            DownReason::Slow | DownReason::Silent | DownReason::Replaced => Level::Warn,
-            _ => Level::Info,
+            DownReason::Slow | DownReason::Silent | DownReason::Replaced | DownReason::Unreadable =>
+                Level::Warn,
+            DownReason::Closed | DownReason::Disconnected | DownReason::Restarted => Level::Info,
         };
         let fields = [
-            text("peer", text_of(&link.peer)),
+            text("peer", link.peer.as_str()),
             Field::address("at", link.address),
             number("creation", u64::from(link.creation)),
             text("reason", reason.word()),
@@ -130,7 +126,7 @@ impl Hub {
         let Ok(rule) = format!(in self.alloc; "{}", refusal.rule) else {
             return;
         };
-        let peer = refusal.peer.as_ref().map(text_of).unwrap_or("-");
+        let peer = refusal.peer.as_ref().map(NodeName::as_str).unwrap_or("-");
         let source = Source {
             address: refusal.address.map(|address| address.ip()),
             rule: refusal.rule.number(),

@@ -14,6 +14,7 @@ impl Hub {
         }
         match self.notes.endings.of(rt, link) {
             Ending::Closed => DownReason::Closed,
+            Ending::Unreadable => DownReason::Unreadable,
             Ending::Silent => DownReason::Silent,
             Ending::Slow => DownReason::Slow,
         }

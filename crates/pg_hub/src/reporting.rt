@@ -2,6 +2,7 @@
 //! say now.
 use crate::changing::put_fault;
 use crate::hub::Hub;
+use crate::keeping::kept;
 use crate::ledger::{Ledger, UpLink};
 use crate::refusals::Refusal;
 use dist_types::{NodeName, OutOfMemory, Scope};
@@ -226,11 +227,7 @@ impl<R: Wait + Clock> Reporting<'_, R> {
 
 /// How many entries a node has, and how many of them it keeps.
 pub(crate) fn entries_of(core: &NodeCore) -> (usize, usize) {
-    let entries = core.audit().len();
-    (
-        entries,
-        entries.saturating_sub(core.audit().forgotten() as usize),
-    )
+    (core.audit().len(), kept(core) as usize)
 }
 
 /// How dials go: the link is up, why the last one has failed, or a dash for the first one.

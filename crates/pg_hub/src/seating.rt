@@ -7,14 +7,14 @@ use std::sync::Wait;
 use std::time::Clock;
 
 impl Hub {
-    /// Takes a seat that nobody has, if there is one, and memory for it, and somebody may be let
-    /// in.
-    pub fn enter<R: Wait>(&self, rt: &R) -> Option<(usize, Seen)> {
+    /// Takes a seat that nobody has, if there is one, with so many others, and memory for it, and
+    /// somebody may be let in.
+    pub fn enter<R: Wait>(&self, rt: &R, others: usize) -> Option<(usize, Seen)> {
         if self.is_draining() {
             return None;
         }
         for _ in 0..2 {
-            if let Ok(entered) = self.try_enter(rt) {
+            if let Ok(entered) = self.try_enter(rt, others) {
                 return entered;
             }
             self.node.shared.lock(rt).let_go();
@@ -23,12 +23,19 @@ impl Hub {
         None
     }
 
-    fn try_enter<R: Wait>(&self, rt: &R) -> Result<Option<(usize, Seen)>, OutOfMemory> {
+    fn try_enter<R: Wait>(
+        &self,
+        rt: &R,
+        others: usize,
+    ) -> Result<Option<(usize, Seen)>, OutOfMemory> {
         let house = self.house.read(rt);
+        let mut left = others;
         for (seat, session) in house.sessions.iter().enumerate() {
             // A seat whose lock somebody has is taken.
             if let Some(mut session) = session.try_lock() {
-                if !session.is_open() {
+                if !session.is_open() && left > 0 {
+                    left -= 1;
+                } else if !session.is_open() {
                     let mut roster = self.roster.lock(rt);
                     let shared = self.node.shared.lock(rt);
                     let seen = session.open(self.alloc, shared.core(), &mut roster)?;

@@ -27,15 +27,15 @@ impl<R: Wait + Clock> Reporting<'_, R> {
             })?;
         }
         view.dropped.push(DropView {
-            reason: UNTOLD,
-            times: edges.untold(),
+            reason: TOO_MANY_ATOMS,
+            times: edges.refused_atoms(),
         })?;
         Ok(())
     }
 }
 
 /// Rows of a group weren't told, since stock nodes were told too many other groups as atoms.
-const UNTOLD: &str = "too_many_atoms";
+const TOO_MANY_ATOMS: &str = "too_many_atoms";
 
 impl Hub {
     /// Logs what wasn't carried over links to stock nodes since the program has begun: a line for
@@ -44,7 +44,7 @@ impl Hub {
         for reason in Dropped::ALL {
             self.log_reason(rt, reason.name(), self.notes.edges.dropped(rt, reason));
         }
-        self.log_reason(rt, UNTOLD, self.notes.edges.untold());
+        self.log_reason(rt, TOO_MANY_ATOMS, self.notes.edges.refused_atoms());
     }
 
     fn log_reason<R: Wait + Clock>(&self, rt: &R, reason: &'static str, times: u64) {

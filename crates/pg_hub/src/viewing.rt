@@ -2,12 +2,11 @@
 //! none while that is written.
 use crate::hub::Hub;
 use crate::ledger::{Ledger, UpLink};
-use crate::logging::text_of;
 use crate::reporting::{LINKS, Reporting, entries_of, how_it_goes};
 use dist_types::{Group, OutOfMemory, Scope, TryClone};
 use node_core::{CoreFault, Query};
 use node_net::{Target, Tried};
-use pg_page::{DialView, GroupView, LinkView, NodeView, RuleView, ScopeView};
+use pg_page::{DialView, GroupView, Health, LinkView, NodeView, RuleView, ScopeView};
 use policy_audit::Reply;
 use std::alloc::Global;
 use std::sync::Wait;
@@ -38,18 +37,21 @@ impl Hub {
         Ok(view)
     }
 
-    /// Whether the node is to end, and whether memory is wanting.
-    pub fn is_ill<R: Wait>(&self, rt: &R) -> (bool, bool) {
-        let is_draining = self.is_draining() || self.is_quitting();
+    /// Whether the node does its work.
+    pub fn health<R: Wait>(&self, rt: &R) -> Health {
         let shared = self.node.shared.lock(rt);
-        (is_draining, self.wants_memory(&shared))
+        Health::of(self.is_to_end(), self.wants_memory(&shared))
+    }
+
+    fn is_to_end(&self) -> bool {
+        self.is_draining() || self.is_quitting()
     }
 }
 
 impl<R: Wait + Clock> Reporting<'_, R> {
     fn look_at_program(&self, view: &mut NodeView) -> Result<(), OutOfMemory> {
         let (rt, hub) = (self.rt, self.hub);
-        (view.is_draining, view.wants_memory) = hub.is_ill(rt);
+        view.is_draining = hub.is_to_end();
         view.seconds = self.seconds_since(hub.begun);
         view.lives = u64::from(hub.lives());
         view.bytes = hub.memory.bytes();
@@ -67,11 +69,12 @@ impl<R: Wait + Clock> Reporting<'_, R> {
     fn look_at_node(&self, view: &mut NodeView) -> Result<(), OutOfMemory> {
         let shared = self.hub.node.shared.lock(self.rt);
         let core = shared.core();
+        view.wants_memory = self.hub.wants_memory(&shared);
         view.creation = core.creation();
         let (entries, kept) = entries_of(core);
         view.entries = entries as u64;
         view.kept = kept as u64;
-        view.name = text(self.hub.alloc, core.name().as_bytes())?;
+        view.name = text(self.hub.alloc, core.name().as_str())?;
         Ok(())
     }
 
@@ -104,7 +107,7 @@ impl<R: Wait + Clock> Reporting<'_, R> {
 
     fn link_view(&self, link: &UpLink, waiting: usize) -> Result<LinkView, OutOfMemory> {
         let alloc = self.hub.alloc;
-        let peer = text(alloc, link.peer.as_bytes())?;
+        let peer = text(alloc, link.peer.as_str())?;
         let address = match link.address {
             Some(address) => format!(in alloc; "{address}")?,
             None => String::new(alloc),
@@ -133,7 +136,7 @@ impl<R: Wait + Clock> Reporting<'_, R> {
 
     fn dial_view(&self, target: &Target, is_up: bool) -> Result<DialView, OutOfMemory> {
         let tried = target.tried(self.rt);
-        let peer = String::from_str(self.hub.alloc, text_of(target.peer()))?;
+        let peer = String::from_str(self.hub.alloc, target.peer().as_str())?;
         let place = String::from_str(self.hub.alloc, target.place())?;
         let next = match tried.next {
             Some(next) if !is_up => Some(self.seconds_until(next)),
@@ -192,7 +195,7 @@ impl<R: Wait + Clock> Reporting<'_, R> {
         let members = members_in(&answer);
         drop(answer);
         Ok(GroupView {
-            name: text(self.hub.alloc, group.as_bytes())?,
+            name: text(self.hub.alloc, group.as_str())?,
             members,
         })
     }
@@ -204,7 +207,7 @@ impl<R: Wait + Clock> Reporting<'_, R> {
 
 fn scope_view(alloc: Global, scope: &Scope, rows: u64) -> Result<ScopeView, OutOfMemory> {
     Ok(ScopeView {
-        name: text(alloc, scope.as_bytes())?,
+        name: text(alloc, scope.as_str())?,
         rows,
         size: 0,
         groups: Vec::new(alloc),
@@ -219,9 +222,8 @@ fn members_in(answer: &Result<Reply, CoreFault>) -> u64 {
     }
 }
 
-/// A text of the node's, which is of ASCII.
-fn text(alloc: Global, bytes: &[u8]) -> Result<String, OutOfMemory> {
-    Ok(String::from_str(alloc, str::from_utf8(bytes).unwrap_or(""))?)
+fn text(alloc: Global, name: &str) -> Result<String, OutOfMemory> {
+    Ok(String::from_str(alloc, name)?)
 }
 
 /// Why the last dial has failed.

@@ -39,6 +39,8 @@ struct State {
     creation: u32,
     /// How many pages found no room here.
     lost: u64,
+    /// Whether the file took what it was given last.
+    may_write: bool,
     life: Option<EndedLife>,
     is_closing: bool,
     has_ended: bool,
@@ -108,6 +110,7 @@ impl<'a> Closer<'a> {
                 later: PageQueue::new(alloc, most),
                 creation,
                 lost: 0,
+                may_write: true,
                 life: None,
                 is_closing: false,
                 has_ended: false,
@@ -136,6 +139,16 @@ impl<'a> Closer<'a> {
         drop(state);
         self.moved.notify_all();
         true
+    }
+
+    /// Whether as many pages as are handed out at once find room. Where the file takes none the oldest make room.
+    pub fn has_room<R: Wait>(&self, rt: &R) -> bool {
+        if self.archive.is_none() {
+            return true;
+        }
+        let state = self.state.lock(rt);
+        let waiting = state.pages.len().max(state.later.len());
+        !state.may_write || waiting <= self.most.saturating_sub(FEWEST)
     }
 
     /// Waits until the last life that was put in is closed, and let go: whether that took a wait.
@@ -169,6 +182,7 @@ impl<'a> Closer<'a> {
         let (mut state, _) = self.moved.wait_timeout_while(rt, state, rest, |state| {
             (state.pages.len() == 0 || !may_write) && state.life.is_none() && !state.has_ended
         });
+        state.may_write = may_write;
         state.next(may_write)
     }
 
@@ -210,8 +224,8 @@ impl<'a> Closer<'a> {
         let lost = self.take_lost(rt);
         let mut archive = archive.lock(rt);
         archive.count_lost(lost.saturating_mul(PAGE));
-        archive.reopen(rt, hub.alloc, hub.keeping.reopens(), &hub.log);
-        let may_write = archive.flush(rt, hub.alloc, &hub.log);
+        let is_open = archive.reopen(rt, hub.alloc, hub.keeping.reopens(), &hub.log);
+        let may_write = is_open && archive.flush(rt, hub.alloc, &hub.log);
         archive.tell(&hub.keeping);
         may_write
     }

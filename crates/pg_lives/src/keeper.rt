@@ -26,10 +26,11 @@ pub fn keep_on<R: Wait + Clock>(rt: &R, hub: &Hub, closer: &Closer<'_>) {
     unreachable!()
 }
 
-/// Takes out what there is.
+/// Takes out what there is, but what finds no room in front of the file and may stay.
 fn keep<R: Wait + Clock>(rt: &R, hub: &Hub, closer: &Closer<'_>) {
     for _ in 0..u64::MAX {
-        if !closer.take_pages(rt, hub) {
+        let may_take = closer.has_room(rt) || !hub.may_keep_more(rt);
+        if !may_take || !closer.take_pages(rt, hub) {
             break;
         }
         hub.lighten(rt);

@@ -109,16 +109,16 @@ fn start_dials<'s, E: 's, R: Host + 's>(
 
 /// What a life was last looked at for beside its node.
 #[derive(Clone, Copy, PartialEq, Eq)]
-struct Seen {
+struct Noticed {
     met: Met,
     /// How often the peers to dial have changed.
     changes: u64,
     is_draining: bool,
 }
 
-impl Seen {
-    fn now(hub: &Hub, lanes: &Lanes<'_>) -> Seen {
-        Seen {
+impl Noticed {
+    fn now(hub: &Hub, lanes: &Lanes<'_>) -> Noticed {
+        Noticed {
             met: lanes.met(),
             changes: hub.targets.changes(),
             is_draining: hub.is_draining(),
@@ -136,7 +136,7 @@ fn wait_for_end<'s, E: 's, R: Host + 's>(
     mut dialled: u64,
 ) {
     let hub = site.hub;
-    let mut seen = Seen {
+    let mut seen = Noticed {
         met: Met::NOTHING,
         changes: 0,
         is_draining: false,
@@ -144,10 +144,10 @@ fn wait_for_end<'s, E: 's, R: Host + 's>(
     for _ in rt.forever() {
         let shared = hub.node.shared.lock(rt);
         let shared = hub.node.moved.wait_while(rt, shared, |shared| {
-            !hub.is_quitting() && !hub.is_ending(shared) && Seen::now(hub, lanes) == seen
+            !hub.is_quitting() && !hub.is_ending(shared) && Noticed::now(hub, lanes) == seen
         });
         drop(shared);
-        let now = Seen::now(hub, lanes);
+        let now = Noticed::now(hub, lanes);
         if now == seen {
             return;
         }
@@ -182,7 +182,7 @@ fn warn<R: Wait + Clock>(rt: &R, hub: &Hub, told: Met, met: Met) {
     if met.native_nodes != told.native_nodes {
         hub.log.warn(rt, "no_stock_node", NATIVE);
     }
-    if met.untold != told.untold {
+    if met.refused_atoms != told.refused_atoms {
         hub.log.warn(rt, "too_many_atoms", ATOMS);
     }
     if met.early_ends != told.early_ends || met.failed_dials != told.failed_dials {
@@ -201,7 +201,7 @@ fn warn_of_dials<R: Wait + Clock>(rt: &R, hub: &Hub) {
 
 /// Says why a peer isn't up, and once that its links end early.
 fn warn_of_dial<R: Wait + Clock>(rt: &R, hub: &Hub, target: &Target) {
-    let peer = str::from_utf8(target.peer().as_bytes()).unwrap_or("");
+    let peer = target.peer().as_str();
     if let Some(fault) = target.take_fault(rt) {
         let fields = [
             text("peer", peer),

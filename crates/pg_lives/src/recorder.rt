@@ -56,14 +56,26 @@ impl<'a> Recorder<'a> {
         self.archive.begin(life)
     }
 
-    /// Opens the file anew, if that was asked for so often and isn't done.
-    pub fn reopen<R: Wait + Clock>(&mut self, rt: &R, alloc: Global, times: u32, log: &Log) {
+    /// Opens the file anew, if that was asked for so often and isn't done: whether nothing is left of that.
+    pub fn reopen<R: Wait + Clock>(
+        &mut self,
+        rt: &R,
+        alloc: Global,
+        times: u32,
+        log: &Log,
+    ) -> bool {
         if self.reopened == times {
-            return;
+            return true;
         }
-        self.reopened = times;
-        if let Err(error) = self.archive.reopen() {
-            self.say(rt, alloc, &error, log);
+        match self.archive.reopen() {
+            Ok(()) => {
+                self.reopened = times;
+                true
+            }
+            Err(error) => {
+                self.say(rt, alloc, &error, log);
+                false
+            }
         }
     }
 
@@ -140,9 +152,10 @@ impl<'a> Recorder<'a> {
         keeping.note_archived(self.archive.archived(), self.archive.lost());
     }
 
-    /// An error where entries are lost.
+    /// An error where entries are lost, one among them of which the file has a part.
     pub fn check(&self) -> Result<()> {
-        let (path, lost) = (self.path, self.archive.lost());
+        let waiting = self.archive.waiting() as u64;
+        let (path, lost) = (self.path, self.archive.lost().saturating_add(waiting));
         if lost > 0 {
             bail!("--audit: {path:.60}: {lost} entries are not in the file");
         }
