@@ -27,20 +27,22 @@ impl Wanted {
 
 /// What kind of text an answer is.
 #[derive(Clone, Copy, Debug, PartialEq, Eq)]
-pub enum Kind {
+pub enum ContentKind {
     Html,
     Metrics,
     Json,
     Plain,
 }
 
-impl Kind {
+impl ContentKind {
     fn value(self) -> HeaderValue {
         match self {
-            Kind::Html => HeaderValue::from_static("text/html; charset=utf-8"),
-            Kind::Metrics => HeaderValue::from_static("text/plain; version=0.0.4; charset=utf-8"),
-            Kind::Json => HeaderValue::from_static("application/json"),
-            Kind::Plain => HeaderValue::from_static("text/plain; charset=utf-8"),
+            ContentKind::Html => HeaderValue::from_static("text/html; charset=utf-8"),
+            ContentKind::Metrics => HeaderValue::from_static(
+                "text/plain; version=0.0.4; charset=utf-8",
+            ),
+            ContentKind::Json => HeaderValue::from_static("application/json"),
+            ContentKind::Plain => HeaderValue::from_static("text/plain; charset=utf-8"),
         }
     }
 }
@@ -49,11 +51,10 @@ impl Kind {
 /// kind, or runs or loads anything for it, and its connection ends behind it.
 pub fn say(
     status: StatusCode,
-    kind: Kind,
-    text: Vec<u8>,
+    kind: ContentKind,
+    text: Bytes,
     response: &mut Response,
 ) -> Result<(), AllocError> {
-    let text = Bytes::from_vec(text)?;
     response.status = status;
     response.body.push(text)?;
     add(header::CONTENT_TYPE, kind.value(), response)?;
@@ -80,14 +81,7 @@ pub fn say_line(
     response: &mut Response,
 ) -> Result<(), AllocError> {
     let text = Bytes::from_static(line.as_bytes());
-    response.status = status;
-    response.body.push(text)?;
-    add(header::CONTENT_TYPE, Kind::Plain.value(), response)?;
-    add(
-        header::CONNECTION,
-        HeaderValue::from_static("close"),
-        response,
-    )
+    say(status, ContentKind::Plain, text, response)
 }
 
 /// Says that only GET and HEAD are taken.

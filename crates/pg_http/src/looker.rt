@@ -1,10 +1,10 @@
 //! Who answers the requests of a connection.
-use crate::answers::{Kind, Wanted, refuse_method, say, say_line};
+use crate::answers::{ContentKind, Wanted, refuse_method, say, say_line};
 use bytes::Bytes;
 use http::{Request, StatusCode};
 use http_server::{Response, Service};
 use pg_hub::Hub;
-use pg_page::{Health, NodeView, Sheet, put_metrics, put_page, status_json};
+use pg_page::{NodeView, Sheet, put_metrics, put_page, status_json};
 use std::alloc::{AllocError, Global};
 use std::sync::Wait;
 use std::time::Clock;
@@ -46,8 +46,7 @@ fn answer<R: Wait + Clock>(
 }
 
 fn say_health<R: Wait>(rt: &R, hub: &Hub, response: &mut Response) -> Result<(), AllocError> {
-    let (is_draining, wants_memory) = hub.is_ill(rt);
-    let health = Health::of(is_draining, wants_memory);
+    let health = hub.health(rt);
     let status = StatusCode::from_u16(health.status()).unwrap_or(StatusCode::INTERNAL_SERVER_ERROR);
     say_line(status, health.line(), response)
 }
@@ -63,12 +62,13 @@ fn say_view<R: Wait + Clock>(
         return Err(AllocError);
     };
     let (kind, written) = match wanted {
-        Wanted::Metrics => (Kind::Metrics, metrics(hub.alloc, &view)),
-        Wanted::Status => (Kind::Json, status_json(hub.alloc, &view)),
-        _ => (Kind::Html, page(hub.alloc, &view)),
+        Wanted::Metrics => (ContentKind::Metrics, metrics(hub.alloc, &view)),
+        Wanted::Status => (ContentKind::Json, status_json(hub.alloc, &view)),
+        _ => (ContentKind::Html, page(hub.alloc, &view)),
     };
     drop(view);
-    say(StatusCode::OK, kind, written?, response)
+    let text = Bytes::from_vec(written?)?;
+    say(StatusCode::OK, kind, text, response)
 }
 
 fn metrics(alloc: Global, view: &NodeView) -> Result<Vec<u8>, AllocError> {

@@ -4,7 +4,7 @@ use crate::looker::Looker;
 use crate::refusing::{hang_up, say_full};
 use crate::visitors::Visitor;
 use http_server::{Config, Connection};
-use pg_hub::Hub;
+use pg_hub::{Hub, Taking};
 use std::hash::RandomState;
 use std::io::{self, ErrorKind};
 use std::net::TcpStream;
@@ -15,9 +15,6 @@ use std::time::{Clock, Duration, Instant};
 
 /// The milliseconds that a connection has, however slowly who asks writes and reads.
 const PATIENCE: u64 = 10_000;
-
-/// The milliseconds of rest after a connection that couldn't be taken.
-const REST: u64 = 100;
 
 /// The bytes of the longest body of a request: none is looked at.
 const BODY: usize = 1_024;
@@ -43,32 +40,21 @@ fn serve_pages<R: Threads + Wait + Clock + Sync>(rt: &R, hub: &Hub, entrance: &P
     });
 }
 
-/// Takes connections until the program is to end. Where none can be taken it rests, and says so for
-/// the first time.
+/// Takes connections until the program is to end.
 fn take_all<'s, E: 's, R: Threads + Wait + Clock + Sync + 's>(
     scope: &'s Scope<'s, E>,
     rt: &'s R,
     hub: &'s Hub,
     entrance: &'s PageEntrance,
 ) {
-    let mut has_failed = false;
+    let mut taking = Taking::of("page");
     for _ in rt.forever() {
         let accepted = entrance.listener.accept();
         if hub.is_quitting() {
             return;
         }
-        match accepted {
-            Ok((stream, _)) => {
-                has_failed = false;
-                take_in(scope, rt, hub, entrance, stream);
-            }
-            Err(error) => {
-                if !has_failed {
-                    hub.log_untaken(rt, "page", &error);
-                }
-                has_failed = true;
-                thread::sleep(rt, Duration::from_millis(REST));
-            }
+        if let Some((stream, _)) = taking.taken(rt, hub, accepted) {
+            take_in(scope, rt, hub, entrance, stream);
         }
     }
 }

@@ -17,6 +17,7 @@ struct Streams {
     are_ended: bool,
 }
 
+/// The connections that are served, until the end.
 #[derive(Drop)]
 pub struct Visitors {
     streams: Mutex<Streams>,

@@ -1,13 +1,4 @@
 //! A node of process groups, linked with others over TCP, that plays commands from standard input and from a control socket.
-//!
-//! - hub: what all threads of the node share: the node behind its lock, and the house.
-//! - house: the passes of the node that no lane has. Its seats are those of connections; the keeper's pass says what a life is told.
-//! - seat: what a connection has of the node; standard input has one, and each client.
-//! - desk: a connection at its seat: a thread answers its lines, another tells its news.
-//! - door: the control socket at its path, where clients connect. Arrivals: the address where peers connect.
-//! - lane: two passes that serve one link after another; a node has 64.
-//! - life: a node from an empty audit until that is nearly full. Turn: the exchange of one life for the next.
-//! - crowd: those that wait for an answer. Roster: who is up, for connections to come. Reserve: memory that is kept for a turn.
 #![tactic(auto)]
 
 mod otp_place;
@@ -16,7 +7,7 @@ mod run;
 mod threads;
 
 use clap::ArgMatches;
-use command_line::{failed, matched, told, words};
+use command_line::{failed, held_streams, matched, told, words};
 use pg_options::{Fault, Options, command, read_options, with_config};
 use pg_streams::{read_input, write_output, write_warnings};
 use rand_chacha::ChaCha20Rng;
@@ -53,6 +44,7 @@ struct Ready<'a> {
 /// Status 0 at the end of standard input or at `quit`, 1 at a fault of a file, a socket or standard output, or for want of memory,
 /// 2 at one of the command line.
 fn main(rt: HostRuntime) -> ExitCode {
+    let _streams = held_streams(&rt);
     let alloc = rt.alloc();
     let words = match words(&rt) {
         Ok(words) => words,

@@ -1,12 +1,13 @@
 //! Where stock nodes of Erlang/OTP connect, and how the node is registered with EPMD so that they
 //! find it.
+use crate::places::{Listening, listen_at};
 use crate::threads::Queues;
-use anyhow::{Error, Result, anyhow};
-use dist_types::{NodeName, OutOfMemory};
-use epmd::{Alive, AskFault, NodeKind, halves, register};
-use node_net::{Arrivals, Kind};
+use anyhow::{Result, bail};
+use dist_types::NodeName;
+use epmd::{Alive, AskFault, NodeKind, register};
+use node_net::{Arrivals, PeerKind};
 use pg_hub::{Host, Hub};
-use pg_log::{Level, number, text};
+use pg_log::{Level, Log, number, text};
 use pg_options::OtpOptions;
 use std::alloc::Global;
 use std::io::{self, ErrorKind, Read};
@@ -17,6 +18,9 @@ use std::time::{Clock, Duration};
 
 /// The milliseconds before EPMD is tried again, as a stock node does it.
 const REST: u64 = 2_000;
+
+/// The milliseconds for a connect to EPMD, which is on this machine: nothing can end it sooner.
+const CONNECT: u64 = 500;
 
 /// The milliseconds that EPMD has for its answer.
 const ANSWER: u64 = 7_000;
@@ -45,26 +49,27 @@ pub fn open_otp<R: Host>(
     options: OtpOptions<'_>,
     name: &NodeName,
     queues: &Queues,
+    log: &Log,
 ) -> Result<Option<OtpPlace>> {
     let Some(place) = options.listen else {
         return Ok(None);
     };
-    let listener = TcpListener::bind(rt, place).map_err(|error| unbound(place, error))?;
-    let address = listener.local_addr()?;
-    let line = format!(in alloc; "otp-listening {address}\n")?;
-    queues.streams().output.put(rt, line.as_bytes())?;
+    let at = Listening {
+        option: "--otp-listen",
+        word: "otp-listening",
+        place,
+        kind: options.kind,
+    };
+    let arrivals = listen_at(rt, alloc, at, queues, log)?;
+    let port = arrivals.address()?.port();
     let registration = match options.epmd {
-        Some(epmd) => Some(Registration::new(alloc, name, options.kind, address.port(), epmd)?),
+        Some(epmd) => Some(Registration::new(alloc, name, options.kind, port, epmd)?),
         None => None,
     };
     Ok(Some(OtpPlace {
-        arrivals: Arrivals::of_kind(listener, options.kind).map_err(|error| unbound(place, error))?,
+        arrivals,
         registration,
     }))
-}
-
-fn unbound(place: &str, error: io::Error) -> Error {
-    anyhow!("--otp-listen: {place:.60}: {error}")
 }
 
 /// What lies behind the lock.
@@ -94,19 +99,18 @@ impl Registration {
     fn new(
         alloc: Global,
         name: &NodeName,
-        kind: Kind,
+        kind: PeerKind,
         port: u16,
         epmd: u16,
-    ) -> Result<Registration, OutOfMemory> {
-        let front = match halves(name.as_bytes()) {
-            Some((front, _)) => front,
-            None => name.as_bytes(),
+    ) -> Result<Registration> {
+        let Some((front, _)) = name.as_str().split_once('@') else {
+            bail!("--epmd: the node's name has no host");
         };
         Ok(Registration {
             alloc,
-            name: String::from_str(alloc, str::from_utf8(front).unwrap_or(""))?,
+            name: String::from_str(alloc, front)?,
             kind: match kind {
-                Kind::Visible => NodeKind::Normal,
+                PeerKind::Visible => NodeKind::Normal,
                 _ => NodeKind::Hidden,
             },
             port,
@@ -146,11 +150,12 @@ impl Registration {
                     self.log_registered(rt, hub);
                     self.hold(rt, &stream);
                 }
-                Err(fault) if !is_told => {
+                Err(fault) => {
+                    if !is_told && !self.has_ended(rt) {
+                        self.log_fault(rt, hub, &fault);
+                    }
                     is_told = true;
-                    self.log_fault(rt, hub, &fault);
                 }
-                Err(_) => {}
             }
             if self.rest(rt) {
                 return;
@@ -174,19 +179,32 @@ impl Registration {
         R: Net<Listener = TcpListener, Stream = TcpStream> + Wait,
     {
         let stream = self.connect(rt)?;
+        let Ok(stream) = Arc::new(self.alloc, stream) else {
+            return Err(AskFault::Stream(ErrorKind::OutOfMemory));
+        };
+        self.enter(rt, &stream)?;
         let alive = Alive {
             port: self.port,
             kind: self.kind,
             name: self.name.as_bytes(),
         };
-        register(self.alloc, &mut &stream, &alive)?;
+        register(self.alloc, &mut &*stream, &alive)?;
         stream.set_read_timeout(None)?;
-        let Ok(stream) = Arc::new(self.alloc, stream) else {
+        Ok(stream)
+    }
+
+    /// Enters the connection before anything is awaited of it, so that the end shuts it. An error
+    /// after the end.
+    fn enter<R: Wait>(&self, rt: &R, stream: &Arc<TcpStream>) -> Result<(), AskFault> {
+        let Ok(copy) = Arc::try_clone(stream) else {
             return Err(AskFault::Stream(ErrorKind::OutOfMemory));
         };
         let mut state = self.state.lock(rt);
-        state.stream = Arc::try_clone(&stream).ok();
-        Ok(stream)
+        if state.has_ended {
+            return Err(AskFault::Stream(ErrorKind::Interrupted));
+        }
+        state.stream = Some(copy);
+        Ok(())
     }
 
     /// Connects to EPMD on this machine.
@@ -196,7 +214,7 @@ impl Registration {
     {
         let time = Duration::from_millis(ANSWER);
         let address = SocketAddr::V4(SocketAddrV4::new(Ipv4Addr::LOCALHOST, self.epmd));
-        let stream = TcpStream::connect_timeout(rt, &address, time)?;
+        let stream = TcpStream::connect_timeout(rt, &address, Duration::from_millis(CONNECT))?;
         stream.set_read_timeout(Some(time))?;
         stream.set_write_timeout(Some(time))?;
         Ok(stream)

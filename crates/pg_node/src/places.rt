@@ -1,7 +1,7 @@
 //! The places where peers and clients connect.
 use crate::threads::Queues;
 use anyhow::{Error, Result, anyhow};
-use node_net::Arrivals;
+use node_net::{Arrivals, PeerKind};
 use pg_control::{Door, DoorPlace};
 use pg_http::PageEntrance;
 use pg_hub::Host;
@@ -15,6 +15,9 @@ use std::net::{Net, TcpListener, TcpStream};
 use std::rt::HostRuntime;
 use std::sync::Wait;
 use std::time::Clock;
+
+/// What an address is warned of that all networks can reach.
+const OPEN: &str = "all networks can reach the node, and names and rows cross them in plain";
 
 /// Those that there are. They are open until the end of the program.
 #[derive(Drop)]
@@ -64,7 +67,7 @@ pub fn open_places<'a, R: Host + Files<File = File>>(
     log: &Log,
 ) -> Result<Places<'a>> {
     let arrivals = match listen {
-        Some(place) => Some(listen_at(rt, alloc, place, queues, log)?),
+        Some(place) => Some(listen_at(rt, alloc, of_program(place), queues, log)?),
         None => None,
     };
     Ok(Places {
@@ -75,38 +78,50 @@ pub fn open_places<'a, R: Host + Files<File = File>>(
     })
 }
 
-fn listen_at<R>(rt: &R, alloc: Global, place: &str, queues: &Queues, log: &Log) -> Result<Arrivals>
+/// Where nodes of this program connect.
+fn of_program(place: &str) -> Listening<'_> {
+    Listening {
+        option: "--listen",
+        word: "listening",
+        place,
+        kind: PeerKind::Native,
+    }
+}
+
+/// An address HOST:PORT where nodes connect.
+#[derive(Clone, Copy)]
+pub struct Listening<'a> {
+    /// The option that names it.
+    pub option: &'static str,
+    /// The word behind which it is printed.
+    pub word: &'static str,
+    pub place: &'a str,
+    pub kind: PeerKind,
+}
+
+/// Opens an address where nodes connect, and prints it.
+pub fn listen_at<R>(
+    rt: &R,
+    alloc: Global,
+    at: Listening<'_>,
+    queues: &Queues,
+    log: &Log,
+) -> Result<Arrivals>
 where
     R: Net<Listener = TcpListener, Stream = TcpStream> + Wait + Clock,
 {
-    let listener = TcpListener::bind(rt, place).map_err(|error| unbound(place, error))?;
-    announce(rt, alloc, &listener, queues, log)?;
-    Arrivals::new(listener).map_err(|error| unbound(place, error))
-}
-
-fn unbound(place: &str, error: io::Error) -> Error {
-    anyhow!("--listen: {place:.60}: {error}")
-}
-
-/// Prints where peers connect.
-fn announce<R: Wait + Clock>(
-    rt: &R,
-    alloc: Global,
-    listener: &TcpListener,
-    queues: &Queues,
-    log: &Log,
-) -> Result<()> {
-    let addr = listener.local_addr()?;
-    let line = format!(in alloc; "listening {addr}\n")?;
+    let listener = TcpListener::bind(rt, at.place).map_err(|error| unbound(at, error))?;
+    let address = listener.local_addr()?;
+    let line = format!(in alloc; "{} {address}\n", at.word)?;
     queues.streams().output.put(rt, line.as_bytes())?;
-    if addr.ip().is_unspecified() {
-        log.warn(
-            rt,
-            "open",
-            "all networks can reach the node, and names and rows cross them in plain",
-        );
+    if address.ip().is_unspecified() {
+        log.warn(rt, "open", OPEN);
     }
-    Ok(())
+    Arrivals::new(listener, at.kind).map_err(|error| unbound(at, error))
+}
+
+fn unbound(at: Listening<'_>, error: io::Error) -> Error {
+    anyhow!("{}: {:.60}: {error}", at.option, at.place)
 }
 
 fn open_door<'a, R: Wait + Files<File = File> + Net + Clock>(

@@ -4,7 +4,7 @@ use crate::places::{Places, open_places};
 use crate::threads::Queues;
 use anyhow::{Result, bail};
 use dist_types::TryClone;
-use node_net::{Arrivals, Lane, Limits, Targets, start_taking};
+use node_net::{Arrivals, Lane, Limits, Notes, Targets, start_taking};
 use pg_control::{Operator, start_control, start_operator};
 use pg_http::start_pages;
 use pg_hub::{Host, Hub, HubSettings, Keeping, Memory, Readers, UntakenPeers};
@@ -92,7 +92,7 @@ pub fn run<R: Host + Files<File = File>>(
     let settings = given(alloc, allowed, cookies)?;
     let (hub, lanes) = maker.begin(rt, alloc, hub_settings, settings)?;
     hub.notes.edges.set_parts(in_parts);
-    let otp_place = open_otp(rt, alloc, otp, &name, queues)?;
+    let otp_place = open_otp(rt, alloc, otp, &name, queues, &log)?;
     let places = open_places(rt, files, alloc, listen, faces, queues, &log)?;
     log_begin(rt, &hub);
     let program = Program {
@@ -124,6 +124,7 @@ fn hub_settings(
         last_entry,
         keeping,
         readers: Readers::new(alloc, seats)?,
+        notes: Notes::new(alloc)?,
         version: VERSION,
         log: Arc::try_clone(log)?,
         targets,
@@ -170,8 +171,7 @@ fn open_closer<'a, R: Wait + Clock>(
 fn log_begin<R: Wait + Clock>(rt: &R, hub: &Hub) {
     let shared = hub.node.shared.lock(rt);
     let core = shared.core();
-    let name = str::from_utf8(core.name().as_bytes()).unwrap_or("");
-    let fields = begun_fields(name, core.creation());
+    let fields = begun_fields(core.name().as_str(), core.creation());
     hub.log.tell(rt, Level::Info, "begun", &fields);
 }
 
@@ -198,7 +198,7 @@ fn serve<R: Host>(
         ..
     } = program;
     let site = program.site();
-    let Some((seat, seen)) = hub.enter(rt) else {
+    let Some((seat, seen)) = hub.enter(rt, 0) else {
         bail!("out of memory");
     };
     let operator = Operator::new(hub, seat, streams, places.door.is_none());

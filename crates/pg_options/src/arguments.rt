@@ -1,5 +1,6 @@
 //! The arguments of the program, for the parser.
 use crate::stock::otp_arguments;
+use crate::usual::{CLIENTS, ENTRIES, FORMAT, LEVEL, LINKS, SETUP, TICK};
 use clap::{Arg, ArgAction, Command, Error as ClapError, value_parser};
 use std::alloc::Global;
 
@@ -19,7 +20,7 @@ Commands, one a line, on standard input and on each control connection; a word w
   others     size | audit ENTRY | help | quit | drain
 
 Example:
-  pg_node b@h --cookie-file cookie --listen 127.0.0.1:4369 --control node.sock
+  pg_node b@h --cookie-file cookie --listen 127.0.0.1:4001 --control node.sock
 
 Status: 0 at the end of standard input, at quit or at drain; 1 at a fault of a file, a socket or standard output, or for want of memory;
 2 at a fault of the command line. docs/FORMATS.md has the answers.";
@@ -69,12 +70,12 @@ fn node_arguments<'a>(alloc: Global, command: Command<'a>) -> Result<Command<'a>
 
 fn log_arguments<'a>(alloc: Global, command: Command<'a>) -> Result<Command<'a>, ClapError> {
     let format = "How the node logs what it decides, on standard error: text, json or none";
-    let format = text(alloc, "log", "FORMAT", format).default_value("text");
+    let format = text(alloc, "log", "FORMAT", format).default_value(FORMAT);
     let command = with(command, format)?;
     let level = "The least level that is logged: error, warn or info";
     with(
         command,
-        text(alloc, "log-level", "LEVEL", level).default_value("info"),
+        text(alloc, "log-level", "LEVEL", level).default_value(LEVEL),
     )
 }
 
@@ -99,7 +100,7 @@ fn entries<'a>(alloc: Global) -> Arg<'a> {
         .value_name("N")
         .help("How many entries the node keeps, at least 64; older ones go to the archive")
         .value_parser(value_parser!(u32).range(64..))
-        .default_value("100000")
+        .default_value(ENTRIES.word)
 }
 
 /// For tests: the node begins anew before its entries come to this number.
@@ -127,7 +128,7 @@ fn links<'a>(alloc: Global) -> Arg<'a> {
         .value_name("N")
         .help("The highest version of link messages that the node knows, 1 or 2")
         .value_parser(value_parser!(u8).range(1..3))
-        .default_value("1")
+        .default_value(LINKS.word)
 }
 
 fn clients<'a>(alloc: Global) -> Arg<'a> {
@@ -136,7 +137,7 @@ fn clients<'a>(alloc: Global) -> Arg<'a> {
         .value_name("N")
         .help("The most clients of the control socket at once, up to 126")
         .value_parser(value_parser!(u32).range(1..127))
-        .default_value("100")
+        .default_value(CLIENTS.word)
 }
 
 fn link_arguments<'a>(alloc: Global, command: Command<'a>) -> Result<Command<'a>, ClapError> {
@@ -147,9 +148,9 @@ fn link_arguments<'a>(alloc: Global, command: Command<'a>) -> Result<Command<'a>
     let command = otp_arguments(alloc, command)?;
     let command = with(command, links(alloc))?;
     let setup = "For a whole handshake";
-    let command = with(command, millis(alloc, "setuptime", "7000", setup))?;
+    let command = with(command, millis(alloc, "setuptime", SETUP.word, setup))?;
     let tick = "A link is lost that is silent for so long";
-    with(command, millis(alloc, "ticktime", "60000", tick))
+    with(command, millis(alloc, "ticktime", TICK.word, tick))
 }
 
 fn face_arguments<'a>(alloc: Global, command: Command<'a>) -> Result<Command<'a>, ClapError> {

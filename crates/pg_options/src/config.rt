@@ -1,6 +1,6 @@
 //! A file of settings: the options' names as keys, in TOML. What the command line says goes first.
 use crate::fault::{Fault, failed, misused};
-use crate::keys::{Kind, kind_of, pair_of};
+use crate::keys::{ValueKind, kind_of, pair_of};
 use anyhow::{Error as Reason, anyhow};
 use clap::ArgMatches;
 use clap::parser::ValueSource;
@@ -145,34 +145,34 @@ fn is_given(matches: &ArgMatches<'_>, key: &str) -> bool {
 }
 
 /// Whether a value is of this kind.
-fn check(kind: Kind, value: &Value) -> Result<(), Unset> {
+fn check(kind: ValueKind, value: &Value) -> Result<(), Unset> {
     match (kind, value) {
-        (Kind::Text, Value::String(_))
-        | (Kind::Number, Value::Integer(_))
-        | (Kind::Switch, Value::Boolean(_)) => Ok(()),
-        (Kind::Texts, Value::Array(items)) if items.iter().all(Value::is_str) => Ok(()),
+        (ValueKind::Text, Value::String(_))
+        | (ValueKind::Number, Value::Integer(_))
+        | (ValueKind::Switch, Value::Boolean(_)) => Ok(()),
+        (ValueKind::Texts, Value::Array(items)) if items.iter().all(Value::is_str) => Ok(()),
         _ => Err(Unset::Wrong(kind.wanted())),
     }
 }
 
 fn add_value(
     alloc: Global,
-    kind: Kind,
+    kind: ValueKind,
     key: &str,
     value: &Value,
     words: &mut Vec<String>,
 ) -> Result<(), Unset> {
     match (kind, value) {
-        (Kind::Text, Value::String(text)) => add_text(alloc, key, text.as_str(), words)?,
-        (Kind::Number, Value::Integer(number)) => {
+        (ValueKind::Text, Value::String(text)) => add_text(alloc, key, text.as_str(), words)?,
+        (ValueKind::Number, Value::Integer(number)) => {
             words.push(format!(in alloc; "--{key}={number}")?)?;
         }
-        (Kind::Switch, Value::Boolean(true)) => words.push(format!(in alloc; "--{key}")?)?,
-        (Kind::Switch, Value::Boolean(false)) => {}
-        (Kind::Texts, Value::Array(items)) if key == "allow" && items.is_empty() => {
+        (ValueKind::Switch, Value::Boolean(true)) => words.push(format!(in alloc; "--{key}")?)?,
+        (ValueKind::Switch, Value::Boolean(false)) => {}
+        (ValueKind::Texts, Value::Array(items)) if key == "allow" && items.is_empty() => {
             return Err(Unset::Wrong("an empty list would let all peers in"));
         }
-        (Kind::Texts, Value::Array(items)) => return add_texts(alloc, key, items, words),
+        (ValueKind::Texts, Value::Array(items)) => return add_texts(alloc, key, items, words),
         _ => return Err(Unset::Wrong(kind.wanted())),
     }
     Ok(())
@@ -186,7 +186,7 @@ fn add_texts(
 ) -> Result<(), Unset> {
     for item in items {
         let Some(text) = item.as_str() else {
-            return Err(Unset::Wrong(Kind::Texts.wanted()));
+            return Err(Unset::Wrong(ValueKind::Texts.wanted()));
         };
         add_text(alloc, key, text, words)?;
     }

@@ -18,7 +18,7 @@ pub fn own_cookie<R: Files>(
     matches: &ArgMatches<'_>,
 ) -> Result<Cookie, Fault> {
     match (matches.get_str("cookie-file"), matches.get_str("cookie")) {
-        (Some(path), None) => read_cookie(rt, alloc, path),
+        (Some(path), None) => read_cookie(rt, alloc, "--cookie-file", path),
         (None, Some(text)) => Cookie::parse(alloc, text.as_bytes()).map_err(|fault| misused(anyhow!(
             "--cookie: {fault}"
         ))),
@@ -30,17 +30,17 @@ pub fn own_cookie<R: Files>(
 }
 
 /// The cookie in a file, which ends with its first line. Others than the owner and the group, which may read it, may have no right
-/// to the file.
-fn read_cookie<R: Files>(rt: &R, alloc: Global, path: &str) -> Result<Cookie, Fault> {
-    let mode = mode_of(rt, path).map_err(|error| unread(path, error))?;
+/// to the file. A fault names the option.
+fn read_cookie<R: Files>(rt: &R, alloc: Global, option: &str, path: &str) -> Result<Cookie, Fault> {
+    let mode = mode_of(rt, path).map_err(|error| unread(option, path, error))?;
     if mode & OTHERS != 0 {
         return Err(failed(anyhow!(
-            "{path:.60}: others can read this file of a cookie, or its group write it (chmod 600)"
+            "{option}: {path:.60}: others can read this file, or its group write it (chmod 600)"
         )));
     }
     match fs::read(&(rt, alloc), path) {
-        Ok(text) => parse_cookie(alloc, path, text.as_slice()),
-        Err(error) => Err(unread(path, error)),
+        Ok(text) => parse_cookie(alloc, option, path, text.as_slice()),
+        Err(error) => Err(unread(option, path, error)),
     }
 }
 
@@ -48,13 +48,13 @@ fn mode_of<R: Files>(rt: &R, path: &str) -> io::Result<u32> {
     Ok(fs::metadata(rt, path)?.permissions().mode())
 }
 
-fn unread(path: &str, error: io::Error) -> Fault {
-    failed(anyhow!("{path:.80}: {error}"))
+fn unread(option: &str, path: &str, error: io::Error) -> Fault {
+    failed(anyhow!("{option}: {path:.80}: {error}"))
 }
 
-fn parse_cookie(alloc: Global, path: &str, text: &[u8]) -> Result<Cookie, Fault> {
+fn parse_cookie(alloc: Global, option: &str, path: &str, text: &[u8]) -> Result<Cookie, Fault> {
     Cookie::parse(alloc, first_line(text)).map_err(|fault| failed(anyhow!(
-        "{path:.60}: the cookie: {fault}"
+        "{option}: {path:.60}: {fault}"
     )))
 }
 
@@ -84,5 +84,5 @@ fn cookie_for<R: Files>(rt: &R, alloc: Global, word: &str) -> Result<(NodeName, 
         return Err(misused(anyhow!("--cookie-for: no NAME=FILE: {word:.60}")));
     };
     let peer = name(alloc, "--cookie-for", peer)?;
-    Ok((peer, read_cookie(rt, alloc, path)?))
+    Ok((peer, read_cookie(rt, alloc, "--cookie-for", path)?))
 }

@@ -2,7 +2,7 @@
 
 /// What an option takes.
 #[derive(Clone, Copy, Debug, PartialEq, Eq)]
-pub enum Kind {
+pub enum ValueKind {
     Text,
     /// May be given more than once.
     Texts,
@@ -11,20 +11,20 @@ pub enum Kind {
     Switch,
 }
 
-impl Kind {
+impl ValueKind {
     /// What is said where a key has another value.
     pub fn wanted(self) -> &'static str {
         match self {
-            Kind::Text => "not a text between quotes",
-            Kind::Texts => "not a list of texts between quotes",
-            Kind::Number => "not a whole number",
-            Kind::Switch => "not true or false",
+            ValueKind::Text => "not a text between quotes",
+            ValueKind::Texts => "not a list of texts between quotes",
+            ValueKind::Number => "not a whole number",
+            ValueKind::Switch => "not true or false",
         }
     }
 }
 
 /// What the option of this name takes, if there is one.
-pub fn kind_of(name: &str) -> Option<Kind> {
+pub fn kind_of(name: &str) -> Option<ValueKind> {
     match name {
         "cookie-file"
         | "cookie"
@@ -37,8 +37,8 @@ pub fn kind_of(name: &str) -> Option<Kind> {
         | "audit"
         | "log"
         | "log-level"
-        | "http" => Some(Kind::Text),
-        "cookie-for" | "allow" | "dial" | "otp-dial" => Some(Kind::Texts),
+        | "http" => Some(ValueKind::Text),
+        "cookie-for" | "allow" | "dial" | "otp-dial" => Some(ValueKind::Texts),
         "audit-size"
         | "clients"
         | "creation"
@@ -47,8 +47,8 @@ pub fn kind_of(name: &str) -> Option<Kind> {
         | "last-entry"
         | "links"
         | "setuptime"
-        | "ticktime" => Some(Kind::Number),
-        "hidden" | "http-anywhere" | "otp-visible" => Some(Kind::Switch),
+        | "ticktime" => Some(ValueKind::Number),
+        "hidden" | "http-anywhere" | "otp-visible" => Some(ValueKind::Switch),
         _ => None,
     }
 }

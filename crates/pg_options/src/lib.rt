@@ -9,6 +9,7 @@ mod fault;
 mod keys;
 mod options;
 mod stock;
+mod usual;
 
 pub use arguments::{VERSION, command};
 pub use config::with_config;

@@ -3,6 +3,7 @@ use crate::cookies::{cookies, own_cookie};
 use crate::faces::{Faces, read_faces};
 use crate::fault::{Fault, misused};
 use crate::stock::{OtpOptions, add_stock, read_otp};
+use crate::usual::{CLIENTS, ENTRIES, FORMAT, LEVEL, LINKS, SETUP, TICK, Usual};
 use anyhow::anyhow;
 use clap::ArgMatches;
 use dist_types::{Cookie, NodeName};
@@ -15,17 +16,8 @@ use std::fs::Files;
 use std::sync::Arc;
 use std::time::Duration;
 
-/// How many entries the node keeps, where no number is given.
-const ENTRIES: u32 = 100_000;
-
 /// The fewest numbers of entries: room for what a new life of the node says first, and for its last sixteenth.
 const FEWEST: u32 = 64;
-
-/// The version of link messages that a node knows, where none is given.
-const LINKS: u8 = 1;
-
-/// The most clients of the control socket at once, where no number is given.
-const CLIENTS: u32 = 100;
 
 /// What the program runs with.
 #[derive(Drop)]
@@ -76,8 +68,8 @@ pub fn read_options<'a, R: Files>(
         allowed,
         cookies,
         faces: read_faces(matches)?,
-        clients: matches.get_one::<u32>("clients").unwrap_or(CLIENTS),
-        entries: matches.get_one::<u32>("entries").unwrap_or(ENTRIES),
+        clients: matches.get_one::<u32>("clients").unwrap_or(CLIENTS.number),
+        entries: matches.get_one::<u32>("entries").unwrap_or(ENTRIES.number),
         audit,
         audit_size,
         log: log_options(matches)?,
@@ -121,7 +113,7 @@ fn opening<R: Files>(
             .get_one::<u32>("last-entry")
             .unwrap_or(u32::MAX)
             .max(FEWEST),
-        links: matches.get_one::<u8>("links").unwrap_or(LINKS),
+        links: matches.get_one::<u8>("links").unwrap_or(LINKS.number),
     })
 }
 
@@ -138,8 +130,8 @@ fn archive<'a>(matches: &ArgMatches<'a>) -> Result<(Option<&'a str>, Option<u64>
 }
 
 fn log_options(matches: &ArgMatches<'_>) -> Result<LogOptions, Fault> {
-    let format = matches.get_str("log").unwrap_or("text");
-    let level = matches.get_str("log-level").unwrap_or("info");
+    let format = matches.get_str("log").unwrap_or(FORMAT);
+    let level = matches.get_str("log-level").unwrap_or(LEVEL);
     Ok(LogOptions {
         format: match format.parse() {
             Ok(format) => format,
@@ -212,13 +204,15 @@ fn target(alloc: Global, own: Option<&str>, word: &str) -> Result<Target, Fault>
 }
 
 fn limits(matches: &ArgMatches<'_>) -> Limits {
-    let millis = |name: &str, usual: u32| {
-        Duration::from_millis(u64::from(matches.get_one::<u32>(name).unwrap_or(usual)))
-    };
     Limits {
-        setup: millis("setuptime", 7_000),
-        tick: millis("ticktime", 60_000),
+        setup: millis(matches, "setuptime", SETUP),
+        tick: millis(matches, "ticktime", TICK),
     }
+}
+
+fn millis(matches: &ArgMatches<'_>, name: &str, usual: Usual<u32>) -> Duration {
+    let millis = matches.get_one::<u32>(name).unwrap_or(usual.number);
+    Duration::from_millis(u64::from(millis))
 }
 
 /// The name of a node that stands at this option.

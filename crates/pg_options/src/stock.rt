@@ -1,15 +1,10 @@
 //! How stock nodes of Erlang/OTP are linked.
 use crate::fault::{Fault, misused};
+use crate::usual::EPMD;
 use anyhow::anyhow;
 use clap::{Arg, ArgAction, ArgMatches, Command, Error as ClapError, value_parser};
-use node_net::{EpmdUse, Kind, Target, TargetFault, is_place};
+use node_net::{EpmdUse, PeerKind, Target, TargetFault, is_place};
 use std::alloc::Global;
-
-/// The port of EPMD where none is given.
-const EPMD: u16 = 4_369;
-
-/// The same as a word.
-const EPMD_WORD: &str = "4369";
 
 /// How stock nodes of Erlang/OTP are linked.
 #[derive(Clone, Copy, Debug, Drop)]
@@ -17,7 +12,7 @@ pub struct OtpOptions<'a> {
     /// HOST:PORT where they connect.
     pub listen: Option<&'a str>,
     /// Whether this node is among their nodes.
-    pub kind: Kind,
+    pub kind: PeerKind,
     /// The port of EPMD on this machine, where the node is to be registered.
     pub epmd: Option<u16>,
 }
@@ -49,7 +44,7 @@ fn epmd<'a>(alloc: Global) -> Arg<'a> {
         .help("Registers the node with EPMD on this machine, by its port; 4369 where none is given")
         .num_args(0..=1)
         .require_equals(true)
-        .default_missing_value(EPMD_WORD)
+        .default_missing_value(EPMD.word)
         .value_parser(value_parser!(u16).range(1..))
 }
 
@@ -68,11 +63,11 @@ pub fn read_otp<'a>(matches: &ArgMatches<'a>) -> Result<OtpOptions<'a>, Fault> {
     })
 }
 
-fn kind(matches: &ArgMatches<'_>) -> Kind {
+fn kind(matches: &ArgMatches<'_>) -> PeerKind {
     if matches.get_flag("otp-visible") {
-        Kind::Visible
+        PeerKind::Visible
     } else {
-        Kind::Hidden
+        PeerKind::Hidden
     }
 }
 
@@ -84,7 +79,7 @@ pub fn add_stock(
 ) -> Result<(), Fault> {
     let epmd = EpmdUse {
         kind: kind(matches),
-        port: matches.get_one::<u16>("epmd").unwrap_or(EPMD),
+        port: matches.get_one::<u16>("epmd").unwrap_or(EPMD.number),
     };
     for word in matches.get_strs("otp-dial").unwrap_or(&[]) {
         targets.push(target(alloc, matches.get_str("NAME"), word, epmd)?)?;

@@ -1,7 +1,7 @@
 -- What no text of others has once it is put.
-use Rattle.std.proofs.Common.{◌≢◌, ℕ, List, [], ◌∷◌, All, arith}
+use Rattle.std.proofs.Common.{All, arith, List, ℕ, [], ◌∷◌, ◌≢◌}
 use Rattle.std.proofs.lemmas.List.Elements.{All-append, All-nil}
-use Rattle.pg_page.specs.Escaping.{IsInert, shown, shown_byte, label_byte, labelled}
+use Rattle.pg_page.specs.Escaping.{IsInert, label_byte, labelled, shown, shown_byte}
 
 inert_byte : (b : ℕ) → All IsInert (shown_byte b)
 inert_byte b = grind arith

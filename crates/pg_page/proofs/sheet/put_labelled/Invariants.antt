@@ -1,4 +1,4 @@
-use Rattle.std.proofs.Common.{◌≡◌, ◌++◌, take}
+use Rattle.std.proofs.Common.{take, ◌++◌, ◌≡◌}
 use Rattle.pg_page.specs.Escaping.{labelled}
 use Rattle.pg_page.proofs.sheet.put_labelled.Given as goal
 
