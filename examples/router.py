@@ -19,7 +19,9 @@ has_routed_all = threading.Event()
 
 
 def count(group, number):
-    """So many processes more in a group, or fewer."""
+    """So many processes more in a group, or fewer. Groups of others aren't workers."""
+    if not group.startswith("jobs/"):
+        return
     was, listed[group] = listed[group], listed[group] + number
     if bool(was) != bool(listed[group]):
         print("gone" if was else "here", group.removeprefix("jobs/"), flush=True)

@@ -1,8 +1,11 @@
 //! The command line of a program: its words, what they say, and how a program ends that can't begin.
 #![tactic(auto)]
 
+mod standard;
+
 use clap::error::{Error as LineError, ErrorKind as LineFault};
 use clap::{ArgMatches, Command};
+pub use standard::held_streams;
 use std::alloc::{AllocError, Global};
 use std::env::Env;
 use std::fmt::Display;

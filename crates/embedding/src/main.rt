@@ -92,8 +92,7 @@ impl End {
             bail!("no processes were listed");
         };
         for pid in pids.as_slice() {
-            let node = str::from_utf8(pid.node.as_bytes())?;
-            println!(rt; "  {node}/{}/{}", pid.creation, pid.number)?;
+            println!(rt; "  {}/{}/{}", pid.node.as_str(), pid.creation, pid.number)?;
         }
         Ok(())
     }

@@ -14,6 +14,8 @@ struct State {
     outcome: Option<Outcome>,
 }
 
+/// Between the thread that talks with the node and the one that waits: that it was answered, and
+/// how it has ended.
 pub struct Bell {
     state: Mutex<State>,
     moved: Condvar,

@@ -15,10 +15,10 @@ Example:
 
 Status: 0 where it is done; 1 where a rule refuses it; 2 at a fault; 3 where no node answers.";
 
-/// The milliseconds to wait for an answer, where none are given.
+/// The milliseconds to wait for an answer, where none are given; and the same as a word.
 const PATIENCE: u32 = 10_000;
 
-const USUAL: &str = "10000";
+const PATIENCE_WORD: &str = "10000";
 
 /// What the program is to do.
 #[derive(Drop)]
@@ -31,6 +31,7 @@ pub struct Errand {
     pub show: Show,
 }
 
+/// What the node is asked for.
 #[derive(Drop)]
 pub enum Deed {
     /// A line, with its line feed.
@@ -92,7 +93,7 @@ fn timeout<'a>(alloc: Global) -> Arg<'a> {
         .value_name("MS")
         .help("How long to wait for an answer")
         .value_parser(value_parser!(u32).range(1..))
-        .default_value(USUAL)
+        .default_value(PATIENCE_WORD)
 }
 
 /// What the program is to do.

@@ -3,6 +3,7 @@ use anyhow::{Error as Reason, anyhow};
 use std::alloc::{AllocError, AllocFailed};
 use std::io;
 
+/// Why the program ends without an answer, and with which status.
 #[derive(Drop)]
 pub struct Fault {
     /// That of the program.

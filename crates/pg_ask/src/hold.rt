@@ -57,8 +57,8 @@ impl Hold {
     fn join<R: Print>(&self, talk: &mut Talk<'_, R>) -> Result<Said, Fault> {
         let mut said = self.try_join(talk)?;
         for _ in 0..TRIES {
-            // The node may begin anew in between: then the process is none of its own.
-            if said != Said::Fault {
+            // In between the node may begin anew, of which the process is none then, and the scope stop.
+            if said != Said::Fault && !talk.line.ends_with(b" NoScope") {
                 break;
             }
             said = self.try_join(talk)?;
@@ -69,8 +69,11 @@ impl Hold {
 
     /// The same once: what was said last, in whose place stands the process that has joined.
     fn try_join<R: Print>(&self, talk: &mut Talk<'_, R>) -> Result<Said, Fault> {
+        let started = talk.ask(self.start.as_str())?;
         // It is refused where the scope runs, which is as good.
-        talk.ask(self.start.as_str())?;
+        if started != Said::Done && !talk.line.ends_with(b" ScopeRunning") {
+            return Ok(started);
+        }
         let spawned = talk.ask("spawn\n")?;
         if spawned != Said::Done {
             return Ok(spawned);
@@ -86,12 +89,10 @@ impl Hold {
 
     /// The line for a process to join, by the answer that named it.
     fn join_of(&self, answer: &[u8]) -> Result<String, Fault> {
-        match str::from_utf8(answer) {
-            Ok(text) => {
-                let pid = text.strip_prefix("pid ").unwrap_or(text);
-                Ok(format!(in self.alloc; "{}{pid}\n", self.join)?)
-            }
-            Err(_) => Err(Fault::of(anyhow!("the process has no name"))),
+        let text = str::from_utf8(answer).unwrap_or("");
+        match text.strip_prefix("pid ") {
+            Some(pid) => Ok(format!(in self.alloc; "{}{pid}\n", self.join)?),
+            None => Err(Fault::of(anyhow!("the process has no name"))),
         }
     }
 }

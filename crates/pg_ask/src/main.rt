@@ -10,7 +10,7 @@ mod talk;
 
 use bell::Outcome;
 use clap::ArgMatches;
-use command_line::{matched, told, words};
+use command_line::{held_streams, matched, told, words};
 use errand::{command, read_errand};
 use fault::Fault;
 use run::{Start, do_errand, end_with_input, no_thread};
@@ -21,6 +21,7 @@ use std::thread;
 /// Status 0 where what was asked is done, 1 where a rule refuses it, 2 at a fault, 3 where no node
 /// answers.
 fn main(rt: HostRuntime) -> ExitCode {
+    let _streams = held_streams(&rt);
     let alloc = rt.alloc();
     let words = match words(&rt) {
         Ok(words) => words,

@@ -100,11 +100,12 @@ fn ask<R: Wait + Print>(
     bell: &Bell,
 ) -> Outcome {
     let said = talk.ask(line)?;
+    // The answer has come, however slowly it is read from here.
+    bell.answer(rt);
     talk.print()?;
     if said != Said::Done || !follows {
         return Ok(said.status());
     }
-    bell.answer(rt);
     for _ in rt.forever() {
         talk.next()?;
     }

@@ -65,7 +65,7 @@ impl Cookies {
     pub fn next(&mut self, alloc: Global, peer: &NodeName) -> Result<Cookie> {
         let place = self.place_of(peer);
         let Some(given) = self.given.get_mut(place) else {
-            let name = str::from_utf8(peer.as_bytes()).unwrap_or("?");
+            let name = peer.as_str();
             bail!("the cookie for {name:.80} isn't given (--cookie, --cookie-for)");
         };
         given.is_taken = true;

@@ -12,7 +12,7 @@ mod world;
 use anyhow::{Result, anyhow};
 use archive::Archive;
 use clap::ArgMatches;
-use command_line::{OUT_OF_MEMORY, failed, matched, told, words};
+use command_line::{OUT_OF_MEMORY, failed, held_streams, matched, told, words};
 use cookies::Cookies;
 use options::{command, opening};
 use pair::{PairEnd, pair};
@@ -34,6 +34,7 @@ use world_script::why_unread;
 
 /// Status 0 at the end of a script, 1 at a fault of the script, of a stream or of memory, 2 at one of the command line.
 fn main(rt: HostRuntime) -> ExitCode {
+    let _streams = held_streams(&rt);
     let words = match words(&rt) {
         Ok(words) => words,
         Err(status) => return status,

@@ -1,4 +1,4 @@
-use Rattle.std.proofs.Common.{◌≡◌, ◌++◌, map, length}
+use Rattle.std.proofs.Common.{length, map, ◌++◌, ◌≡◌}
 use Rattle.json.specs.Token.{string}
 use Rattle.pg_answers.specs.Words.{words_left}
 use Rattle.pg_answers.proofs.objects.put_words.Given as goal

@@ -1,5 +1,5 @@
-use Rattle.std.proofs.Common.{◌≡◌, ◌+◌, ◌-◌, ◌∷◌, ◌++◌, take, drop, length, sym, ap, ◌∙◌, arith}
-use Rattle.std.proofs.Common.{take_all, length-drop, rules, take-append-drop}
+use Rattle.std.proofs.Common.{ap, arith, drop, length, length-drop, rules, sym, take}
+use Rattle.std.proofs.Common.{take-append-drop, take_all, ◌++◌, ◌+◌, ◌-◌, ◌∙◌, ◌∷◌, ◌≡◌}
 use Rattle.std.proofs.lemmas.List.{drop_more}
 use Rattle.pg_answers.specs.Words.{words_of}
 use Rattle.pg_answers.proofs.WordLemmas.{words_plain, words_space}

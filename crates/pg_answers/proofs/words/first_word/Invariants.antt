@@ -1,4 +1,4 @@
-use Rattle.std.proofs.Common.{◌≢◌, take, All}
+use Rattle.std.proofs.Common.{All, take, ◌≢◌}
 use Rattle.pg_answers.proofs.words.first_word.Given as goal
 
 -- no space came so far

@@ -1,4 +1,4 @@
-use Rattle.std.specs.Prelude.{◌≡◌, All, codes}
+use Rattle.std.specs.Prelude.{All, codes, ◌≡◌}
 use Rattle.refusals.proofs.tables.crowd_of.Given as goal
 
 -- the processes so far are of the node

@@ -1,4 +1,4 @@
-use Rattle.std.specs.Prelude.{◌≡◌, All}
+use Rattle.std.specs.Prelude.{All, ◌≡◌}
 use Rattle.refusals.proofs.tables.rows_of.Given as goal
 
 -- the rows so far are of the peer
