@@ -4,7 +4,11 @@
 #[cfg(test)]
 mod cookies;
 #[cfg(test)]
+mod cuts;
+#[cfg(test)]
 mod frames;
+#[cfg(test)]
+mod gathered;
 #[cfg(test)]
 mod parts;
 #[cfg(test)]

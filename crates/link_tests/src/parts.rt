@@ -1,318 +1,324 @@
-//! Messages in parts: the bodies of parts, bodies that are none, and where a message is cut.
-ghost use Rattle.std.specs.Prelude.{◌≡◌, IfOk, length};
-ghost use Rattle.link_frames.specs.Parts.{HasParts};
+//! The bodies of parts, and bodies that are none. What can't be played for want of memory is None; the assertions stand in
+//! the tests.
+ghost use Rattle.std.specs.Prelude.{◌≡◌, IfSome, length};
+ghost use Rattle.link_frames.specs.Parts.{HasSpelling2};
 
 use dist_types::{Body, Group, NodeName, Pid, Row, Scope};
 use link_frames::*;
 use std::alloc::Global;
-use std::process::Abort;
-use std::test::Fail;
 
-/// A body, and the part of a message of `pg` that it says: its kind, its number, whether it is the last, and how many rows it has.
-type Worked = (&'static [u8], PartKind, u32, bool, u32);
-
-const PARTS: [Worked; 5] = [
-    (b"S\x02pg\0\0\0\x01\x01\0\0\0\0", PartKind::Sync, 1, true, 0),
-    (b"S\x02pg\0\0\0\x02\0\0\0\0\0", PartKind::Sync, 2, false, 0),
-    (
-        b"S\x02pg\0\0\x01\0\x01\0\0\0\x01\x01g\0\x03a@h\0\0\0\x05\0\0\0\0\0\0\0\x01",
-        PartKind::Sync,
-        256,
-        true,
-        1,
-    ),
-    (
-        b"J\x02pg\0\0\0\x01\0\0\0\0\x02\x01g\0\x03a@h\0\0\0\x05\0\0\0\0\0\0\0\x01\x01g\0\x03a@h\0\0\0\x05\0\0\0\0\0\0\0\x02",
-        PartKind::Join,
-        1,
-        false,
-        2,
-    ),
-    (
-        b"L\x02pg\xff\xff\xff\xff\x01\0\0\0\x01\x01g\0\x03a@h\0\0\0\x05\0\0\0\0\0\0\0\x01",
-        PartKind::Leave,
-        4_294_967_295,
-        true,
-        1,
-    ),
-];
-
-/// A part 0, last bytes of 02 and ff, parts of a Join and of a Leave without rows, a Sync of version 1, and a byte behind a part.
-const NO_PARTS: [&[u8]; 9] = [
-    b"S\x02pg\0\0\0\0\x01\0\0\0\0",
-    b"S\x02pg\0\0\0\x01\x02\0\0\0\0",
-    b"S\x02pg\0\0\0\x01\xff\0\0\0\0",
-    b"J\x02pg\0\0\0\x01\x01\0\0\0\0",
-    b"J\x02pg\0\0\0\x02\0\0\0\0\0",
-    b"L\x02pg\0\0\0\x01\x01\0\0\0\0",
-    b"L\x02pg\0\0\0\x02\0\0\0\0\0",
-    b"S\x02pg\0\0\0\0",
-    b"S\x02pg\0\0\0\x01\x01\0\0\0\0\0",
-];
-
-/// What stands before the rows of a part, the number of its first process, and how many rows it has.
-type Cut = (&'static [u8], u32, u32);
-
-/// How many rows a Sync has, and its parts.
-const CUTS: [(u32, &[Cut]); 4] = [
-    (0, &[(b"S\x02pg\0\0\0\x01\x01\0\0\0\0", 1, 0)]),
-    (4096, &[(b"S\x02pg\0\0\0\x01\x01\0\0\x10\0", 1, 4096)]),
-    (
-        4097,
-        &[
-            (b"S\x02pg\0\0\0\x01\0\0\0\x10\0", 1, 4096),
-            (b"S\x02pg\0\0\0\x02\x01\0\0\0\x01", 4097, 1),
-        ],
-    ),
-    (
-        8193,
-        &[
-            (b"S\x02pg\0\0\0\x01\0\0\0\x10\0", 1, 4096),
-            (b"S\x02pg\0\0\0\x02\0\0\0\x10\0", 4097, 4096),
-            (b"S\x02pg\0\0\0\x03\x01\0\0\0\x01", 8193, 1),
-        ],
-    ),
-];
-
-fn pg(alloc: Global) -> Result<Scope, Fail> {
-    Ok(Scope::parse(alloc, b"pg")?)
+/// A part of a message of `pg`.
+struct Part {
+    body: &'static [u8],
+    kind: PartKind,
+    number: u32,
+    last: bool,
+    /// How many rows it has.
+    count: u32,
+    /// How many bodies that differ from it in one byte, to 00, ff or a neighbour, are parts: counted by the reader of
+    /// tests/model (`changed_parts`).
+    changed: u32,
 }
 
-/// So many rows of the group `g`: the first processes of `a@h` in its creation 5.
-fn rows(alloc: Global, count: u32) -> Result<Rows, Fail>
-    ensures { IfOk result (λ rows. length rows ≡ count) }
+static PARTS: [Part; 5] = [
+    Part {
+        body: b"S\x02pg\0\0\0\x01\x01\0\0\0\0",
+        kind: PartKind::Sync,
+        number: 1,
+        last: true,
+        count: 0,
+        changed: 13,
+    },
+    Part {
+        body: b"S\x02pg\0\0\0\x02\0\0\0\0\0",
+        kind: PartKind::Sync,
+        number: 2,
+        last: false,
+        count: 0,
+        changed: 14,
+    },
+    Part {
+        body: b"S\x02pg\0\0\x01\0\x01\0\0\0\x01\x01g\0\x03a@h\0\0\0\x05\0\0\0\0\0\0\0\x01",
+        kind: PartKind::Sync,
+        number: 256,
+        last: true,
+        count: 1,
+        changed: 46,
+    },
+    Part {
+        body: b"J\x02pg\0\0\0\x01\0\0\0\0\x02\x01g\0\x03a@h\0\0\0\x05\0\0\0\0\0\0\0\x01\x01g\0\x03a@h\0\0\0\x05\0\0\0\0\0\0\0\x02",
+        kind: PartKind::Join,
+        number: 1,
+        last: false,
+        count: 2,
+        changed: 80,
+    },
+    Part {
+        body: b"L\x02pg\xff\xff\xff\xff\x01\0\0\0\x01\x01g\0\x03a@h\0\0\0\x05\0\0\0\0\0\0\0\x01",
+        kind: PartKind::Leave,
+        number: 4_294_967_295,
+        last: true,
+        count: 1,
+        changed: 46,
+    },
+];
+
+/// A body that is no part.
+struct NoPart {
+    what: &'static str,
+    body: &'static [u8],
+}
+
+static NO_PARTS: [NoPart; 9] = [
+    NoPart {
+        what: "a part 0",
+        body: b"S\x02pg\0\0\0\0\x01\0\0\0\0",
+    },
+    NoPart {
+        what: "a last byte of 02",
+        body: b"S\x02pg\0\0\0\x01\x02\0\0\0\0",
+    },
+    NoPart {
+        what: "a last byte of ff",
+        body: b"S\x02pg\0\0\0\x01\xff\0\0\0\0",
+    },
+    NoPart {
+        what: "a Join without rows, the last part",
+        body: b"J\x02pg\0\0\0\x01\x01\0\0\0\0",
+    },
+    NoPart {
+        what: "a Join without rows",
+        body: b"J\x02pg\0\0\0\x02\0\0\0\0\0",
+    },
+    NoPart {
+        what: "a Leave without rows, the last part",
+        body: b"L\x02pg\0\0\0\x01\x01\0\0\0\0",
+    },
+    NoPart {
+        what: "a Leave without rows",
+        body: b"L\x02pg\0\0\0\x02\0\0\0\0\0",
+    },
+    NoPart {
+        what: "a Sync of version 1",
+        body: b"S\x02pg\0\0\0\0",
+    },
+    NoPart {
+        what: "a byte behind a part",
+        body: b"S\x02pg\0\0\0\x01\x01\0\0\0\0\0",
+    },
+];
+
+// What reads a text has no contract, so that a check doesn't compute with the text.
+pub fn scope_of(alloc: Global, text: &[u8]) -> Option<Scope> {
+    Scope::parse(alloc, text).ok()
+}
+
+fn name_of(alloc: Global, text: &[u8]) -> Option<NodeName> {
+    NodeName::parse(alloc, text).ok()
+}
+
+fn group_of(alloc: Global, text: &[u8]) -> Option<Group> {
+    Group::parse(alloc, text).ok()
+}
+
+pub fn pg(alloc: Global) -> Option<Scope> {
+    scope_of(alloc, b"pg")
+}
+
+/// The process of that number of `a@h` in its creation 5.
+fn pid(alloc: Global, number: u64) -> Option<Pid> {
+    let node = name_of(alloc, b"a@h")?;
+    Some(Pid {
+        node,
+        creation: 5,
+        number,
+    })
+}
+
+/// A row of the group `g`.
+fn row(alloc: Global, number: u64) -> Option<Row> {
+    let pid = pid(alloc, number)?;
+    match group_of(alloc, b"g") {
+        Some(group) => Some(Row { group, pid }),
+        None => None,
+    }
+}
+
+/// So many such rows: those of the first processes.
+pub fn rows(alloc: Global, count: u32) -> Option<Rows>
+    ensures { IfSome result (λ rows. length rows ≡ count) }
 {
     let mut rows = Vec::new(alloc);
     for place in 0..count {
-        rows.push(Row {
-            group: Group::parse(alloc, b"g")?,
-            pid: Pid {
-                node: NodeName::parse(alloc, b"a@h")?,
-                creation: 5,
-                number: u64::from(place) + 1,
-            },
-        })?;
+        let row = row(alloc, u64::from(place) + 1)?;
+        rows.push(row).ok()?;
     }
-    Ok(Rows::of(rows))
+    Some(Rows::of(rows))
 }
 
 /// A part of a message of `pg`, with so many of these rows.
-fn part(
+pub fn message_part(
     alloc: Global,
     kind: PartKind,
     number: u32,
     last: bool,
     count: u32,
-) -> Result<Message2, Fail> {
-    Ok(Message2::Part {
-        kind,
-        scope: pg(alloc)?,
-        number,
-        last,
-        rows: rows(alloc, count)?,
-    })
+) -> Option<Message2> {
+    let rows = rows(alloc, count)?;
+    match pg(alloc) {
+        Some(scope) => Some(Message2::Part {
+            kind,
+            scope,
+            number,
+            last,
+            rows,
+        }),
+        None => None,
+    }
 }
 
 /// The body of these bytes and so many such rows, from the process of this number on.
-fn body(alloc: Global, head: &[u8], first: u32, count: u32) -> Result<Body, Fail> {
-    let mut body = Vec::from_slice(alloc, head)?;
+pub fn body(alloc: Global, head: &[u8], first: u32, count: u32) -> Option<Body> {
+    let mut body = Vec::from_slice(alloc, head).ok()?;
     for place in 0..count {
-        body.extend_from_slice(b"\x01g\0\x03a@h\0\0\0\x05")?;
-        body.extend_from_slice(&(u64::from(first) + u64::from(place)).to_be_bytes())?;
+        let number = u64::from(first) + u64::from(place);
+        put_row(number, &mut body)?;
     }
-    Ok(Body::of(body)?)
+    Body::of(body).ok()
 }
 
-fn bodies(alloc: Global, cuts: &[Cut]) -> Result<Vec<Body>, Fail> {
-    let mut bodies = Vec::new(alloc);
-    for (head, first, count) in cuts {
-        bodies.push(body(alloc, head, *first, *count)?)?;
-    }
-    Ok(bodies)
+fn put_row(number: u64, body: &mut Vec<u8>) -> Option<()> {
+    body.extend_from_slice(b"\x01g\0\x03a@h\0\0\0\x05").ok()?;
+    body.extend_from_slice(&number.to_be_bytes()).ok()
 }
 
-/// Parts are read as what they say, and written again with the same bytes.
+/// Whether the message is written as this body.
+fn is_written(alloc: Global, message: &Message2, body: &[u8]) -> bool
+    requires { HasSpelling2 message.now }
+{
+    let mut written = Vec::new(alloc);
+    let has_memory = encode_v2(message, &mut written).is_ok();
+    has_memory && written.as_slice() == body
+}
+
+/// Whether the body is read as this, and written again with the same bytes.
+pub fn says(alloc: Global, body: &[u8], said: &Message2) -> bool {
+    match decode_v2(alloc, body) {
+        Ok(read) => read == *said && is_written(alloc, &read, body),
+        Err(_) => false,
+    }
+}
+
+fn is_part(alloc: Global, row: &Part) -> Option<bool> {
+    let said = message_part(alloc, row.kind, row.number, row.last, row.count)?;
+    Some(says(alloc, row.body, &said))
+}
+
 #[test]
-fn reads_and_writes_parts(rt: HostRuntime) -> Result<(), Fail> {
-    for (body, kind, number, last, count) in PARTS {
-        let read = decode_v2(rt.alloc(), body)?;
-        let said = part(rt.alloc(), kind, number, last, count)?;
-        assert_eq!(rt; read, said, "{body:?}");
-        let mut written = Vec::new(rt.alloc());
-        encode_v2(&read, &mut written)?;
-        assert_eq!(rt; written.as_slice(), body);
+fn reads_and_writes_parts(rt: HostRuntime) {
+    for row in &PARTS {
+        assert!(rt; is_part(rt.alloc(), row) == Some(true), "{}", row.number);
     }
-    Ok(())
+}
+
+fn is_read(alloc: Global, body: &[u8]) -> bool {
+    decode_v2(alloc, body).is_ok()
+}
+
+fn is_refused(alloc: Global, body: &[u8]) -> bool {
+    decode_v2(alloc, body).err() == Some(MessageFault::BadFrame)
+}
+
+/// How many of the beginnings are refused.
+fn refused_fronts(alloc: Global, body: &[u8]) -> usize {
+    let mut count = 0_usize;
+    for len in 0..body.len() {
+        count = count.wrapping_add(usize::from(is_refused(alloc, &body[..len])));
+    }
+    count
 }
 
 #[test]
 fn refuses_the_beginnings_of_parts(rt: HostRuntime) {
-    for (body, ..) in PARTS {
-        for len in 0..body.len() {
-            let read = decode_v2(rt.alloc(), &body[..len]);
-            assert_eq!(rt;
-                read.err(),
-                Some(MessageFault::BadFrame),
-                "{len} bytes of {body:?}"
-            );
-        }
+    for row in &PARTS {
+        let refused = refused_fronts(rt.alloc(), row.body);
+        assert!(rt; refused == row.body.len(), "{}", row.number);
     }
 }
-
-/// How many bodies that differ from each of these parts in one byte, to 00, ff or a neighbour, are
-/// parts: counted by the reader of tests/model (`changed_parts`).
-const CHANGED: [u32; 5] = [13, 14, 46, 80, 46];
 
 fn is_tried(old: u8, new: u8) -> bool {
     new != old && [0, 255, old.wrapping_add(1), old.wrapping_sub(1)].contains(&new)
 }
 
-/// Whether the body is a part with this byte at that place.
-fn is_part_with(alloc: Global, body: &[u8], place: usize, new: u8) -> Result<bool, Fail> {
-    let mut changed = Vec::from_slice(alloc, body)?;
-    if let Some(byte) = changed.get_mut(place) {
+/// Puts a byte in that place.
+fn put_at(body: &mut [u8], place: usize, new: u8) {
+    if let Some(byte) = body.get_mut(place) {
         *byte = new;
     }
-    Ok(decode_v2(alloc, changed.as_slice()).is_ok())
 }
 
 /// How many of the bodies with another byte at that place are parts.
-fn parts_at(alloc: Global, body: &[u8], place: usize, old: u8) -> Result<u32, Fail> {
+fn parts_at(alloc: Global, body: &mut [u8], place: usize, old: u8) -> u32 {
     let mut count = 0_u32;
     for new in 0..=255_u8 {
-        if is_tried(old, new) && is_part_with(alloc, body, place, new)? {
-            count = count.wrapping_add(1);
-        }
+        put_at(body, place, new);
+        count = count.wrapping_add(u32::from(is_tried(old, new) && is_read(alloc, body)));
     }
-    Ok(count)
+    put_at(body, place, old);
+    count
+}
+
+/// How many of the bodies with another byte are parts.
+fn changed_parts(alloc: Global, body: &[u8]) -> Option<u32> {
+    let mut changed = Vec::from_slice(alloc, body).ok()?;
+    let mut count = 0_u32;
+    for (place, old) in body.iter().enumerate() {
+        count = count.wrapping_add(parts_at(alloc, &mut changed, place, *old));
+    }
+    Some(count)
 }
 
 #[test]
-fn reads_no_more_with_a_changed_byte(rt: HostRuntime) -> Result<(), Fail> {
-    for ((body, ..), wanted) in PARTS.iter().zip(CHANGED) {
-        let mut count = 0_u32;
-        for (place, old) in body.iter().enumerate() {
-            count = count.wrapping_add(parts_at(rt.alloc(), body, place, *old)?);
-        }
-        assert_eq!(rt; count, wanted, "{body:?}");
+fn reads_no_more_with_a_changed_byte(rt: HostRuntime) {
+    for row in &PARTS {
+        let changed = changed_parts(rt.alloc(), row.body);
+        assert!(rt; changed == Some(row.changed), "{}", row.number);
     }
-    Ok(())
 }
 
 #[test]
 fn refuses_what_is_no_part(rt: HostRuntime) {
-    for body in NO_PARTS {
-        let read = decode_v2(rt.alloc(), body);
-        assert_eq!(rt; read.err(), Some(MessageFault::BadFrame), "{body:?}");
+    for row in &NO_PARTS {
+        assert!(rt; is_refused(rt.alloc(), row.body), "{}", row.what);
     }
 }
 
-/// All rows are there, and each is well spelled.
-#[test]
-fn takes_4096_rows_in_a_part_and_no_more(rt: HostRuntime) -> Result<(), Fail> {
-    for kind in [b"S", b"J", b"L"] {
-        for (count, fault) in [(4096_u32, None), (4097, Some(MessageFault::BadFrame))] {
-            let mut head = Vec::from_slice(rt.alloc(), kind)?;
-            head.extend_from_slice(b"\x02pg\0\0\0\x01\x01")?;
-            head.extend_from_slice(&count.to_be_bytes())?;
-            let body = body(rt.alloc(), &head, 1, count)?;
-            let read = decode_v2(rt.alloc(), body.as_slice());
-            assert_eq!(rt; read.err(), fault, "{count} rows of {kind:?}");
-        }
-    }
-    Ok(())
+/// The first part of that kind, the last one, too, with so many rows. All are there, and each is well spelled.
+fn long_part(alloc: Global, kind: u8, count: u32) -> Option<Body> {
+    let mut head = Vec::new(alloc);
+    head.push(kind).ok()?;
+    head.extend_from_slice(b"\x02pg\0\0\0\x01\x01").ok()?;
+    head.extend_from_slice(&count.to_be_bytes()).ok()?;
+    body(alloc, &head, 1, count)
+}
+
+fn reads_long(alloc: Global, kind: u8, count: u32) -> Option<bool> {
+    let body = long_part(alloc, kind, count)?;
+    Some(is_read(alloc, body.as_slice()))
+}
+
+fn refuses_long(alloc: Global, kind: u8, count: u32) -> Option<bool> {
+    let body = long_part(alloc, kind, count)?;
+    Some(is_refused(alloc, body.as_slice()))
 }
 
 #[test]
-fn cuts_behind_each_4096_rows(rt: HostRuntime) -> Result<(), Fail> {
-    for (count, cuts) in CUTS {
-        let message = Message::Sync(pg(rt.alloc())?, rows(rt.alloc(), count)?);
-        let parts = encode_parts(rt.alloc(), &message)?;
-        assert!(rt; parts == bodies(rt.alloc(), cuts)?, "{count} rows");
-    }
-    Ok(())
-}
-
-/// A part, whether it may come, and how many rows are kept behind it; one that may not is taken back.
-type Come = (PartKind, u32, u32, bool, usize);
-
-const COME: [Come; 7] = [
-    (PartKind::Sync, 2, 1, false, 0),
-    (PartKind::Sync, 1, 2, true, 2),
-    (PartKind::Join, 2, 1, false, 2),
-    (PartKind::Sync, 3, 1, false, 2),
-    (PartKind::Sync, 2, 3, true, 5),
-    (PartKind::Sync, 2, 1, false, 5),
-    (PartKind::Leave, 1, 1, true, 1),
-];
-
-#[test]
-fn keeps_the_rows_of_parts(rt: HostRuntime) -> Result<(), Fail> {
-    let mut parts = Parts::new();
-    for (kind, number, count, may_come, kept) in COME {
-        let scope = pg(rt.alloc())?;
-        assert_eq!(rt;
-            parts.is_next(kind, &scope, number),
-            may_come,
-            "{kind:?} {number}"
+fn takes_4096_rows_in_a_part_and_no_more(rt: HostRuntime) {
+    for kind in [b'S', b'J', b'L'] {
+        assert!(rt; reads_long(rt.alloc(), kind, 4096) == Some(true), "{kind}");
+        assert!(rt;
+            refuses_long(rt.alloc(), kind, 4097) == Some(true),
+            "{kind}"
         );
-        let undo = parts.gather(kind, scope, number, rows(rt.alloc(), count)?)?;
-        if !may_come {
-            parts.undo(undo);
-        }
-        assert_eq!(rt; parts.rows().len(), kept, "{kind:?} {number}");
     }
-    Ok(())
-}
-
-#[test]
-fn a_stop_breaks_off_its_scope_alone(rt: HostRuntime) -> Result<(), Fail> {
-    let mut parts = Parts::new();
-    parts.gather(PartKind::Sync, pg(rt.alloc())?, 1, rows(rt.alloc(), 2)?)?;
-    parts.break_off(&Scope::parse(rt.alloc(), b"q")?);
-    assert_eq!(rt; parts.begun().map(|begun| begun.number()), Some(1));
-    parts.break_off(&pg(rt.alloc())?);
-    assert!(rt; parts.begun().is_none());
-    Ok(())
-}
-
-/// The message is said in this body alone, which is read as this.
-fn is_said(
-    rt: &(impl AllocGlobal + Abort),
-    message: &Message,
-    body: &[u8],
-    said: &Message2,
-) -> Result<(), Fail>
-    requires { HasParts message.now }
-{
-    let parts = encode_parts(rt.alloc(), message)?;
-    assert_eq!(rt; parts.len(), 1, "{body:?}");
-    for part in &parts {
-        assert_eq!(rt; part.as_slice(), body);
-    }
-    assert_eq!(rt; decode_v2(rt.alloc(), body)?, *said);
-    Ok(())
-}
-
-#[test]
-fn says_the_other_messages_in_one_body(rt: HostRuntime) -> Result<(), Fail> {
-    let alloc = rt.alloc();
-    let discover = Message::Discover(pg(alloc)?);
-    is_said(&rt, &discover, b"D\x02pg", &Message2::Discover(pg(alloc)?))?;
-    let join = Message::Join(pg(alloc)?, rows(alloc, 1)?);
-    is_said(
-        &rt,
-        &join,
-        b"J\x02pg\0\0\0\x01\x01\0\0\0\x01\x01g\0\x03a@h\0\0\0\x05\0\0\0\0\0\0\0\x01",
-        &part(alloc, PartKind::Join, 1, true, 1)?,
-    )?;
-    let leave = Message::Leave(pg(alloc)?, rows(alloc, 1)?);
-    is_said(
-        &rt,
-        &leave,
-        b"L\x02pg\0\0\0\x01\x01\0\0\0\x01\x01g\0\x03a@h\0\0\0\x05\0\0\0\0\0\0\0\x01",
-        &part(alloc, PartKind::Leave, 1, true, 1)?,
-    )?;
-    let down = Message::Down(pg(alloc)?);
-    is_said(&rt, &down, b"X\x02pg", &Message2::Down(pg(alloc)?))
 }

@@ -12,7 +12,7 @@ pub struct Told {
     pub changes: u32,
 }
 
-pub const TOLD: [Told; 31] = [
+pub static TOLD: [Told; 31] = [
     Told {
         call: "the link comes up",
         body: "\

@@ -4,6 +4,8 @@
 #[cfg(test)]
 mod bodies;
 #[cfg(test)]
+mod digits;
+#[cfg(test)]
 mod edges;
 #[cfg(test)]
 mod said;
@@ -13,3 +15,5 @@ mod signals;
 mod steps;
 #[cfg(test)]
 mod terms;
+#[cfg(test)]
+mod values;

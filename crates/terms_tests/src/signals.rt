@@ -1,24 +1,9 @@
 //! The signals of a running node of Erlang/OTP 25.2.3, and what is made of them.
 use crate::bodies::TOLD;
+use crate::digits::{bytes_of, changes_of, exchange, front, is_spelled};
 use dist_types::Group;
 use otp_edge::{HearFault, Signal, read_signal, term_of};
 use std::alloc::Global;
-use std::process::Abort;
-use std::test::Fail;
-
-fn bytes(alloc: Global, digits: &str) -> Result<Vec<u8>, Fail> {
-    Ok(hex::decode(alloc, digits)?)
-}
-
-/// The bytes, with one exchanged.
-fn changed(alloc: Global, body: &[u8], at: usize, byte: u8) -> Result<Vec<u8>, Fail> {
-    let mut bytes = Vec::new(alloc);
-    bytes.extend_from_slice(body)?;
-    if let Some(place) = bytes.get_mut(at) {
-        *place = byte;
-    }
-    Ok(bytes)
-}
 
 fn kind(signal: &Signal<'_>) -> u8 {
     match signal {
@@ -42,73 +27,126 @@ fn is_body(alloc: Global, bytes: &[u8]) -> u32 {
     }
 }
 
-#[test]
-fn reads_the_signals_of_a_node(rt: HostRuntime) -> Result<(), Fail> {
-    for row in &TOLD {
-        let body = bytes(rt.alloc(), row.body)?;
-        let signal = read_signal(rt.alloc(), &body)?;
-        assert_eq!(rt; kind(&signal), row.kind, "{}", row.call);
+fn kind_of(alloc: Global, body: &[u8]) -> Option<u8> {
+    match read_signal(alloc, body) {
+        Ok(signal) => Some(kind(&signal)),
+        Err(_) => None,
     }
-    Ok(())
+}
+
+fn bodies_in_fronts(alloc: Global, body: &[u8]) -> u32 {
+    let mut count = 0_u32;
+    for end in 0..body.len() {
+        count = count.wrapping_add(is_body(alloc, front(body, end)));
+    }
+    count
+}
+
+fn bodies_at(alloc: Global, body: &mut [u8], at: usize) -> u32 {
+    let old = exchange(body, at, 0);
+    let mut count = 0_u32;
+    for new in changes_of(old) {
+        exchange(body, at, new);
+        count = count.wrapping_add(is_body(alloc, body));
+    }
+    exchange(body, at, old);
+    count
+}
+
+fn bodies_in_changes(alloc: Global, body: &mut [u8]) -> u32 {
+    let mut count = 0_u32;
+    for at in 0..body.len() {
+        count = count.wrapping_add(bodies_at(alloc, body, at));
+    }
+    count
+}
+
+/// The kind of the body of these digits, and how many of its beginnings and of its changes are bodies.
+fn judged(alloc: Global, digits: &str) -> Option<(u8, u32, u32)> {
+    let mut body = bytes_of(alloc, digits)?;
+    let kind = kind_of(alloc, &body)?;
+    let fronts = bodies_in_fronts(alloc, &body);
+    let changes = bodies_in_changes(alloc, &mut body);
+    Some((kind, fronts, changes))
 }
 
 #[test]
-fn takes_no_beginning_of_a_body_for_more(rt: HostRuntime) -> Result<(), Fail> {
+fn tells_bodies_from_what_is_near_them(rt: HostRuntime) {
     for row in &TOLD {
-        let body = bytes(rt.alloc(), row.body)?;
-        let mut fronts = 0_u32;
-        for (end, _) in body.iter().enumerate() {
-            if let Some((front, _)) = body.split_at_checked(end) {
-                fronts = fronts.wrapping_add(is_body(rt.alloc(), front));
-            }
-        }
-        assert_eq!(rt; fronts, row.fronts, "{}", row.call);
+        let wanted = (row.kind, row.fronts, row.changes);
+        assert!(rt;
+            judged(rt.alloc(), row.body) == Some(wanted),
+            "{}",
+            row.call
+        );
     }
-    Ok(())
 }
 
-#[test]
-fn judges_each_change_of_a_body(rt: HostRuntime) -> Result<(), Fail> {
-    for row in &TOLD {
-        let body = bytes(rt.alloc(), row.body)?;
-        let mut changes = 0_u32;
-        for (at, byte) in body.iter().enumerate() {
-            for other in [0, 0xff, byte.wrapping_add(1), byte.wrapping_sub(1)] {
-                let bytes = changed(rt.alloc(), &body, at, other)?;
-                changes = changes.wrapping_add(is_body(rt.alloc(), &bytes));
-            }
-        }
-        assert_eq!(rt; changes, row.changes, "{}", row.call);
-    }
-    Ok(())
+/// The text of a group, and its term; none where the text is no group's of a node.
+struct Named {
+    text: &'static str,
+    term: Option<&'static str>,
 }
 
-/// Texts of groups, and their terms; none where the text is no group's of a node.
-const TERMS: [(&str, Option<&str>); 9] = [
-    ("printers", Some("77087072696e74657273")),
-    ("#b:printers", Some("6d000000087072696e74657273")),
-    (
-        "#x:68027706776f726b65726101",
-        Some("68027706776f726b65726101"),
-    ),
-    ("#x:6107", Some("6107")),
-    ("#x:zz", None),
-    ("#x:7701", None),
-    ("#x:770161", None),
-    ("#x:610", None),
-    ("#b:", Some("6d00000000")),
+static NAMED: [Named; 9] = [
+    Named {
+        text: "printers",
+        term: Some("77087072696e74657273"),
+    },
+    Named {
+        text: "#b:printers",
+        term: Some("6d000000087072696e74657273"),
+    },
+    Named {
+        text: "#x:68027706776f726b65726101",
+        term: Some("68027706776f726b65726101"),
+    },
+    Named {
+        text: "#x:6107",
+        term: Some("6107"),
+    },
+    Named {
+        text: "#x:zz",
+        term: None,
+    },
+    Named {
+        text: "#x:7701",
+        term: None,
+    },
+    Named {
+        text: "#x:770161",
+        term: None,
+    },
+    Named {
+        text: "#x:610",
+        term: None,
+    },
+    Named {
+        text: "#b:",
+        term: Some("6d00000000"),
+    },
 ];
 
-#[test]
-fn names_the_term_of_a_text(rt: HostRuntime) -> Result<(), Fail> {
-    for (text, digits) in &TERMS {
-        let group = Group::parse(rt.alloc(), text.as_bytes())?;
-        let term = term_of(rt.alloc(), &group)?;
-        let expected = match digits {
-            Some(digits) => Some(bytes(rt.alloc(), digits)?),
-            None => None,
-        };
-        assert_eq!(rt; term, expected, "{text}");
+fn group_of(alloc: Global, text: &str) -> Option<Group> {
+    Group::parse(alloc, text.as_bytes()).ok()
+}
+
+/// Whether the group has just this term.
+fn has_term(alloc: Global, group: &Group, digits: Option<&str>) -> Option<bool> {
+    let term = term_of(alloc, group).ok()?;
+    match (term, digits) {
+        (Some(term), Some(digits)) => is_spelled(alloc, &term, digits),
+        (term, digits) => Some(term.is_none() && digits.is_none()),
     }
-    Ok(())
+}
+
+fn is_named(alloc: Global, row: &Named) -> Option<bool> {
+    has_term(alloc, &group_of(alloc, row.text)?, row.term)
+}
+
+#[test]
+fn names_the_term_of_a_text(rt: HostRuntime) {
+    for row in &NAMED {
+        assert!(rt; is_named(rt.alloc(), row) == Some(true), "{}", row.text);
+    }
 }

@@ -14,7 +14,7 @@ pub struct Step {
     pub owed: &'static str,
 }
 
-pub const STEPS: [Step; 31] = [
+pub static STEPS: [Step; 31] = [
     Step {
         what: "the scope starts here",
         is_said: true,

@@ -1,8 +1,7 @@
 //! Terms that a running node of Erlang/OTP 25.2.3 said, and a term of each tag.
+use crate::digits::{bytes_of, changes_of, exchange, front};
 use external_terms::*;
 use std::alloc::Global;
-use std::process::Abort;
-use std::test::Fail;
 
 /// A term, and how many of its changes end how: each byte in turn is 00, ff, one more and one less.
 struct Worked {
@@ -15,7 +14,7 @@ struct Worked {
 }
 
 /// Without 131 before them. The counts are of a reader in Python, written after the public page.
-const WORKED: [Worked; 20] = [
+static WORKED: [Worked; 20] = [
     Worked {
         said: "the link comes up: REG_SEND",
         term: "\
@@ -203,7 +202,7 @@ const WORKED: [Worked; 20] = [
 ];
 
 /// A term of each tag, spelled by hand after the public page.
-const TAGS: [&str; 27] = [
+static TAGS: [&str; 27] = [
     "463ff8000000000000",
     "4d0000000205ffe0",
     "587703614068000000010000000200000003",
@@ -235,159 +234,102 @@ const TAGS: [&str; 27] = [
     "787703614068000000000000000100000003",
 ];
 
-/// A `MONITOR_P` of a process: its tuple, and the values in it.
-const MONITOR: &str = "\
-         6804611358770b61403132372e302e302e3100000057000000006b0841b058770b77403132372e30\
-         2e302e3100000001000000000000004d5a0003770b61403132372e302e302e316b0841b000016712\
-         e05800038241a5b9";
-
-fn bytes(alloc: Global, hex: &str) -> Result<Vec<u8>, Fail> {
-    Ok(hex::decode(alloc, hex)?)
+/// Whether the term of these digits is skipped, with and without a byte behind it, and is cut at each of its beginnings.
+fn skips(alloc: Global, digits: &str) -> Option<bool> {
+    let mut term = bytes_of(alloc, digits)?;
+    let len = term.len();
+    term.push(0x83).ok()?;
+    Some(is_cut_before(&term, len) && ends_at(&term, len))
 }
 
-/// The term, with one byte exchanged.
-fn changed(alloc: Global, term: &[u8], at: usize, byte: u8) -> Result<Vec<u8>, Fail> {
-    let mut bytes = Vec::new(alloc);
-    bytes.extend_from_slice(term)?;
-    if let Some(place) = bytes.get_mut(at) {
-        *place = byte;
-    }
-    Ok(bytes)
-}
-
-/// Skips the term, with and without a byte behind it, and each of its beginnings.
-fn skips(rt: &impl Abort, alloc: Global, term: &[u8], name: &str) -> Result<(), Fail> {
-    assert_eq!(rt; skip(term)?, (term, b"".as_slice()), "{name}");
-    let mut longer = Vec::new(alloc);
-    longer.extend_from_slice(term)?;
-    longer.push(0x83)?;
-    assert_eq!(rt; skip(&longer)?, (term, b"\x83".as_slice()), "{name}");
-    for (end, _) in term.iter().enumerate() {
-        if let Some((front, _)) = term.split_at_checked(end) {
-            assert_eq!(rt; skip(front), Err(TermFault::Truncated), "{name}, {end}");
+fn is_cut_before(bytes: &[u8], len: usize) -> bool {
+    for end in 0..len {
+        if skip(front(bytes, end)) != Err(TermFault::Truncated) {
+            return false;
         }
     }
-    Ok(())
+    true
 }
 
-#[test]
-fn skips_what_a_node_said(rt: HostRuntime) -> Result<(), Fail> {
-    for row in &WORKED {
-        skips(&rt, rt.alloc(), &bytes(rt.alloc(), row.term)?, row.said)?;
+fn ends_at(longer: &[u8], len: usize) -> bool {
+    let term = front(longer, len);
+    is_skipped(term, term, b"") && is_skipped(longer, term, b"\x83")
+}
+
+/// Whether this is the term at the front, with that behind it.
+fn is_skipped(bytes: &[u8], term: &[u8], rest: &[u8]) -> bool {
+    match skip(bytes) {
+        Ok((skipped, behind)) => skipped == term && behind == rest,
+        Err(_) => false,
     }
-    Ok(())
 }
 
 #[test]
-fn skips_a_term_of_each_tag(rt: HostRuntime) -> Result<(), Fail> {
-    for term in TAGS {
-        skips(&rt, rt.alloc(), &bytes(rt.alloc(), term)?, term)?;
-    }
-    Ok(())
-}
-
-#[test]
-fn judges_each_change_of_a_byte(rt: HostRuntime) -> Result<(), Fail> {
+fn skips_what_a_node_said(rt: HostRuntime) {
     for row in &WORKED {
-        let term = bytes(rt.alloc(), row.term)?;
-        let mut ends = 0_u32;
-        let mut cut = 0_u32;
-        let mut no_tag = 0_u32;
-        for (at, byte) in term.iter().enumerate() {
-            for other in [0, 0xff, byte.wrapping_add(1), byte.wrapping_sub(1)] {
-                match skip(&changed(rt.alloc(), &term, at, other)?) {
-                    Ok(_) => ends = ends.wrapping_add(1),
-                    Err(TermFault::Truncated) => cut = cut.wrapping_add(1),
-                    Err(TermFault::UnknownTag) => no_tag = no_tag.wrapping_add(1),
-                }
-            }
-        }
-        assert_eq!(rt;
-            (ends, cut, no_tag),
-            (row.ends, row.cut, row.no_tag),
+        assert!(rt; skips(rt.alloc(), row.term) == Some(true), "{}", row.said);
+    }
+}
+
+#[test]
+fn skips_a_term_of_each_tag(rt: HostRuntime) {
+    for term in &TAGS {
+        assert!(rt; skips(rt.alloc(), term) == Some(true), "{term}");
+    }
+}
+
+/// How many of the changes of that byte end so: with no fault, where the term still ends.
+fn changes_at(term: &mut [u8], at: usize, fault: Option<TermFault>) -> u32 {
+    let old = exchange(term, at, 0);
+    let mut count = 0_u32;
+    for new in changes_of(old) {
+        exchange(term, at, new);
+        count = count.wrapping_add(u32::from(skip(term).err() == fault));
+    }
+    exchange(term, at, old);
+    count
+}
+
+fn changes(term: &mut [u8], fault: Option<TermFault>) -> u32 {
+    let mut count = 0_u32;
+    for at in 0..term.len() {
+        count = count.wrapping_add(changes_at(term, at, fault));
+    }
+    count
+}
+
+/// How many of all changes end, are cut and have no tag.
+fn judged(alloc: Global, digits: &str) -> Option<[u32; 3]> {
+    let mut term = bytes_of(alloc, digits)?;
+    let ends = changes(&mut term, None);
+    let cut = changes(&mut term, Some(TermFault::Truncated));
+    let no_tag = changes(&mut term, Some(TermFault::UnknownTag));
+    Some([ends, cut, no_tag])
+}
+
+#[test]
+fn judges_each_change_of_a_byte(rt: HostRuntime) {
+    for row in &WORKED {
+        let wanted = [row.ends, row.cut, row.no_tag];
+        assert!(rt;
+            judged(rt.alloc(), row.term) == Some(wanted),
             "{}",
             row.said
         );
     }
-    Ok(())
+}
+
+fn is_known(tag: u8) -> bool {
+    matches!(tag, 70 | 77 | 88..=90 | 97 | 98 | 100 | 104..=113 | 116 | 118..=120)
+}
+
+fn is_unknown(tag: u8) -> bool {
+    skip(&[tag]) == Err(TermFault::UnknownTag)
 }
 
 #[test]
-fn refuses_unknown_tags(rt: HostRuntime) -> Result<(), Fail> {
+fn refuses_unknown_tags(rt: HostRuntime) {
     for tag in 0..=255_u8 {
-        let known = matches!(tag, 70 | 77 | 88..=90 | 97 | 98 | 100 | 104..=113 | 116 | 118..=120);
-        let fault = skip(&[tag]).err();
-        let unknown = fault == Some(TermFault::UnknownTag);
-        assert_eq!(rt; unknown, !known, "{tag}");
+        assert!(rt; is_unknown(tag) != is_known(tag), "{tag}");
     }
-    Ok(())
-}
-
-/// A process of the serial 0.
-fn first_pid(node: &[u8], id: u32, creation: u32) -> PidTerm<'_> {
-    PidTerm {
-        node,
-        id,
-        serial: 0,
-        creation,
-    }
-}
-
-#[test]
-fn reads_and_writes_a_monitor(rt: HostRuntime) -> Result<(), Fail> {
-    let term = bytes(rt.alloc(), MONITOR)?;
-    let (arity, rest) = tuple_at(&term).ok_or(TermFault::Truncated)?;
-    assert_eq!(rt; arity, 4);
-    let (operation, rest) = small_integer_at(rest).ok_or(TermFault::Truncated)?;
-    assert_eq!(rt; operation, 19);
-    let (from, rest) = pid_at(rest).ok_or(TermFault::Truncated)?;
-    assert_eq!(rt; from, first_pid(b"a@127.0.0.1", 0x57, 0x6b08_41b0));
-    let (to, rest) = pid_at(rest).ok_or(TermFault::Truncated)?;
-    assert_eq!(rt; to, first_pid(b"w@127.0.0.1", 1, 0x4d));
-    let (reference, rest) = reference_at(rest).ok_or(TermFault::Truncated)?;
-    assert_eq!(rt; reference.node, b"a@127.0.0.1".as_slice());
-    assert_eq!(rt; (reference.count, reference.creation), (3, 0x6b08_41b0));
-    assert_eq!(rt;
-        reference.words,
-        b"\0\x01\x67\x12\xe0\x58\0\x03\x82\x41\xa5\xb9".as_slice()
-    );
-    assert!(rt; rest.is_empty());
-    let mut out = Vec::new(rt.alloc());
-    put_tuple(arity, &mut out)?;
-    put_small_integer(operation, &mut out)?;
-    put_pid(&from, &mut out)?;
-    put_pid(&to, &mut out)?;
-    put_reference(&reference, &mut out)?;
-    assert_eq!(rt; out, term);
-    Ok(())
-}
-
-/// `{leave, [7]}` as a node says it, `[jobs]` and `<<"g">>`.
-#[test]
-fn reads_and_writes_groups(rt: HostRuntime) -> Result<(), Fail> {
-    let term = b"\x68\x02\x77\x05leave\x6b\0\x01\x07\x6c\0\0\0\x01\x77\x04jobs\x6a\x6d\0\0\0\x01g";
-    let (arity, rest) = tuple_at(term).ok_or(TermFault::Truncated)?;
-    let (leave, rest) = atom_at(rest).ok_or(TermFault::Truncated)?;
-    assert_eq!(rt; leave, b"leave".as_slice());
-    assert!(rt; binary_at(rest).is_none());
-    let (numbers, rest) = numbers_at(rest).ok_or(TermFault::Truncated)?;
-    assert_eq!(rt; numbers, b"\x07".as_slice());
-    let (count, rest) = list_at(rest).ok_or(TermFault::Truncated)?;
-    assert_eq!(rt; count, 1);
-    let (jobs, rest) = atom_at(rest).ok_or(TermFault::Truncated)?;
-    let rest = after_nil(rest).ok_or(TermFault::Truncated)?;
-    assert!(rt; numbers_at(rest).is_none());
-    let (binary, rest) = binary_at(rest).ok_or(TermFault::Truncated)?;
-    assert_eq!(rt; (jobs, binary), (b"jobs".as_slice(), b"g".as_slice()));
-    assert!(rt; rest.is_empty());
-    let mut out = Vec::new(rt.alloc());
-    put_tuple(arity, &mut out)?;
-    put_atom(leave, &mut out)?;
-    put_numbers(numbers, &mut out)?;
-    put_list(count, &mut out)?;
-    put_atom(jobs, &mut out)?;
-    put_nil(&mut out)?;
-    put_binary(binary, &mut out)?;
-    assert_eq!(rt; out.as_slice(), term.as_slice());
-    Ok(())
 }

@@ -1,4 +1,4 @@
-use Rattle.std.proofs.Common.{◌≡◌, length}
+use Rattle.std.proofs.Common.{length, ◌≡◌}
 use Rattle.link_tests.proofs.parts.rows.Given as goal
 
 abbrev pub invariant-loop-place : goal.invariant-loop-place
