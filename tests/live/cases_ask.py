@@ -172,6 +172,34 @@ def held_through_turns_and_stops(field):
 
 
 @case
+def held_through_stops_in_a_row(field):
+    """`pg_ask hold` joins again however close one stop of its scope comes behind another."""
+    a = field.node("a@h")
+    holding = [Asking(field, a.control_path, "hold", "jobs", "printers", stdin=subprocess.PIPE) for _ in range(3)]
+    for held in holding:
+        held.line()
+    for _ in range(60):
+        a.ask("stop jobs")
+    until("all of them", lambda: members(a, "printers", "jobs") if a.ask("groups jobs").startswith("groups") else [],
+          lambda came: len(came) == len(holding))
+    expect("those that have ended", [], [held for held in holding if held.process.poll() is not None])
+
+
+@case
+def answer_that_is_read_slowly(field):
+    """The time for an answer ends when it has come: a long one is printed whole, however slowly it is read."""
+    a = field.node("a@h")
+    start(a)
+    pid = a.ask("spawn").split()[1]
+    for _ in range(40):
+        asked(a, "join pg g" + f" {pid}" * 100)
+    answer = a.ask("members pg g")
+    slow = Asking(field, "--timeout", 1000, a.control_path, "members", "pg", "g")
+    time.sleep(2)
+    expect("the answer and the status", (answer + "\n", 0), slow.end())
+
+
+@case
 def held_for_a_program_that_is_killed(field):
     """The shell's line of the page ties a group to a program: when the program is killed, its process has left."""
     a = field.node("a@h")

@@ -1,4 +1,4 @@
-"""The control socket, the standard streams, the command line, and how a node ends."""
+"""The control socket, the standard streams, and how a node ends."""
 
 import os
 import re
@@ -386,47 +386,3 @@ def one_plain_line(lines):
     expect("lines on standard error", 1, len(lines))
     debugged = [word for word in ("Err(", "Error {", "Os {", "panicked", "Some(") if word in lines[0]]
     expect_that(not debugged, "a plain line on standard error", lines[0])
-
-
-@case
-def faults_of_the_command_line(field):
-    """A fault of the command line is told in plain words, with a status that isn't 0, and nothing is served."""
-    readable = field.cookie_file(mode=0o644)
-    cases = [["a@h"], ["nobody", "--cookie", "c"], ["a@h", "--cookie", ""], ["a@h", "--cookie", "c", "--dial", "b@h"],
-             ["a@h", "--cookie", "c", "--listen", "nowhere"], ["a@h", "--cookie", "c", "--creation", "0"],
-             ["a@h", "--cookie", "c", "--ticktime", "soon"], ["a@h", "--cookie", "c", "--links", "3"], ["a@h", "--cookie-file", readable],
-             ["a@h", "--cookie-file", os.path.join(field.folder, "none")], ["a@h", "--cookie", "c", "--unknown"]]
-    for words in cases:
-        done = subprocess.run([field.program, *words], stdin=subprocess.DEVNULL, capture_output=True, timeout=LIMIT, check=False)
-        expect_that(done.returncode in (1, 2), f"status 1 or 2 for {words}", done.returncode)
-        expect_that(done.stderr != b"" and b"panicked" not in done.stderr and b"Err(" not in done.stderr,
-                    f"plain words for {words}", done.stderr)
-        expect(f"standard output for {words}", b"", done.stdout)
-
-
-@case
-def options_that_do_not_fit(field):
-    """A peer that is given twice, a mode without its socket, one path for both sockets, a path that is too long, a level that isn't one,
-    and a size without an archive: each is told by its option, and nothing is served."""
-    long = os.path.join(field.folder, "x" * 104)
-    for words, fault in ((("--dial", "b@h=127.0.0.1:1", "--dial", "b@h=127.0.0.1:2"), "--dial: this peer is given twice: b@h=127.0.0.1:2"),
-                         (("--control-mode", "0660"), "--control-mode: there is no --control"),
-                         (("--control-read-mode", "0660"), "--control-read-mode: there is no --control-read"),
-                         (("--control", long + ".s", "--control-read", long + ".s"), "--control-read: the path of --control"),
-                         (("--control", long), f"--control: {long[:60]}: a path of more than 103 bytes"),
-                         (("--log-level", "debug"), "--log-level: not error, warn or info: debug"),
-                         (("--audit-size", "5000"), "--audit-size: there is no --audit")):
-        node = field.start("a@h", *words, control=False, port=None)
-        expect_that(node.status() in (1, 2), f"status 1 or 2 for {words}", node.status())
-        expect(f"what is said of {words}", [f"error: {fault}"], [line for line in node.errors() if line.startswith("error")][-1:])
-
-
-@case
-def open_to_all(field):
-    """A node that listens at all addresses warns of it once."""
-    words = ["--cookie-file", field.cookie_file(), "--listen", "0.0.0.0:0"]
-    done = subprocess.run([field.program, "a@h", *words], input=b"nodes\n", capture_output=True, timeout=LIMIT, check=False)
-    expect("the status", 0, done.returncode)
-    warnings = [line for line in done.stderr.decode().splitlines() if "plain" in line or "0.0.0.0" in line]
-    expect("warnings", 1, len(warnings))
-    expect_that(done.stdout.decode().splitlines()[-1] == "nodes", "the answer to a line", done.stdout)

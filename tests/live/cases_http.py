@@ -1,4 +1,4 @@
-"""A node over HTTP: metrics, health, status and the page; and what is said by a file of settings, and at a socket for reads."""
+"""A node over HTTP: metrics, health, status and the page."""
 
 import html.parser
 import http.client
@@ -7,7 +7,6 @@ import os
 import re
 import shutil
 import socket
-import stat
 import subprocess
 import tempfile
 import time
@@ -15,7 +14,6 @@ import time
 from field import case
 from node import asked, await_members, await_nodes, member, new_pid, size, start
 from peer import connect, Peer
-from talk import Control
 from waiting import LIMIT, expect, expect_that, until
 
 ODD_GROUPS = ("<script>alert(1)</script>", "a&amp;b", "\"quoted\"", "'single'", "back\\slash", "</td></table>")
@@ -287,95 +285,6 @@ def health_while_draining(field):
     with open(audit, encoding="ascii") as file:
         opened = [line for line in file if " Opened " in line]
     expect("links that were taken", [], opened)
-
-
-@case
-def settings_in_a_file(field):
-    """`--config` says options by their names; the command line goes first; what is wrong in the file is told with its line."""
-    cookie = field.cookie_file(mode=0o440)
-    file = os.path.join(field.folder, "node.toml")
-
-    def write(text):
-        with open(file, "w", encoding="utf-8") as settings:
-            settings.write(text)
-
-    write(f'# a node\ncookie-file = "{cookie}"\ncreation = 5\nentries = 128\nallow = ["b@h", "c@h"]\nhidden = true\nlog-level = "warn"\n')
-    done = subprocess.run([field.program, "a@h", "--config", file, "--creation", "6"], input=b"self\nallowed\nstatus\n",
-                          capture_output=True, timeout=LIMIT, check=False)
-    lines = done.stdout.decode().splitlines()
-    expect("what it says", ["self a@h 6", "allowed b@h c@h"], lines[:2])
-    expect_that("/128 " in lines[2] and b" info " not in done.stderr, "its entries and its level", (lines, done.stderr))
-    write(f'cookie-file = "{cookie}"\nallow = ["b@h"]\n')
-    done = subprocess.run([field.program, "a@h", "--config", file, "--cookie", "c", "--allow", "d@h"], input=b"allowed\n",
-                          capture_output=True, timeout=LIMIT, check=False)
-    expect("who is allowed by the command line", b"allowed d@h\n", done.stdout)
-    for text, fault in (("\nentris = 5\n", "line 2: no such option: entris"), ('entries = "5"\n', "line 1: not a whole number: entries"),
-                        ("cookie = 5\n", "line 1: not a text between quotes: cookie"), ("allow = 'b@h'\n", "line 1: not a list of texts"),
-                        ("allow = [1]\n", "line 1: not a list of texts"),
-                        ("allow = []\n", "line 1: an empty list would let all peers in: allow"), ("control-mode = 0660\n", "line 1: "),
-                        ("hidden = 1\n", "line 1: not true or false: hidden"),
-                        ("[listen]\n", "line 1: not a text"), ("a = 1\nb\n", "line 2: "), ("entries = 5\n", "entries"),
-                        ("listen = 'nowhere'\n", "--listen")):
-        write(text)
-        done = subprocess.run([field.program, "a@h", "--config", file, "--cookie-file", cookie], stdin=subprocess.DEVNULL,
-                              capture_output=True, timeout=LIMIT, check=False)
-        said = [line for line in done.stderr.decode().splitlines() if line.startswith("error")]
-        expect(f"the status of {text!r}", 2, done.returncode)
-        expect_that(len(said) == 1 and fault in said[0], fault, said)
-    done = subprocess.run([field.program, "a@h", "--config", file + ".none", "--cookie", "c"], stdin=subprocess.DEVNULL,
-                          capture_output=True, timeout=LIMIT, check=False)
-    expect("the status without the file", 1, done.returncode)
-
-
-@case
-def modes_of_files(field):
-    """The control socket has the mode of `--control-mode`, the socket for reads that of `--control-read-mode`; a file of a cookie may
-    be read by its group, and by nobody else."""
-    reading = os.path.join(field.folder, "reading")
-    a = field.node("a@h", "--control-mode", "0666", "--control-read", reading, "--control-read-mode", "640")
-    expect("modes", [0o666, 0o640], [stat.S_IMODE(os.stat(path).st_mode) for path in (a.control_path, reading)])
-    b = field.node("b@h", "--control-read", reading + ".b")
-    expect("usual modes", [0o600, 0o660], [stat.S_IMODE(os.stat(path).st_mode) for path in (b.control_path, reading + ".b")])
-    b.quit()
-    expect_that(not os.path.exists(reading + ".b"), "no socket for reads behind the end", reading)
-    for words in (("--control-mode", "0888"), ("--control-mode", "1777"), ("--control-mode", "rw"), ("--http", "localhost:80"),
-                  ("--http", "0.0.0.0:0"), ("--http", "127.0.0.1")):
-        wrong = field.start("w@h", *words, control=False, port=None)
-        expect(f"the status of {words}", 2, wrong.status())
-    for mode, wanted in ((0o600, 0), (0o400, 0), (0o440, 0), (0o640, 0), (0o644, 1), (0o660, 1), (0o604, 1), (0o620, 1)):
-        path = field.cookie_file(cookie=f"cookie{mode}", mode=mode)
-        done = subprocess.run([field.program, "m@h", "--cookie-file", path], stdin=subprocess.DEVNULL, capture_output=True,
-                              timeout=LIMIT, check=False)
-        expect(f"the status with a cookie of mode {mode:o}", wanted, done.returncode)
-    any_address = field.start("c@h", "--http", "0.0.0.0:0", "--http-anywhere", control=False, port=None)
-    expect_that(any_address.next_answer("its address").startswith("http 0.0.0.0:"), "any address, where it may", "none")
-
-
-@case
-def socket_for_reads(field):
-    """At the socket of `--control-read` all that reads and watches is answered as ever, and nothing else is: no entry but those of
-    monitors."""
-    reading = os.path.join(field.folder, "reading")
-    a = field.node("a@h", "--control-read", reading)
-    pid = member(a)
-    reader = field.keep(Control(reading))
-    refused = "fault this socket takes reads and monitors alone"
-    before = size(a)
-    for line in ("cookie c", "cookie_for b@h c", "allow b@h", "start s", "stop pg", "spawn", f"exit {pid}", f"join pg g {pid}",
-                 f"leave pg g {pid}", "disconnect b@h", "dial b@h=h:1", "undial b@h", "drain", "quit"):
-        asked(reader, line, refused)
-    for line, answer in (("members pg g", f"pids {pid}"), ("groups pg", "groups g"), ("nodes", "nodes"), ("self", a.ask("self")),
-                         ("scopes", "scopes pg"), ("dials", "dials"), ("links", "links"), ("allowed", "allowed"), ("refusals", "refusals"),
-                         ("size", f"size {before}"), ("audit 1", a.ask("audit 1"))):
-        asked(reader, line, answer)
-    expect_that(reader.ask("help").startswith("help "), "help", "none")
-    expect_that(reader.ask("dance").startswith("fault no such command"), "a fault of a line", "none")
-    expect("the size of the audit", before, size(a))
-    watch = reader.ask("monitor_scope pg")
-    expect_that(watch.startswith("ref "), "a monitor", watch)
-    asked(a, f"join pg h {pid}")
-    reader.told(r"! join \d+ h 1 .*")
-    asked(reader, f"demonitor {watch.split()[1]}")
 
 
 @case

@@ -6,7 +6,6 @@ import socket
 import subprocess
 import sys
 import threading
-import time
 
 from field import case
 from node import asked, await_members, await_nodes, member, new_pid, size, start
@@ -83,6 +82,18 @@ def await_kept(talk, most=KEPT):
     return until(f"{most} entries at most", lambda: kept(talk), lambda came: came <= most)
 
 
+def many_events(node, busy, pid):
+    """The events of a case: the most entries that were kept at any time, and the memory behind a fifth of them."""
+    most, memory = 0, None
+    for begin in range(0, events(), 10_000):
+        refused(busy, 9_600)
+        moves(busy, pid, 400)
+        most = max(most, kept(node))
+        if begin >= events() // 5 and memory is None:
+            memory = node.memory()[0]
+    return most, memory
+
+
 @case
 def runs_on(field):
     """Through 300,000 events a node that keeps 1,000 entries goes on: its clients, a router, monitors of quiet groups and its links stay
@@ -101,13 +112,7 @@ def runs_on(field):
     await_members(b, [pid], "quiet")
     number = quiet.ask("monitor pg quiet").split()[1]
     link = a.ask("links").split()[1]
-    most, memory = 0, None
-    for begin in range(0, events(), 10_000):
-        refused(busy, 9_600)
-        moves(busy, moved, 400)
-        most = max(most, kept(a))
-        if begin >= events() // 5 and memory is None:
-            memory = a.memory()[0]
+    most, memory = many_events(a, busy, moved)
     expect_that(most < 40_000, "few entries that are kept at any time", most)
     grown = a.memory()[0] - memory
     expect_that(grown < 40_960, "less than 40 MiB more of memory", f"{grown} KiB")

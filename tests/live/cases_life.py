@@ -268,6 +268,7 @@ def memory_at_its_end(field):
     leaving.close()
     await_members(b, [], limit=4)
     busy.told("! restarted [0-9]+")
+    until("a warning", lambda: a.log("warn no_memory"))
     expect_one("its standard error", a.log("warn no_memory"), 'warn no_memory reason="out of memory: the node begins anew"')
     again = member(busy)
     await_members(b, [again], limit=10)

@@ -4,7 +4,6 @@ import os
 from functools import partial
 
 from field import case
-from node import asked
 from peer import connect, digest
 from waiting import LIMIT, expect, until
 

@@ -152,13 +152,26 @@ def epmd_has_both(field):
 
 
 @case
-def no_epmd(field):
-    """Without any EPMD a stock node at a fixed port is dialled; a dial to one that EPMD doesn't have says so."""
+def unregistered(field):
+    """A stock node at a fixed port is dialled; a dial to one that EPMD doesn't have says so."""
     stock = field.stock("a@127.0.0.1")
     first = stock.member()
     node = field.worker(*field.dial(stock), "--otp-dial", "nobody@127.0.0.1", listen=False, epmd=True)
     await_members(node, [first], "printers", "jobs")
     until("a dial of nobody", lambda: node.ask("dials"), lambda came: "unregistered" in came)
+
+
+@case
+def no_epmd(field):
+    """Without an EPMD a dial and a line of the log say so; once there is one the node is registered, and finds the stock node."""
+    node = field.worker("--otp-dial", "a@127.0.0.1")
+    until("a dial without EPMD", lambda: node.ask("dials"), lambda came: "no_epmd" in came)
+    until("a line of the log", lambda: node.log("warn not_registered "))
+    stock = field.stock("a@127.0.0.1")
+    first = stock.member()
+    until("a registration", lambda: node.log("info registered "))
+    await_members(node, [first], "printers", "jobs")
+    expect("lines about EPMD", 1, len(node.log("warn not_registered ")))
 
 
 @case

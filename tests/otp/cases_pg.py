@@ -11,6 +11,9 @@ SEEDS = (1, 2, 3)
 STEPS = 250
 # The seconds for 65,536 rows, with an unproved program on a busy machine.
 LONG = 400
+# How many groups are told as atoms, and how many lines are sent at once.
+MOST_ATOMS = 65_536
+AT_ONCE = 1_024
 GROUPS = (("printers", "printers"), ("scanners", "scanners"), ('<<"b">>', "#b:b"), ("{w,1}", "#x:680277017761" + "01"), ('"str"', "#x:6b0003737472"),
           ("7", "#x:6107"), ("#{k=>1}", "#x:740000000177016b6101"))
 
@@ -175,7 +178,7 @@ def random_steps(field):
 
 @case
 def rows_up_to_the_limit(field):
-    """4,096 rows of a stock node are listed; one more isn't, and as soon as one leaves the view is whole again."""
+    """4,096 rows of a stock node are listed; one more isn't, and as soon as one leaves the view is whole again. The log says so behind the link's end."""
     field.epmd()
     stock, node = linked(field)
     stock.ask("L = [spawn(fun ctl:member/0) || _ <- lists:seq(1, 4096)], ok")
@@ -190,6 +193,8 @@ def rows_up_to_the_limit(field):
     own = new_pid(node)
     asked(node, f"join jobs big {own}")
     until("a row of the node's own", lambda: stock.ask("length(pg:get_members(jobs, big))"), lambda came: came == "4097")
+    stock.ask(f"erlang:disconnect_node('{node.name}')")
+    until("a line about too many rows", lambda: node.log("info otp_dropped reason=too_many_rows "))
 
 
 @case
@@ -208,3 +213,38 @@ def rows_in_parts(field):
     stock.connect(node.name)
     until("65,536 rows in one sync", lambda: len(members(node, "big", "jobs")), lambda came: came == 65_536, LONG, 1)
     until("6,000 rows in one sync", lambda: stock.ask("length(pg:get_members(jobs, own))"), lambda came: came == "6000", LONG)
+
+
+@case
+def rows_that_are_not_carried(field):
+    """A group of a stock node whose name is too long isn't listed, and the others are; the log says so behind the link's end."""
+    field.epmd()
+    stock, node = linked(field)
+    first = stock.member()
+    stock.ask("pg:join(jobs, list_to_binary(lists:duplicate(300, $a)), P)")
+    await_members(node, [first], "printers", "jobs")
+    last = stock.member("last", name="Q")
+    await_members(node, [last], "last", "jobs")
+    expect("the groups", "groups last printers", node.ask("groups jobs"))
+    stock.ask(f"erlang:disconnect_node('{node.name}')")
+    until("a line about rows that aren't carried", lambda: node.log("info otp_dropped reason=unheard "))
+
+
+@case
+def too_many_atoms(field):
+    """65,536 groups are told as atoms; rows of one more aren't, which is warned of, and those of groups that were told, or are no atoms, still are."""
+    field.epmd()
+    stock, node = linked(field)
+    control = field.control(node)
+    own = new_pid(control)
+    for begin in range(0, MOST_ATOMS, AT_ONCE):
+        lines = [f"{word} jobs g{number:05} {own}" for number in range(begin, begin + AT_ONCE) for word in ("join", "leave")]
+        control.socket.sendall("".join(f"{line}\n" for line in lines).encode())
+        expect("the answers", {"ok"}, {control.next_answer("an answer", LONG) for _ in lines})
+    expect("warnings", [], node.log("warn too_many_atoms "))
+    asked(control, f"join jobs last {own}")
+    until("a warning", lambda: node.log("warn too_many_atoms "))
+    asked(control, f"join jobs g00000 {own}")
+    asked(control, f"join jobs #b:last {own}")
+    stock.await_members([own], '<<"last">>')
+    expect("the groups at the stock node", "[g00000,<<\"last\">>]", stock.ask("lists:sort(pg:which_groups(jobs))"))

@@ -6,10 +6,9 @@ import re
 import socket
 import subprocess
 import threading
-import time
 
 from field import COOKIE, Field
-from waiting import LIMIT, expect, expect_that, until
+from waiting import LIMIT, expect, until
 
 HERE = os.path.dirname(os.path.realpath(__file__))
 
