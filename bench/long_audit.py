@@ -1,6 +1,6 @@
 #!/usr/bin/env python3
 """What a long audit costs: `pg_console run` over joins and leaves of one process, each an entry, with its processor time and memory (VmRSS) behind
-each tenth of them, and how the last tenth compares with the first.
+each tenth of them. The last tenth is played by turns with the first one of another node, so that both have the same machine, and compared with it.
 
 bench/long_audit.py [PROGRAM] [--entries N]     N is 10,000,000 where it isn't given, which takes some 3 GB
 bench/long_audit.py [PROGRAM] --keep N          the node forgets, and keeps N entries
@@ -14,7 +14,8 @@ import threading
 HERE = os.path.dirname(os.path.realpath(__file__))
 TENTHS = 10
 ROUND = b"join pg g b@h/1/1\nleave pg g b@h/1/1\n" * 5000
-ANSWERS = b"ok\n" * 10_000
+EVENTS = 10_000
+ANSWERS = b"ok\n" * EVENTS
 TICKS = os.sysconf("SC_CLK_TCK")
 
 
@@ -25,21 +26,6 @@ def words():
     reader.add_argument("--keep", type=int)
     reader.add_argument("--archive")
     return reader.parse_args()
-
-
-def write(stream, rounds):
-    for _ in range(rounds):
-        stream.write(ROUND)
-    stream.flush()
-
-
-def spent(process):
-    """Its processor seconds and its memory in bytes."""
-    with open(f"/proc/{process.pid}/stat", encoding="ascii") as stat:
-        user, system = stat.read().rsplit(")", 1)[1].split()[11:13]
-    with open(f"/proc/{process.pid}/status", encoding="ascii") as status:
-        memory = next(int(line.split()[1]) * 1024 for line in status if line.startswith("VmRSS"))
-    return (int(user) + int(system)) / TICKS, memory
 
 
 def options(said):
@@ -58,32 +44,73 @@ def replay(said):
     return used.ru_utime + used.ru_stime
 
 
-def main():
-    said = words()
-    command = [said.program, "run", "b@h", "password", "--entries", str(said.entries + 2), *options(said)]
-    node = subprocess.Popen(command, stdin=subprocess.PIPE, stdout=subprocess.PIPE)
-    node.stdin.write(b"start pg\nspawn\n")
-    node.stdin.flush()
-    assert node.stdout.readline() + node.stdout.readline() == b"ok\npid b@h/1/1\n"
-    rounds = said.entries // 10_000 // TENTHS
-    begin, _ = spent(node)
-    before, times, sizes = begin, [], []
-    print(f"{'entries':>12} {'microseconds an entry':>24} {'MB':>8}")
-    for tenth in range(1, TENTHS + 1):
-        writer = threading.Thread(target=write, args=(node.stdin, rounds))
+class Node:
+    """A running console, and what it has spent so far."""
+
+    def __init__(self, said):
+        command = [said.program, "run", "b@h", "password", "--entries", str(said.entries + 2), *options(said)]
+        self.process = subprocess.Popen(command, stdin=subprocess.PIPE, stdout=subprocess.PIPE)
+        self.process.stdin.write(b"start pg\nspawn\n")
+        self.process.stdin.flush()
+        assert self.process.stdout.readline() + self.process.stdout.readline() == b"ok\npid b@h/1/1\n"
+        self.begin = self.seconds()
+
+    def play(self, rounds):
+        writer = threading.Thread(target=self.write, args=(rounds,))
         writer.start()
         for _ in range(rounds):
-            assert node.stdout.read(len(ANSWERS)) == ANSWERS
+            assert self.process.stdout.read(len(ANSWERS)) == ANSWERS
         writer.join()
-        now, memory = spent(node)
-        print(f"{tenth * rounds * 10_000:>12,} {(now - before) / (rounds * 10_000) * 1e6:>24.2f} {memory / 1e6:>8,.0f}", flush=True)
-        times, sizes, before = [*times, now - before], [*sizes, memory], now
-    node.stdin.close()
-    node.wait()
-    print(f"the last tenth for the first: {times[-1] / times[0]:.3f} of the time, {sizes[-1] / sizes[0]:.3f} of the memory")
+
+    def write(self, rounds):
+        for _ in range(rounds):
+            self.process.stdin.write(ROUND)
+        self.process.stdin.flush()
+
+    def seconds(self):
+        """Of processors."""
+        with open(f"/proc/{self.process.pid}/stat", encoding="ascii") as stat:
+            user, system = stat.read().rsplit(")", 1)[1].split()[11:13]
+        return (int(user) + int(system)) / TICKS
+
+    def memory(self):
+        with open(f"/proc/{self.process.pid}/status", encoding="ascii") as status:
+            return next(int(line.split()[1]) * 1024 for line in status if line.startswith("VmRSS"))
+
+    def end(self):
+        self.process.stdin.close()
+        self.process.wait()
+
+
+def tell(entries, seconds, each, node):
+    print(f"{entries:>12,} {seconds / each * 1e6:>24.2f} {node.memory() / 1e6:>8,.0f}", flush=True)
+
+
+def main():
+    said = words()
+    node, each = Node(said), said.entries // TENTHS
+    before, first_memory = node.begin, None
+    print(f"{'entries':>12} {'microseconds an entry':>24} {'MB':>8}")
+    for tenth in range(1, TENTHS):
+        node.play(each // EVENTS)
+        tell(tenth * each, node.seconds() - before, each, node)
+        before, first_memory = node.seconds(), first_memory or node.memory()
+    aside = None if said.archive is None else f"{said.archive}.first"
+    other = Node(argparse.Namespace(**{**vars(said), "archive": aside}))
+    for _ in range(each // EVENTS):
+        node.play(1)
+        other.play(1)
+    last, first = node.seconds() - before, other.seconds() - other.begin
+    tell(said.entries, last, each, node)
+    print(f"the last tenth for the first of another node, by turns: {last / first:.3f} of the time; {node.memory() / first_memory:.3f} of the memory behind the first")
+    spent = node.seconds() - node.begin
+    node.end()
+    other.end()
+    if aside is not None:
+        os.remove(aside)
     if said.archive is not None:
         again = replay(said)
-        print(f"played again: {again / said.entries * 1e6:.2f} microseconds an entry, {(before - begin) / again:.2f} times as fast as the run")
+        print(f"played again: {again / said.entries * 1e6:.2f} microseconds an entry, {spent / again:.2f} times as fast as the run")
 
 
 if __name__ == "__main__":

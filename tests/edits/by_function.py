@@ -3,8 +3,10 @@ checked. What isn't refused so is made alone; what none of its functions refuses
 
 import os
 import shutil
+import sys
+from concurrent.futures import ThreadPoolExecutor
 
-from checks import COMPILE, PROVED, REFUSED, UNKNOWN, UNSURE, Crate, check, refused_functions
+from checks import COMPILE, PROVED, REFUSED, UNKNOWN, UNSURE, Crate, check, end_all, refused_functions
 from functions import changed_functions
 from rows import ROOT, rows, text_of
 
@@ -102,17 +104,37 @@ def verdicts(crate, rows_left):
         yield row, *tried(crate, row)
 
 
+def count_of(crate, wanted):
+    """How many of these rows of a crate are refused, and how many not; says a line for each. Where the crate isn't proved without them none is refused: it
+    is checked first, unless `rt ci` has just proved it."""
+    kind, said, _ = check(crate) if not crate.is_behind_ci else (PROVED, '', [])
+    if kind != PROVED:
+        say(f'{crate.name}: it isn\'t proved without any edit: {kind}: {said}')
+        return 0, len(wanted)
+    refused = 0
+    for row, verdict, by, line in verdicts(crate, wanted):
+        say(f'{crate.name}/{row.name}: {verdict} ({by}) {line}'.rstrip())
+        refused += verdict == REFUSED
+    return refused, len(wanted) - refused
+
+
 def count_by_function(names, copy, is_wanted, are_behind_ci):
-    """How many rows are refused, and how many not; a line for each. The rows of a crate that isn't proved without them count as not refused: it is
-    checked first, unless `rt ci` has just proved it."""
-    passed = failed = 0
-    for name in names:
-        crate, wanted = Crate(os.path.join(copy, 'crates', name), are_behind_ci), [row for row in rows(name) if is_wanted(row)]
-        kind, said, _ = check(crate) if wanted and not are_behind_ci else (PROVED, '', [])
-        if kind != PROVED:
-            print(f'{name}: it isn\'t proved without any edit: {kind}: {said}', flush=True)
-            failed += len(wanted)
-        for row, verdict, by, line in verdicts(crate, wanted) if kind == PROVED else []:
-            print(f'{name}/{row.name}: {verdict} ({by}) {line}'.rstrip(), flush=True)
-            passed, failed = passed + (verdict == REFUSED), failed + (verdict != REFUSED)
-    return passed, failed
+    """How many rows are refused, and how many not; a line for each. Behind `rt ci` there is a crate on each processor, those with most rows first; else
+    one after the other, since `rt check` works on one crate of a repository at a time."""
+    wanted = {name: [row for row in rows(name) if is_wanted(row)] for name in names}
+    left = sorted(filter(wanted.get, names), key=lambda name: -len(wanted[name]))
+    with ThreadPoolExecutor(os.cpu_count() or 1 if are_behind_ci else 1) as lanes:
+        counts = [lanes.submit(count_of, Crate(os.path.join(copy, 'crates', name), are_behind_ci), wanted[name]) for name in left]
+        try:
+            found = [count.result() for count in counts]
+        except BaseException:
+            lanes.shutdown(wait=False, cancel_futures=True)
+            end_all()
+            raise
+    return sum(refused for refused, _ in found), sum(others for _, others in found)
+
+
+def say(line):
+    """Says a line whole, beside whoever else does."""
+    sys.stdout.write(f'{line}\n')
+    sys.stdout.flush()

@@ -4,11 +4,14 @@ import os
 import re
 import signal
 import subprocess
+import threading
 from collections import namedtuple
 
 from rows import ROOT
 
 SECONDS = 3600
+# The checks that are under way, and whether no other is to begin.
+RUNNING, ENDS = set(), threading.Event()
 REFUSED, PROVED, UNKNOWN = 'refused', 'NOT REFUSED', 'no such function'
 COMPILE, LIMIT, UNSURE = 'COMPILE ERROR', 'ONLY A LIMIT', 'NOT TRIED'
 LIMITS = re.compile(r'antt ran out of (stack|the (steps|memory) )|(outgrew the memory limit|stopped at the step limit) \(')
@@ -71,8 +74,7 @@ def command(crate):
         words += ['-L', f'dependency={os.path.dirname(library(name))}']
     kept = os.path.join(crate.folder, 'out/incremental')
     os.makedirs(kept, exist_ok=True)
-    return [*words, '--antt-project', f'{kit}/rattle/logic/antt-project.json', '--logic-built', f'{kit}/logic_built', '--incremental', kept,
-            '--jobs', str(min(4, os.cpu_count() or 1))]
+    return [*words, '--antt-project', f'{kit}/rattle/logic/antt-project.json', '--logic-built', f'{kit}/logic_built', '--incremental', kept, '--jobs', '1']
 
 
 def check(crate, functions=()):
@@ -84,16 +86,31 @@ def check(crate, functions=()):
 
 def output(words, folder):
     """The status of a command that is run in a folder, None where it takes too long, and its lines. It ends with all that it started."""
+    if ENDS.is_set():
+        raise InterruptedError('the run is at its end')
     with subprocess.Popen(words, cwd=folder, stdin=subprocess.DEVNULL, stdout=subprocess.PIPE, stderr=subprocess.STDOUT, text=True,
                           errors='replace', start_new_session=True) as run:
+        RUNNING.add(run)
         try:
             said, _ = run.communicate(timeout=SECONDS)
             return run.returncode, said.rstrip('\n').split('\n')
         except subprocess.TimeoutExpired:
             return None, []
         finally:
-            if run.poll() is None:
-                os.killpg(run.pid, signal.SIGTERM)
+            end(run)
+            RUNNING.discard(run)
+
+
+def end(run):
+    if run.poll() is None:
+        os.killpg(run.pid, signal.SIGTERM)
+
+
+def end_all():
+    """Ends the checks that are under way; none begins behind it."""
+    ENDS.set()
+    for run in list(RUNNING):
+        end(run)
 
 
 def cannot_read(line):

@@ -2,7 +2,7 @@
 
 from collections import Counter
 
-from frames import DYNAMIC, HANDSHAKE_23, MOST_ROWS, Discover, Part, RowsJoin, RowsLeave, Sync
+from frames import DYNAMIC, HANDSHAKE_23, MOST_ROWS, Discover, Part, RowsJoin, RowsLeave
 from history import (Allow, Demonitor, Dial, Disconnect, Done, Entry, Exit, Frame, GroupList, Groups, History, Join, Leave,
                      LocalGroups, LocalMembers, Lost, Members, Monitor, MonitorScope, NewLink, NewPid, Opened, Out, Pids, Ref,
                      Restart, ScopeRef, SetCookieFor, Spawn, StartScope, StopScope, Take, Up, UpdateList, Updates, looks_back)
