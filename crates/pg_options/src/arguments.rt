@@ -1,6 +1,6 @@
 //! The arguments of the program, for the parser.
 use crate::stock::otp_arguments;
-use crate::usual::{CLIENTS, ENTRIES, FORMAT, LEVEL, LINKS, SETUP, TICK};
+use crate::usual::{CLIENTS, ENTRIES, FORMAT, LEVEL, LINKS, SETUP, TICK, Usual};
 use clap::{Arg, ArgAction, Command, Error as ClapError, value_parser};
 use std::alloc::Global;
 
@@ -148,9 +148,9 @@ fn link_arguments<'a>(alloc: Global, command: Command<'a>) -> Result<Command<'a>
     let command = otp_arguments(alloc, command)?;
     let command = with(command, links(alloc))?;
     let setup = "For a whole handshake";
-    let command = with(command, millis(alloc, "setuptime", SETUP.word, setup))?;
+    let command = with(command, millis(alloc, "setuptime", SETUP, setup))?;
     let tick = "A link is lost that is silent for so long";
-    with(command, millis(alloc, "ticktime", TICK.word, tick))
+    with(command, millis(alloc, "ticktime", TICK, tick))
 }
 
 fn face_arguments<'a>(alloc: Global, command: Command<'a>) -> Result<Command<'a>, ClapError> {
@@ -189,8 +189,8 @@ fn texts<'a>(alloc: Global, name: &'a str, value: &'a str, help: &'a str) -> Arg
     text(alloc, name, value, help).action(ArgAction::Append)
 }
 
-fn millis<'a>(alloc: Global, name: &'a str, usual: &'a str, help: &'a str) -> Arg<'a> {
+fn millis<'a>(alloc: Global, name: &'a str, usual: Usual<u32>, help: &'a str) -> Arg<'a> {
     text(alloc, name, "MS", help)
         .value_parser(value_parser!(u32).range(8..))
-        .default_value(usual)
+        .default_value(usual.word)
 }
