@@ -17,6 +17,7 @@ mod stake;
 mod stops;
 mod surroundings;
 mod watch;
+mod watched;
 
 pub use caller::{Caller, Lack};
 pub use news::{LostLinks, Seen};

@@ -44,9 +44,14 @@ impl Seen {
         self.entries
     }
 
-    /// Whether there are more entries since than so many, news or not.
+    /// How many entries there are since, news or not.
+    pub fn behind(&self, shared: &Shared) -> usize {
+        shared.core().audit().len().saturating_sub(self.entries)
+    }
+
+    /// Whether there are more entries since than so many.
     pub fn lags(&self, shared: &Shared, most: usize) -> bool {
-        shared.core().audit().len() > self.entries.saturating_add(most)
+        self.behind(shared) > most
     }
 
     /// Whether the node is still in that life.

@@ -22,7 +22,8 @@ use crate::rows::{MoreOrFewer, rows_of};
 use crate::stake::{keep, prepare};
 use crate::stops::put_stops;
 use crate::surroundings::{Surroundings, put_change, put_report};
-use crate::watch::{Watch, note_ages, note_all, tell_all};
+use crate::watch::{Watch, note_ages, tell_all};
+use crate::watched::{Watched, note_news, tell_noted};
 use dist_types::OutOfMemory;
 use node_core::NodeCore;
 use node_threads::Node;
@@ -32,6 +33,12 @@ use std::alloc::Global;
 use std::marker::Model;
 use std::mem::replace;
 use std::sync::Wait;
+
+/// So many monitors look at the entries one by one, however many there are.
+const FEW: usize = 16;
+
+/// So many times may more of them look at an entry under the node's lock.
+const AT_ONCE: usize = 65_536;
 
 /// The seat of one connection.
 pub struct Session {
@@ -342,10 +349,31 @@ impl Session {
         ensures rest { self.new ≡ record self.old { known = self.new.known } }
         ensures told { OnOk result (TellsNews self.old.known out.old.items self.new.known out.new.items) }
     {
+        let mut watched = self.watched(rt, alloc, node);
         let shared = node.shared.lock(rt);
-        note_all(&mut self.watches, self.news.unseen(shared.core()));
+        note_news(
+            &mut watched,
+            &mut self.watches,
+            self.news.unseen(shared.core()),
+        );
         put_stops(&self.processes, self.news.unseen(shared.core()), out)?;
-        self.news.put_peers(alloc, shared.core(), lost, out)
+        let told = self.news.put_peers(alloc, shared.core(), lost, out);
+        drop(shared);
+        tell_noted(watched, &mut self.watches);
+        told
+    }
+
+    /// What its monitors watch, where each of them would look at so many entries that the node's lock
+    /// were held for long.
+    fn watched<R: Wait>(&self, rt: &R, alloc: Global, node: &Node) -> Option<Watched> {
+        if self.watches.len() <= FEW {
+            return None;
+        }
+        let entries = self.news.seen().behind(&node.shared.lock(rt));
+        if entries.saturating_mul(self.watches.len()) <= AT_ONCE {
+            return None;
+        }
+        Watched::of(alloc, &self.watches).ok()
     }
 
     /// Ends a monitor of the connection: whether there was one.

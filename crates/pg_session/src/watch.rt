@@ -63,6 +63,25 @@ impl Watch {
         }
     }
 
+    /// The same of many entries: the last one that stopped its scope, and the last one that changed what
+    /// it watches, 0 where none did.
+    pub fn note_last(&mut self, stopped: u32, changed: u32) {
+        if stopped > self.number {
+            self.is_over = true;
+        } else if changed > self.number {
+            self.is_due = true;
+        }
+    }
+
+    pub fn scope(&self) -> &Scope {
+        &self.scope
+    }
+
+    /// None for all groups of the scope.
+    pub fn group(&self) -> Option<&Group> {
+        self.group.as_ref()
+    }
+
     /// Notes whether it was neither begun nor asked since there were so many entries.
     fn note_age(&mut self, stale: usize) {
         if self.asked.max(self.number as usize) < stale {
@@ -72,10 +91,7 @@ impl Watch {
 
     /// Whether the entry has stopped its scope.
     fn ends_with(&self, entry: &Entry) -> bool {
-        match (&entry.event, &entry.verdict) {
-            (Event::StopScope(scope), Verdict::Accepted(_)) => *scope == self.scope,
-            _ => false,
-        }
+        stopped_scope(entry).is_some_and(|scope| *scope == self.scope)
     }
 
     fn sees(&self, change: &Change) -> bool {
@@ -129,6 +145,14 @@ impl Watch {
             return Ok(());
         }
         put_numbered_line("! ended ", u64::from(self.number), out)
+    }
+}
+
+/// The scope that an entry has stopped.
+pub fn stopped_scope(entry: &Entry) -> Option<&Scope> {
+    match (&entry.event, &entry.verdict) {
+        (Event::StopScope(scope), Verdict::Accepted(_)) => Some(scope),
+        _ => None,
     }
 }
 
