@@ -6,8 +6,10 @@ import resource
 import socket
 import subprocess
 import sys
+import threading
 import time
 
+from cases_keeping import moves
 from field import case
 from node import asked, await_members, member, new_pid, start
 from talk import Control
@@ -18,6 +20,9 @@ STRANGERS = 30
 # So many programs, so often, that two of them would meet where nothing keeps them apart.
 STARTERS = 12
 ROUNDS = 8
+# So many monitors have so many changes to look at.
+MONITORS = 5_000
+CHANGES = 40_000
 
 
 class Deaf:
@@ -93,6 +98,32 @@ def deaf_client_holds_nobody_up(field):
     for _ in range(50):
         asked(control, "members pg g", f"pids {pid}")
     expect_that(seconds_since(began) < 5, "50 answers within 5 s", f"{seconds_since(began):.2f} s")
+
+
+@case
+def many_monitors_hold_nobody_up(field):
+    """While a connection with thousands of monitors looks at thousands of changes that it has
+    missed, others are answered; and it is told of all of them."""
+    a = field.node("a@h", port=None)
+    busy, quick = field.control(a), field.control(a)
+    start(busy)
+    watching = Deaf(field, a)
+    lines = watching.socket.makefile("rb")
+    watching.socket.sendall(b"monitor pg g\n" + b"".join(b"monitor pg g%d\n" % number
+                                                        for number in range(1, MONITORS)))
+    for _ in range(MONITORS):
+        expect_that(next(lines).startswith(b"ref "), "a monitor", "another answer")
+    moves(busy, new_pid(busy), CHANGES)
+    pid = new_pid(quick)
+    reading = threading.Thread(target=lambda: [next(lines) for _ in range(CHANGES)])
+    reading.start()
+    slowest = 0
+    while reading.is_alive():
+        began = time.perf_counter()
+        asked(quick, f"join pg quick {pid}")
+        slowest = max(slowest, time.perf_counter() - began)
+        time.sleep(0.003)
+    expect_that(slowest < 0.5, "each of the others' calls within half a second", f"{slowest:.2f} s")
 
 
 @case
