@@ -1,5 +1,6 @@
 """Plays rows in one copy of the repository, function by function: rows that change different functions are made at once, and those functions are
-checked. What isn't refused so is made alone; what none of its functions refuses, or what is in no function, the whole crate has to refuse."""
+checked. What isn't refused so is made with others once more, and alone in the end; what none of its functions refuses, or what is in no function, the
+whole crate has to refuse."""
 
 import os
 import shutil
@@ -11,7 +12,7 @@ from functions import changed_functions
 from rows import ROOT, rows, text_of
 
 # How many rows are made at once.
-TOGETHER = 8
+TOGETHER = 24
 
 
 def copy_of_repository(to):
@@ -93,13 +94,17 @@ def write(crate, texts):
 
 
 def verdicts(crate, rows_left):
-    """What each of these rows comes to, by which function, and the line that says so, as soon as that is known."""
-    left = list(rows_left)
-    for group in groups(crate, rows_left):
-        refused = tried_together(crate, group)
-        for row in [row for row, _ in group if row.name in refused]:
-            yield row, REFUSED, *refused[row.name]
-        left = [row for row in left if row.name not in refused]
+    """What each of these rows comes to, by which function, and the line that says so, as soon as that is known. A function that isn't refused for what
+    it is itself may rest on another one that was made at once, so what is left is made together again, as long as that finds any."""
+    left, found = list(rows_left), True
+    while found and len(left) > 1:
+        found = {}
+        for group in groups(crate, left):
+            refused = tried_together(crate, group)
+            for row in [row for row, _ in group if row.name in refused]:
+                yield row, REFUSED, *refused[row.name]
+            found |= refused
+        left = [row for row in left if row.name not in found]
     for row in left:
         yield row, *tried(crate, row)
 
