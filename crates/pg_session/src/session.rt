@@ -34,12 +34,6 @@ use std::marker::Model;
 use std::mem::replace;
 use std::sync::Wait;
 
-/// So many monitors look at the entries one by one, however many there are.
-const FEW: usize = 16;
-
-/// So many times may more of them look at an entry under the node's lock.
-const AT_ONCE: usize = 65_536;
-
 /// The seat of one connection.
 pub struct Session {
     caller: Caller,
@@ -349,7 +343,7 @@ impl Session {
         ensures rest { self.new ≡ record self.old { known = self.new.known } }
         ensures told { OnOk result (TellsNews self.old.known out.old.items self.new.known out.new.items) }
     {
-        let mut watched = self.watched(rt, alloc, node);
+        let mut watched = Watched::of_many(rt, alloc, node, &self.watches, self.news.seen());
         let shared = node.shared.lock(rt);
         note_news(
             &mut watched,
@@ -361,19 +355,6 @@ impl Session {
         drop(shared);
         tell_noted(watched, &mut self.watches);
         told
-    }
-
-    /// What its monitors watch, where each of them would look at so many entries that the node's lock
-    /// were held for long.
-    fn watched<R: Wait>(&self, rt: &R, alloc: Global, node: &Node) -> Option<Watched> {
-        if self.watches.len() <= FEW {
-            return None;
-        }
-        let entries = self.news.seen().behind(&node.shared.lock(rt));
-        if entries.saturating_mul(self.watches.len()) <= AT_ONCE {
-            return None;
-        }
-        Watched::of(alloc, &self.watches).ok()
     }
 
     /// Ends a monitor of the connection: whether there was one.

@@ -1,8 +1,17 @@
 //! What many monitors watch: entries are looked at once for all of them.
+use crate::news::Seen;
 use crate::watch::{Watch, note_all, stopped_scope};
 use dist_types::{Group, OutOfMemory, Scope, TryClone};
+use node_threads::Node;
 use policy_audit::{Change, Entry, Later};
 use std::alloc::Global;
+use std::sync::Wait;
+
+/// So many monitors look at the entries one by one, however many there are.
+const FEW: usize = 16;
+
+/// So many times may more of them look at an entry under the node's lock.
+const AT_ONCE: usize = 65_536;
 
 /// A scope, or a group of it, and the last entries that had to do with it, 0 where none had.
 #[derive(PartialEq, Eq, PartialOrd, Ord, Drop)]
@@ -46,7 +55,26 @@ pub struct Watched {
 }
 
 impl Watched {
-    pub fn of(alloc: Global, watches: &[Watch]) -> Result<Watched, OutOfMemory> {
+    /// What these monitors watch, where each of them would look at so many entries that the node's
+    /// lock were held for long.
+    pub fn of_many<R: Wait>(
+        rt: &R,
+        alloc: Global,
+        node: &Node,
+        watches: &[Watch],
+        seen: Seen,
+    ) -> Option<Watched> {
+        if watches.len() <= FEW {
+            return None;
+        }
+        let entries = seen.behind(&node.shared.lock(rt));
+        if entries.saturating_mul(watches.len()) <= AT_ONCE {
+            return None;
+        }
+        Watched::of(alloc, watches).ok()
+    }
+
+    fn of(alloc: Global, watches: &[Watch]) -> Result<Watched, OutOfMemory> {
         let mut places = Vec::new(alloc);
         for watch in watches {
             places.push(Place::of(alloc, watch.scope(), None)?)?;
