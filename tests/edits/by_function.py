@@ -128,7 +128,7 @@ def count_by_function(names, copy, is_wanted, are_behind_ci):
     one after the other, since `rt check` works on one crate of a repository at a time."""
     wanted = {name: [row for row in rows(name) if is_wanted(row)] for name in names}
     left = sorted(filter(wanted.get, names), key=lambda name: -len(wanted[name]))
-    with ThreadPoolExecutor(os.cpu_count() or 1 if are_behind_ci else 1) as lanes:
+    with ThreadPoolExecutor(len(os.sched_getaffinity(0)) if are_behind_ci else 1) as lanes:
         counts = [lanes.submit(count_of, Crate(os.path.join(copy, 'crates', name), are_behind_ci), wanted[name]) for name in left]
         try:
             found = [count.result() for count in counts]
