@@ -1,6 +1,7 @@
 """Many clients, and strange ones: who is told that there is no room, who waits for whom, and how a
 node ends behind them."""
 
+import itertools
 import os
 import resource
 import socket
@@ -103,26 +104,33 @@ def deaf_client_holds_nobody_up(field):
 @case
 def many_monitors_hold_nobody_up(field):
     """While a connection with thousands of monitors looks at thousands of changes that it has
-    missed, others are answered; and it is told of all of them."""
+    missed, others are answered; and it is told of all of them, and of a scope that has stopped."""
     a = field.node("a@h", port=None)
     busy, quick = field.control(a), field.control(a)
     start(busy)
+    start(busy, "old")
     watching = Deaf(field, a)
     lines = watching.socket.makefile("rb")
-    watching.socket.sendall(b"monitor pg g\n" + b"".join(b"monitor pg g%d\n" % number
-                                                        for number in range(1, MONITORS)))
-    for _ in range(MONITORS):
-        expect_that(next(lines).startswith(b"ref "), "a monitor", "another answer")
+    groups = [b"old g", b"pg g", *(b"pg g%d" % number for number in range(MONITORS))]
+    watching.socket.sendall(b"".join(b"monitor %s\n" % group for group in groups))
+    numbers = [next(lines).split()[1].decode() for _ in groups]
     moves(busy, new_pid(busy), CHANGES)
+    asked(busy, "stop old")
     pid = new_pid(quick)
-    reading = threading.Thread(target=lambda: [next(lines) for _ in range(CHANGES)])
+    told = []
+    reading = threading.Thread(daemon=True,
+                               target=lambda: told.extend(itertools.islice(lines, CHANGES + 1)))
     reading.start()
-    slowest = 0
-    while reading.is_alive():
-        began = time.perf_counter()
+    slowest, began = 0, time.monotonic()
+    while reading.is_alive() and seconds_since(began) < LIMIT:
+        called = time.perf_counter()
         asked(quick, f"join pg quick {pid}")
-        slowest = max(slowest, time.perf_counter() - began)
+        slowest = max(slowest, time.perf_counter() - called)
         time.sleep(0.003)
+    expect("the monitors that ended", [f"! ended {numbers[0]}"],
+           [line.decode().strip() for line in told if line.startswith(b"! ended")])
+    expect("how often it was told of the group", CHANGES,
+           sum(line.split()[2:4] == [numbers[1].encode(), b"g"] for line in told))
     expect_that(slowest < 0.5, "each of the others' calls within half a second", f"{slowest:.2f} s")
 
 
