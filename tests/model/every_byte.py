@@ -32,7 +32,7 @@ def with_another_byte(body):
 
 
 def changed_parts(body):
-    """How many bodies that differ from a part in one byte are messages of version 2. crates/link_tests has these counts of its parts."""
+    """How many bodies that differ from a part in one byte are messages of version 2. crates/unit_tests has these counts of its parts."""
     return sum(read_part(changed) is not None for changed in with_another_byte(body))
 
 

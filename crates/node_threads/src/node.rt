@@ -78,18 +78,18 @@ impl Node {
         Ok((node, passes))
     }
 
-    /// Gives the lock back, and wakes whom it concerns what was called under it.
+    /// Gives the lock back, and wakes whom it concerns what was called under it: first those for whom a peer or a client waits.
     pub(crate) fn give_back(&self, shared: MutexGuard<'_, Shared>) {
         let calls_writers = shared.calls_writers();
         let has_news = shared.is_last_news();
         drop(shared);
-        self.moved.notify_all();
         if calls_writers {
             self.writers.notify_all();
         }
         if has_news {
             self.news.notify_all();
         }
+        self.moved.notify_all();
     }
 
     /// Wakes all who wait for the node, so that each looks at it, and at what has changed beside it.
