@@ -134,6 +134,10 @@ def metrics_of_a_node(field):
     expect_that(10 ** 6 < seen["pg_node_resident_bytes", ()] < 10 ** 9, "bytes of memory", seen["pg_node_resident_bytes", ()])
     status = a.ask("status")
     expect_that(re.search(r" refused=1 told=\d+ bytes=\d+$", status), "what status says of them", status)
+    expect("links that ended", 0, seen["pg_link_downs_total", (("reason", "disconnected"),)])
+    asked(client, "disconnect b@h")
+    until("a link that was ended", lambda: metrics(a.http_port),
+          lambda came: came["pg_link_downs_total", (("reason", "disconnected"),)] == 1)
     while not a.untold("! restarted .*"):
         a.ask("spawn")
     seen = until("a new life", lambda: metrics(a.http_port), lambda came: came["pg_node_new_lives_total", ()] == 1)

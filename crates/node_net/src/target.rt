@@ -120,7 +120,7 @@ impl Target {
             return Err(TargetFault::NoPlace);
         };
         let peer = named(alloc, name)?;
-        if !is_place(place) {
+        if !can_be_dialled(place) {
             return Err(TargetFault::NoPlace);
         }
         let place = copied(alloc, place)?;
@@ -134,7 +134,7 @@ impl Target {
             return Target::asked(alloc, named(alloc, word)?, epmd);
         };
         let peer = named(alloc, name)?;
-        if !is_place(place) {
+        if !can_be_dialled(place) {
             return Err(TargetFault::NoStockNode);
         }
         let place = copied(alloc, place)?;
@@ -239,10 +239,21 @@ impl Target {
 
 /// Whether the word is a host, by name or number, and a port.
 pub fn is_place(word: &str) -> bool {
-    match word.rsplit_once(':') {
-        Some((host, port)) => !host.is_empty() && is_printable(host) && port.parse::<u16>().is_ok(),
-        None => false,
+    port_of(word).is_some()
+}
+
+/// Whether the word is such a place, and no port of the system's choice.
+fn can_be_dialled(word: &str) -> bool {
+    matches!(port_of(word), Some(port) if port > 0)
+}
+
+/// The port of a place.
+fn port_of(word: &str) -> Option<u16> {
+    let (host, port) = word.rsplit_once(':')?;
+    if host.is_empty() || !is_printable(host) {
+        return None;
     }
+    port.parse().ok()
 }
 
 /// Whether the text has no byte but those that can be seen.

@@ -54,7 +54,7 @@ impl<'a> Desk<'a> {
         let mut out = Vec::new(self.hub.alloc);
         for _ in rt.forever() {
             for _ in 0..IN_A_ROW {
-                if self.hub.is_quitting() {
+                if self.hub.signals.is_quitting() {
                     return Ok(());
                 }
                 let asked = match lines.next(&mut line) {
@@ -62,7 +62,7 @@ impl<'a> Desk<'a> {
                     pg_streams::Next::LostLine => None,
                     pg_streams::Next::End => return Ok(()),
                 };
-                if self.hub.is_draining() {
+                if self.hub.signals.is_draining() {
                     return Ok(());
                 }
                 self.answer_one(rt, asked, &mut out, writer)?;
@@ -160,7 +160,7 @@ impl<'a> Desk<'a> {
             }
             let printing = self.printing.lock(rt);
             out.clear();
-            if self.hub.is_behind(self.seat) {
+            if self.hub.readers.is_behind(self.seat) {
                 return self.give_up(&mut out, writer);
             }
             match self.hub.tell(rt, self.seat, &mut out) {
@@ -177,7 +177,7 @@ impl<'a> Desk<'a> {
 
     /// Tells a connection that hasn't read for long that it is ended.
     fn give_up<W: Write>(&self, out: &mut Vec<u8>, writer: &mut W) -> io::Result<()> {
-        self.hub.stop_telling(self.seat);
+        self.hub.readers.leave(self.seat);
         match put_word("! behind\n", out) {
             Ok(()) => send(writer, out.as_slice()),
             Err(_) => Err(io::Error::from(ErrorKind::OutOfMemory)),

@@ -2,7 +2,8 @@
 use crate::connection::Desk;
 use crate::door::Door;
 use crate::refusing::{refuse, refuse_here};
-use pg_hub::{Hub, Stream, Taking};
+use pg_hub::{Hub, Stream};
+use pg_log::Taking;
 use pg_session::{Rights, Seen};
 use pg_streams::ReadLines;
 use std::io::BufReader;
@@ -46,10 +47,10 @@ fn take_all<'s, E: 's, R: Threads + Wait + Clock + Sync + 's>(
     let mut taking = Taking::of("client");
     for _ in rt.forever() {
         let accepted = door.listener.accept();
-        if hub.is_quitting() {
+        if hub.signals.is_quitting() {
             return;
         }
-        if let Some((stream, _)) = taking.taken(rt, hub, accepted) {
+        if let Some((stream, _)) = taking.taken(rt, &hub.log, accepted) {
             take_in(scope, rt, hub, door.rights, stream);
         }
     }
@@ -66,7 +67,7 @@ fn take_in<'s, E: 's, R: Threads + Wait + Clock + Sync + 's>(
     match Arc::new(hub.alloc, stream) {
         Ok(stream) => {
             if !is_served(scope, rt, hub, rights, &stream) {
-                refuse(scope, rt, hub, stream);
+                refuse(scope, rt, &hub.clients.hearers, stream);
             }
         }
         Err(failed) => refuse_here(rt, &failed.value),

@@ -38,7 +38,7 @@ impl<'a> Operator<'a> {
                 Err(_) => hub.want_memory(rt),
             }
         }
-        if self.is_alone && !hub.is_quitting() && !hub.is_draining() {
+        if self.is_alone && !hub.signals.is_quitting() && !hub.signals.is_draining() {
             output.be_patient(rt);
             hub.quit(rt);
         }

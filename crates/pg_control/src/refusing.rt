@@ -1,6 +1,6 @@
 //! Clients for which there is no room.
-use pg_hub::{Hub, Stream};
-use pg_streams::{hear_out, is_at_end};
+use pg_hub::Stream;
+use pg_streams::{Hearers, hear_out, is_at_end};
 use std::io::Write;
 use std::net::Shutdown;
 use std::os::unix::net::UnixStream;
@@ -13,11 +13,11 @@ use std::time::Clock;
 pub fn refuse<'s, E: 's, R: Threads + Wait + Clock + Sync + 's>(
     scope: &'s Scope<'s, E>,
     rt: &'s R,
-    hub: &'s Hub,
+    hearers: &'s Hearers,
     stream: Stream,
 ) {
     say_full(&stream);
-    if !is_heard(scope, rt, hub, &stream) {
+    if !is_heard(scope, rt, hearers, &stream) {
         end(&stream);
     }
 }
@@ -39,26 +39,26 @@ fn say_full(stream: &UnixStream) {
 fn is_heard<'s, E: 's, R: Threads + Wait + Clock + Sync + 's>(
     scope: &'s Scope<'s, E>,
     rt: &'s R,
-    hub: &'s Hub,
+    hearers: &'s Hearers,
     stream: &Stream,
 ) -> bool {
     let Ok(stream) = Arc::try_clone(stream) else {
         return false;
     };
-    if !hub.clients.add_hearer() {
+    if !hearers.add() {
         return false;
     }
-    let is_started = scope.spawn(move || hear(rt, hub, &stream)).is_ok();
+    let is_started = scope.spawn(move || hear(rt, hearers, &stream)).is_ok();
     if !is_started {
-        hub.clients.remove_hearer();
+        hearers.remove();
     }
     is_started
 }
 
-fn hear<R: Clock>(rt: &R, hub: &Hub, stream: &UnixStream) {
+fn hear<R: Clock>(rt: &R, hearers: &Hearers, stream: &UnixStream) {
     hear_out(rt, stream).ok();
     end(stream);
-    hub.clients.remove_hearer();
+    hearers.remove();
 }
 
 /// Ends a connection. What the client has written is read, since a socket that is closed with unread bytes takes the last line from

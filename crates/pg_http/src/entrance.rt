@@ -12,6 +12,7 @@ use std::sync::Wait;
 /// The address where who looks on connects, and the connections there.
 #[derive(Drop)]
 pub struct PageEntrance {
+    pub(crate) alloc: Global,
     pub(crate) listener: TcpListener,
     /// The same socket, as what can be shut. It is made at once, since later there may be no
     /// descriptor for it.
@@ -60,6 +61,7 @@ where
     let listener = TcpListener::bind(rt, place)?;
     let handle = TcpStream::from(OwnedFd::from(listener.try_clone()?));
     Ok(PageEntrance {
+        alloc,
         listener,
         handle,
         visitors: Visitors::new(alloc),

@@ -3,20 +3,20 @@ use crate::answers::{ContentKind, Wanted, refuse_method, say, say_line};
 use bytes::Bytes;
 use http::{Request, StatusCode};
 use http_server::{Response, Service};
-use pg_hub::Hub;
-use pg_page::{NodeView, Sheet, put_metrics, put_page, status_json};
+use pg_page::{NodeView, Sheet, Shown, put_metrics, put_page, status_json};
 use std::alloc::{AllocError, Global};
 use std::sync::Wait;
 use std::time::Clock;
 
 /// Looks at a node for who asks.
 #[derive(Drop)]
-pub struct Looker<'a, R: Wait + Clock> {
+pub struct Looker<'a, R: Wait + Clock, N: Shown> {
     pub rt: &'a R,
-    pub hub: &'a Hub,
+    pub alloc: Global,
+    pub node: &'a N,
 }
 
-impl<R: Wait + Clock> Service for Looker<'_, R> {
+impl<R: Wait + Clock, N: Shown> Service for Looker<'_, R, N> {
     ghost answers = { λ _ _ _ _. Unit {0} };
 
     fn call(
@@ -24,13 +24,12 @@ impl<R: Wait + Clock> Service for Looker<'_, R> {
         request: &Request<Bytes>,
         response: &mut Response,
     ) -> Result<(), AllocError> {
-        answer(self.rt, self.hub, request, response)
+        answer(self, request, response)
     }
 }
 
-fn answer<R: Wait + Clock>(
-    rt: &R,
-    hub: &Hub,
+fn answer<R: Wait + Clock, N: Shown>(
+    looker: &Looker<'_, R, N>,
     request: &Request<Bytes>,
     response: &mut Response,
 ) -> Result<(), AllocError> {
@@ -39,32 +38,33 @@ fn answer<R: Wait + Clock>(
         return refuse_method(response);
     }
     match Wanted::at(request.uri().path()) {
-        Some(Wanted::Health) => say_health(rt, hub, response),
-        Some(wanted) => say_view(rt, hub, wanted, response),
+        Some(Wanted::Health) => say_health(looker, response),
+        Some(wanted) => say_view(looker, wanted, response),
         None => say_line(StatusCode::NOT_FOUND, "no such page\n", response),
     }
 }
 
-fn say_health<R: Wait>(rt: &R, hub: &Hub, response: &mut Response) -> Result<(), AllocError> {
-    let health = hub.health(rt);
+fn say_health<R: Wait + Clock, N: Shown>(
+    looker: &Looker<'_, R, N>,
+    response: &mut Response,
+) -> Result<(), AllocError> {
+    let health = looker.node.health(looker.rt);
     let status = StatusCode::from_u16(health.status()).unwrap_or(StatusCode::INTERNAL_SERVER_ERROR);
     say_line(status, health.line(), response)
 }
 
 /// Copies what is wanted of the node, and writes it then, behind no lock.
-fn say_view<R: Wait + Clock>(
-    rt: &R,
-    hub: &Hub,
+fn say_view<R: Wait + Clock, N: Shown>(
+    looker: &Looker<'_, R, N>,
     wanted: Wanted,
     response: &mut Response,
 ) -> Result<(), AllocError> {
-    let Ok(view) = hub.view(rt, wanted == Wanted::Page) else {
-        return Err(AllocError);
-    };
+    let alloc = looker.alloc;
+    let view = looker.node.view(looker.rt, wanted == Wanted::Page)?;
     let (kind, written) = match wanted {
-        Wanted::Metrics => (ContentKind::Metrics, metrics(hub.alloc, &view)),
-        Wanted::Status => (ContentKind::Json, status_json(hub.alloc, &view)),
-        _ => (ContentKind::Html, page(hub.alloc, &view)),
+        Wanted::Metrics => (ContentKind::Metrics, metrics(alloc, &view)),
+        Wanted::Status => (ContentKind::Json, status_json(alloc, &view)),
+        _ => (ContentKind::Html, page(alloc, &view)),
     };
     drop(view);
     let text = Bytes::from_vec(written?)?;

@@ -4,8 +4,9 @@ use crate::looker::Looker;
 use crate::refusing::{hang_up, say_full};
 use crate::visitors::Visitor;
 use http_server::{Config, Connection};
-use pg_hub::{Hub, Taking};
-use std::hash::RandomState;
+use pg_log::{Log, Taking};
+use pg_page::Shown;
+use pg_streams::Hearers;
 use std::io::{self, ErrorKind};
 use std::net::TcpStream;
 use std::sync::{Arc, Wait};
@@ -19,69 +20,79 @@ const PATIENCE: u64 = 10_000;
 /// The bytes of the longest body of a request: none is looked at.
 const BODY: usize = 1_024;
 
-/// Starts the thread that takes connections, where there is an entrance for them: whether it could
-/// be made.
-pub fn start_pages<'s, E: 's, R: Threads + Wait + Clock + Sync + 's>(
+/// Starts the thread that takes connections of who looks on the node, where there is an entrance for
+/// them: whether it could be made.
+pub fn start_pages<'s, E: 's, R: Threads + Wait + Clock + Sync + 's, N: Shown + Sync + 's>(
     scope: &'s Scope<'s, E>,
     rt: &'s R,
-    hub: &'s Hub,
+    node: &'s N,
+    log: &'s Log,
     entrance: Option<&'s PageEntrance>,
 ) -> bool {
     match entrance {
-        Some(entrance) => scope.spawn(move || serve_pages(rt, hub, entrance)).is_ok(),
+        Some(entrance) => scope
+            .spawn(move || serve_pages(rt, node, log, entrance))
+            .is_ok(),
         None => true,
     }
 }
 
 /// Takes connections until the program is to end, and waits until each has ended.
-fn serve_pages<R: Threads + Wait + Clock + Sync>(rt: &R, hub: &Hub, entrance: &PageEntrance) {
+fn serve_pages<R: Threads + Wait + Clock + Sync, N: Shown + Sync>(
+    rt: &R,
+    node: &N,
+    log: &Log,
+    entrance: &PageEntrance,
+) {
     thread::scope(thread::scope_env(), rt, |scope| {
-        take_all(scope, rt, hub, entrance)
+        take_all(scope, rt, node, log, entrance)
     });
 }
 
 /// Takes connections until the program is to end.
-fn take_all<'s, E: 's, R: Threads + Wait + Clock + Sync + 's>(
+fn take_all<'s, E: 's, R: Threads + Wait + Clock + Sync + 's, N: Shown + Sync + 's>(
     scope: &'s Scope<'s, E>,
     rt: &'s R,
-    hub: &'s Hub,
+    node: &'s N,
+    log: &Log,
     entrance: &'s PageEntrance,
 ) {
     let mut taking = Taking::of("page");
     for _ in rt.forever() {
         let accepted = entrance.listener.accept();
-        if hub.is_quitting() {
+        if node.is_quitting() {
             return;
         }
-        if let Some((stream, _)) = taking.taken(rt, hub, accepted) {
-            take_in(scope, rt, hub, entrance, stream);
+        if let Some((stream, _)) = taking.taken(rt, log, accepted) {
+            take_in(scope, rt, node, entrance, stream);
         }
     }
 }
 
 /// Serves a connection on a thread, or says on one that there is no room. Without memory or a
 /// thread it is let go.
-fn take_in<'s, E: 's, R: Threads + Wait + Clock + Sync + 's>(
+fn take_in<'s, E: 's, R: Threads + Wait + Clock + Sync + 's, N: Shown + Sync + 's>(
     scope: &'s Scope<'s, E>,
     rt: &'s R,
-    hub: &'s Hub,
+    node: &'s N,
     entrance: &'s PageEntrance,
     stream: TcpStream,
 ) {
-    let Ok(visitor) = Arc::new(hub.alloc, stream) else {
+    let visitors = &entrance.visitors;
+    let Ok(visitor) = Arc::new(entrance.alloc, stream) else {
         return;
     };
-    match entrance.visitors.add(rt, &visitor) {
+    match visitors.add(rt, &visitor) {
         Some(number) => {
             let started = scope.spawn(move || {
-                serve(rt, hub, entrance.keys, &visitor);
-                entrance.visitors.remove(rt, number);
+                serve(rt, node, entrance, &visitor);
+                visitors.remove(rt, number);
             });
             if started.is_err() {
-                entrance.visitors.remove(rt, number);
+                visitors.remove(rt, number);
             }
         }
-        None => refuse(scope, rt, hub, visitor),
+        None => refuse(scope, rt, &visitors.hearers, visitor),
     }
 }
 
@@ -90,39 +101,38 @@ fn take_in<'s, E: 's, R: Threads + Wait + Clock + Sync + 's>(
 fn refuse<'s, E: 's, R: Threads + Wait + Clock + Sync + 's>(
     scope: &'s Scope<'s, E>,
     rt: &'s R,
-    hub: &'s Hub,
+    hearers: &'s Hearers,
     visitor: Visitor,
 ) {
     say_full(&visitor);
-    // (of the hub a check has to see here only that the clients may be seen by two threads)
-    let clients = &hub.clients;
-    if !clients.add_hearer() {
+    if !hearers.add() {
         return;
     }
     let started = scope.spawn(move || {
         hang_up(rt, &visitor);
-        clients.remove_hearer();
+        hearers.remove();
     });
     if started.is_err() {
-        clients.remove_hearer();
+        hearers.remove();
     }
 }
 
-fn serve<R: Wait + Clock>(rt: &R, hub: &Hub, keys: RandomState, stream: &TcpStream) {
-    answer_all(rt, hub, keys, stream).ok();
+fn serve<R: Wait + Clock, N: Shown>(rt: &R, node: &N, entrance: &PageEntrance, stream: &TcpStream) {
+    answer_all(rt, node, entrance, stream).ok();
     hang_up(rt, stream);
 }
 
 /// Answers the requests of a connection until it is done, or its time is over.
-fn answer_all<R: Wait + Clock>(
+fn answer_all<R: Wait + Clock, N: Shown>(
     rt: &R,
-    hub: &Hub,
-    keys: RandomState,
+    node: &N,
+    entrance: &PageEntrance,
     stream: &TcpStream,
 ) -> io::Result<()> {
     let start = Instant::now(rt)?;
-    let mut looker = Looker { rt, hub };
-    let mut connection = Connection::new(hub.alloc, keys, config());
+    let alloc = entrance.alloc;
+    let mut looker = Looker { rt, alloc, node };
+    let mut connection = Connection::new(alloc, entrance.keys, config());
     for _ in 0..u64::MAX {
         connection.advance(&mut looker);
         if connection.is_done() {

@@ -1,4 +1,5 @@
 //! The connections that are served, as whoever ends the program has them.
+use pg_streams::Hearers;
 use std::alloc::Global;
 use std::net::{Shutdown, TcpStream};
 use std::sync::{Arc, Mutex, Wait};
@@ -17,10 +18,11 @@ struct Streams {
     are_ended: bool,
 }
 
-/// The connections that are served, until the end.
+/// The connections that are served, until the end, and how many others are heard out.
 #[derive(Drop)]
 pub struct Visitors {
     streams: Mutex<Streams>,
+    pub hearers: Hearers,
 }
 
 impl Visitors {
@@ -31,6 +33,7 @@ impl Visitors {
                 next: 0,
                 are_ended: false,
             }),
+            hearers: Hearers::new(),
         }
     }
 

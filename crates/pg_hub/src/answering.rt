@@ -48,7 +48,7 @@ impl Hub {
         line: &[u8],
         out: &mut Vec<u8>,
     ) -> Result<(Next, Option<Lack>), OutOfMemory> {
-        self.lost_lines.store(0, Ordering::SeqCst);
+        self.signals.read_line();
         let house = self.house.read(rt);
         let Some(session) = house.sessions.get(seat) else {
             return Ok((Next::Line, None));
@@ -64,7 +64,7 @@ impl Hub {
         let next = session.answer(rt, self.alloc, &self.node, &surroundings, line, out)?;
         self.begin_to_watch(rt, seat, &session);
         let lack = session.lack();
-        if lack.is_none() || self.is_quitting() {
+        if lack.is_none() || self.signals.is_quitting() {
             return Ok((next, None));
         }
         out.truncate(start);
@@ -83,13 +83,16 @@ impl Hub {
         let Some(session) = house.sessions.get(seat) else {
             return Ok(None);
         };
-        let lost = Lost { rt, hub: self };
+        let lost = Lost {
+            rt,
+            links: self.link_notes(),
+        };
         let mut session = session.lock(rt);
         self.readers.begin_to_ask(seat);
         match session.tell(rt, self.alloc, &self.node, &lost, self.keeping.stale(), out) {
             Ok(seen) => {
                 self.readers.note(seat, seen.entries(), session.monitors());
-                self.count_told(out.as_slice());
+                self.signals.count_told(out.as_slice());
                 Ok(Some(seen))
             }
             Err(OutOfMemory) => {
@@ -106,7 +109,7 @@ impl Hub {
             .node
             .moved
             .wait_while(rt, self.node.shared.lock(rt), |shared| {
-                self.is_ending(shared) && !self.is_quitting()
+                self.is_ending(shared) && !self.signals.is_quitting()
             });
         drop(shared);
     }
@@ -131,7 +134,7 @@ impl Hub {
             self.may_rest(seat, watches, seen, shared) && !has_ended.load(Ordering::SeqCst)
         });
         drop(shared);
-        !self.is_quitting() && !has_ended.load(Ordering::SeqCst)
+        !self.signals.is_quitting() && !has_ended.load(Ordering::SeqCst)
     }
 
     /// Whether nothing is to be told at a seat that has seen so much, by who has monitors or has none.
@@ -144,7 +147,7 @@ impl Hub {
         is_told
             && !seen.lags(shared, self.keeping.rest() as usize)
             && !self.readers.is_to_ask(seat)
-            && !self.is_quitting()
+            && !self.signals.is_quitting()
     }
 
     /// Has a connection that has its first monitors wait for news from now on.

@@ -230,7 +230,7 @@ impl Hub {
     fn finds_room<R: Wait>(&self, rt: &R, shared: &Shared, frames: usize) -> bool {
         let mut promises = self.brake.promises.lock(rt);
         promises.look(self.notes.writers.most_behind(rt, shared.core()));
-        if self.is_quitting() || self.is_ending(shared) {
+        if self.is_over(shared) {
             promises.add(frames);
             return true;
         }

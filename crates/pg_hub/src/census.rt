@@ -1,6 +1,7 @@
-//! How many rows each scope has, and how many events each rule has refused, as the audit of a life
-//! tells it.
+//! How many rows each scope has, how many events each rule has refused, and how often links have
+//! ended, as the audit of a life tells it.
 use dist_types::{OutOfMemory, Scope, TryClone};
+use pg_session::DownReason;
 use policy_audit::{Change, Entry, Rule, Verdict};
 use std::alloc::Global;
 
@@ -18,11 +19,16 @@ pub(crate) struct RuleTimes {
     pub(crate) times: u64,
 }
 
+/// How many reasons there are for the end of a link.
+const REASONS: usize = DownReason::ALL.len();
+
 #[derive(Drop)]
 pub(crate) struct Census {
     scopes: Vec<ScopeRows>,
     /// By their numbers, ascending.
     pub(crate) refused: Vec<RuleTimes>,
+    /// How often links have ended, by the reason, as all are listed.
+    pub(crate) downs: [u64; REASONS],
 }
 
 impl Census {
@@ -30,6 +36,7 @@ impl Census {
         Census {
             scopes: Vec::new(alloc),
             refused: Vec::new(alloc),
+            downs: [0; REASONS],
         }
     }
 
@@ -74,6 +81,15 @@ impl Census {
                     let rows = counted.rows.saturating_add(group.joined.as_slice().len());
                     counted.rows = rows.saturating_sub(group.left.as_slice().len());
                 }
+            }
+        }
+    }
+
+    /// Counts the end of a link.
+    pub(crate) fn note_down(&mut self, reason: DownReason) {
+        for (known, times) in DownReason::ALL.iter().zip(self.downs.iter_mut()) {
+            if *known == reason {
+                *times = times.saturating_add(1);
             }
         }
     }

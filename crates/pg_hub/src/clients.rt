@@ -1,21 +1,18 @@
 //! The clients of the control socket, as whoever ends the program has them.
+use pg_streams::Hearers;
 use std::alloc::{AllocError, Global};
 use std::net::Shutdown;
 use std::os::unix::net::UnixStream;
-use std::sync::atomic::{AtomicUsize, Ordering};
 use std::sync::{Arc, Mutex, Wait};
 
 /// The stream of a client, which the threads that serve it share with whoever ends the program.
 pub type Stream = Arc<UnixStream, Global>;
 
-/// The most threads that hear out clients which aren't served.
-const HEARERS: usize = 8;
-
 /// The streams of the clients that are served, and how many others are heard out.
 #[derive(Drop)]
 pub struct Clients {
     streams: Mutex<Streams>,
-    hearers: AtomicUsize,
+    pub hearers: Hearers,
 }
 
 #[derive(Drop)]
@@ -32,7 +29,7 @@ impl Clients {
                 open: Vec::new(alloc),
                 are_ended: false,
             }),
-            hearers: AtomicUsize::new(0),
+            hearers: Hearers::new(),
         }
     }
 
@@ -95,18 +92,5 @@ impl Clients {
                 stream.shutdown(Shutdown::Both).ok();
             }
         }
-    }
-
-    /// Counts one more thread that hears a client out: whether there may be one.
-    pub fn add_hearer(&self) -> bool {
-        if self.hearers.fetch_add(1, Ordering::SeqCst) < HEARERS {
-            return true;
-        }
-        self.remove_hearer();
-        false
-    }
-
-    pub fn remove_hearer(&self) {
-        self.hearers.fetch_sub(1, Ordering::SeqCst);
     }
 }

@@ -3,7 +3,6 @@
 use crate::hub::Hub;
 use pg_log::Level;
 use std::sync::Wait;
-use std::sync::atomic::Ordering;
 use std::thread;
 use std::time::{Clock, Duration};
 
@@ -20,15 +19,10 @@ const LOOKS: u32 = 1_000;
 const LAST_WRITE: u64 = 50;
 
 impl Hub {
-    /// Whether nobody is let in any more, since the node is to end.
-    pub fn is_draining(&self) -> bool {
-        self.is_draining.load(Ordering::SeqCst)
-    }
-
     /// Lets nobody in any more, ends all connections but that of this seat, and what all have of
     /// the node, and waits until the peers that read are told, for some seconds at most each time.
     pub fn drain<R: Wait + Clock>(&self, rt: &R, seat: usize) {
-        self.is_draining.store(true, Ordering::SeqCst);
+        self.signals.drain();
         self.log.tell(rt, Level::Info, "draining", &[]);
         self.clients.end_others(rt, seat);
         self.wake(rt);
@@ -41,7 +35,7 @@ impl Hub {
     /// Waits until no connection has a process.
     fn wait_until_left<R: Wait + Clock>(&self, rt: &R) {
         for _ in 0..LOOKS {
-            if self.is_quitting() || self.is_left(rt) {
+            if self.signals.is_quitting() || self.is_left(rt) {
                 return;
             }
             thread::sleep(rt, Duration::from_millis(LOOK));
@@ -63,7 +57,7 @@ impl Hub {
     /// Waits until no frame waits for a link whose writer gets on.
     fn wait_until_told<R: Wait + Clock>(&self, rt: &R) {
         for _ in 0..LOOKS {
-            if self.is_quitting() || !self.has_frames(rt) {
+            if self.signals.is_quitting() || !self.has_frames(rt) {
                 break;
             }
             thread::sleep(rt, Duration::from_millis(LOOK));

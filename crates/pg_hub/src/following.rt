@@ -2,7 +2,7 @@
 use crate::hub::Hub;
 use crate::ledger::Look;
 use dist_types::NodeName;
-use pg_log::{Level, text};
+use pg_log::{Level, Log, text};
 use policy_audit::Page;
 use std::sync::Wait;
 use std::time::Clock;
@@ -10,7 +10,11 @@ use std::time::Clock;
 impl Hub {
     /// A look at the audit.
     pub(crate) fn look<'a, 'b, R: Wait + Clock>(&'b self, rt: &'a R) -> Look<'a, 'b, R> {
-        Look { rt, hub: self }
+        Look {
+            rt,
+            alloc: self.alloc,
+            links: self.link_notes(),
+        }
     }
 
     /// Lets the roster and the ledger follow the node, so that who connects or asks later needn't
@@ -18,7 +22,7 @@ impl Hub {
     pub(crate) fn follow<R: Wait + Clock>(&self, rt: &R) {
         let (_, found) = self.follow_all(rt, None);
         if let Some(name) = found {
-            self.warn_of_twins(rt, &name);
+            warn_of_twins(rt, &self.log, &name);
         }
     }
 
@@ -27,7 +31,7 @@ impl Hub {
     pub fn hand_out<R: Wait + Clock>(&self, rt: &R, pages: &mut Vec<Page>) -> u32 {
         let (creation, found) = self.follow_all(rt, Some(pages));
         if let Some(name) = found {
-            self.warn_of_twins(rt, &name);
+            warn_of_twins(rt, &self.log, &name);
         }
         creation
     }
@@ -57,15 +61,15 @@ impl Hub {
         }
         (shared.core().creation(), found)
     }
+}
 
-    fn warn_of_twins<R: Wait + Clock>(&self, rt: &R, name: &NodeName) {
-        let fields = [
-            text("peer", name.as_str()),
-            text(
-                "reason",
-                "two nodes have this name: each ends the link of the other",
-            ),
-        ];
-        self.log.tell(rt, Level::Warn, "twins", &fields);
-    }
+fn warn_of_twins<R: Wait + Clock>(rt: &R, log: &Log, name: &NodeName) {
+    let fields = [
+        text("peer", name.as_str()),
+        text(
+            "reason",
+            "two nodes have this name: each ends the link of the other",
+        ),
+    ];
+    log.tell(rt, Level::Warn, "twins", &fields);
 }

@@ -7,6 +7,7 @@ use crate::ledger::Ledger;
 use crate::memory::Memory;
 use crate::notices::Notices;
 use crate::readers::Readers;
+use crate::signals::Signals;
 use crate::twins::Twins;
 use node_core::NodeCore;
 use node_net::{Notes, Targets};
@@ -14,7 +15,6 @@ use node_threads::{Node, Pass, Shared};
 use pg_log::Log;
 use pg_session::{Roster, Session};
 use std::alloc::Global;
-use std::sync::atomic::{AtomicBool, AtomicU32, AtomicU64, Ordering};
 use std::sync::{Arc, Mutex, RwLock, Wait};
 use std::time::{Clock, Instant};
 
@@ -75,25 +75,14 @@ pub struct Hub {
     /// The last number that an entry may have.
     last_entry: u32,
     pub keeping: Keeping,
-    pub(crate) readers: Readers,
+    pub readers: Readers,
     /// Who has no monitors waits there, with the node's lock, and the others at the node's news.
     pub(crate) notices: Notices,
     pub(crate) version: &'static str,
-    /// When the program has begun, and how many lives the node has had.
+    /// When the program has begun.
     pub(crate) begun: Option<Instant>,
-    lives: AtomicU32,
     pub(crate) memory: Memory,
-    /// How many lines were told unasked.
-    told: AtomicU64,
-    is_quitting: AtomicBool,
-    /// Nobody is let in any more.
-    pub(crate) is_draining: AtomicBool,
-    /// A line couldn't be made for want of memory.
-    is_wanting: AtomicBool,
-    /// How many lines in a row couldn't be read for want of memory.
-    pub(crate) lost_lines: AtomicU32,
-    /// All links of this life are being ended, so that the next one can begin.
-    is_turning: AtomicBool,
+    pub signals: Signals,
 }
 
 impl Hub {
@@ -136,77 +125,40 @@ impl Hub {
             notices: Notices::new(),
             version,
             begun: Instant::now(rt).ok(),
-            lives: AtomicU32::new(1),
             memory,
-            told: AtomicU64::new(0),
-            is_quitting: AtomicBool::new(false),
-            is_draining: AtomicBool::new(false),
-            is_wanting: AtomicBool::new(false),
-            lost_lines: AtomicU32::new(0),
-            is_turning: AtomicBool::new(false),
+            signals: Signals::new(),
         }
     }
 
     /// Whether the next life is to begin: room in the audit or memory is at its end.
     pub fn is_ending(&self, shared: &Shared) -> bool {
-        self.is_nearly_full(shared.core()) || self.wants_memory(shared)
+        self.is_nearly_full(shared.core()) || self.signals.wants_memory(shared)
     }
 
-    /// Whether memory was wanting in this life.
-    pub fn wants_memory(&self, shared: &Shared) -> bool {
-        shared.wants_memory() || self.is_wanting.load(Ordering::SeqCst)
+    /// Whether this life is to end, with the program or for the next one.
+    pub fn is_over(&self, shared: &Shared) -> bool {
+        self.signals.is_quitting() || self.is_ending(shared)
     }
 
     /// Memory was wanting beside the node: the next life is to begin.
     pub fn want_memory<R: Wait>(&self, rt: &R) {
-        self.is_wanting.store(true, Ordering::SeqCst);
+        self.signals.want_memory();
         self.wake(rt);
     }
 
     /// A line couldn't be read for want of memory. The next life begins where the next one can't be read either.
     pub fn lose_line<R: Wait>(&self, rt: &R) {
         self.node.shared.lock(rt).let_go();
-        if self.lost_lines.fetch_add(1, Ordering::SeqCst) > 0 {
+        if self.signals.lose_line() {
             self.want_memory(rt);
         }
     }
 
-    /// The links of this life are ended now. Unless the program is to end, the next life begins.
-    pub fn end_links(&self) {
-        self.is_turning.store(!self.is_quitting(), Ordering::SeqCst);
-    }
-
     /// The next life has begun.
     pub fn begin_anew(&self) {
-        self.lives.fetch_add(1, Ordering::SeqCst);
         self.keeping.begin_anew();
         self.readers.begin_anew();
-        self.is_turning.store(false, Ordering::SeqCst);
-        self.is_wanting.store(false, Ordering::SeqCst);
-        self.lost_lines.store(0, Ordering::SeqCst);
-    }
-
-    /// How many lives the node has had.
-    pub(crate) fn lives(&self) -> u32 {
-        self.lives.load(Ordering::SeqCst)
-    }
-
-    /// How many lines were told unasked.
-    pub(crate) fn told(&self) -> u64 {
-        self.told.load(Ordering::SeqCst)
-    }
-
-    /// Counts lines that are told unasked.
-    pub(crate) fn count_told(&self, lines: &[u8]) {
-        let told = lines.iter().filter(|byte| **byte == b'\n').count();
-        if told > 0 {
-            self.told.fetch_add(told as u64, Ordering::SeqCst);
-        }
-    }
-
-    /// Whether the links of this life are being ended.
-    pub(crate) fn is_turning(&self) -> bool {
-        self.is_turning.load(Ordering::SeqCst)
+        self.signals.begin_anew();
     }
 
     /// Whether the audit has come to the last of its numbers, but for those that a life needs to end.
@@ -220,13 +172,9 @@ impl Hub {
         (node, house.into_inner())
     }
 
-    pub fn is_quitting(&self) -> bool {
-        self.is_quitting.load(Ordering::SeqCst)
-    }
-
     /// The program is to end, and with it all connections of clients.
     pub fn quit<R: Wait>(&self, rt: &R) {
-        self.is_quitting.store(true, Ordering::SeqCst);
+        self.signals.quit();
         self.clients.end_all(rt);
         self.wake(rt);
     }

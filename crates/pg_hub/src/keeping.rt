@@ -110,11 +110,11 @@ impl Hub {
             .node
             .moved
             .wait_while(rt, self.node.shared.lock(rt), |shared| {
-                !self.is_quitting() && seen == Some(Seen::of(shared.core()))
+                !self.signals.is_quitting() && seen == Some(Seen::of(shared.core()))
             });
         let now = Seen::of(shared.core());
         drop(shared);
-        (!self.is_quitting()).then_some(now)
+        (!self.signals.is_quitting()).then_some(now)
     }
 
     /// Whether the node keeps no more entries than it is to.
@@ -205,29 +205,13 @@ impl Hub {
             if lag <= self.keeping.rest() || self.readers.count_look(seat) < LOOKS {
                 continue;
             }
-            if lag > patience / 4 * 3 {
-                self.mark_behind(rt, seat);
+            if lag > patience / 4 * 3 && self.readers.mark_behind(seat) {
+                let fields = [number("seat", (seat as u64).saturating_add(1))];
+                self.log.tell(rt, Level::Warn, "behind", &fields);
             }
             if lag > patience / 8 * 7 {
                 self.end_behind(rt, seat);
             }
-        }
-    }
-
-    /// Whether the connection of the seat is to be ended, since it doesn't read.
-    pub fn is_behind(&self, seat: usize) -> bool {
-        self.readers.is_behind(seat)
-    }
-
-    /// Nobody is told any more at the seat.
-    pub fn stop_telling(&self, seat: usize) {
-        self.readers.leave(seat);
-    }
-
-    fn mark_behind<R: Wait + Clock>(&self, rt: &R, seat: usize) {
-        if self.readers.mark_behind(seat) {
-            let fields = [number("seat", (seat as u64).saturating_add(1))];
-            self.log.tell(rt, Level::Warn, "behind", &fields);
         }
     }
 

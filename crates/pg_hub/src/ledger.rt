@@ -1,7 +1,7 @@
 //! What the audit of a life has said so far that is reported.
 use crate::census::Census;
 use crate::chronicle::Chronicle;
-use crate::hub::Hub;
+use crate::lost::LinkNotes;
 use crate::refusals::Refusals;
 use dist_types::{NodeName, OutOfMemory, Scope, TryClone};
 use node_core::NodeCore;
@@ -32,20 +32,13 @@ pub(crate) struct UpLink {
 #[derive(Drop)]
 pub(crate) struct Look<'a, 'b, R: Wait + Clock> {
     pub(crate) rt: &'a R,
-    pub(crate) hub: &'b Hub,
+    pub(crate) alloc: Global,
+    pub(crate) links: LinkNotes<'b>,
 }
 
 impl<R: Wait + Clock> Look<'_, '_, R> {
-    fn address(&self, link: u32) -> Option<SocketAddr> {
-        self.hub.notes.addresses.of(self.rt, link)
-    }
-
     fn now(&self) -> Option<Instant> {
         Instant::now(self.rt).ok()
-    }
-
-    fn kind(&self, link: u32) -> PeerKind {
-        self.hub.notes.edges.kind_of(self.rt, link)
     }
 }
 
@@ -61,7 +54,7 @@ pub(crate) struct Ledger {
     pub(crate) refusals: Refusals,
     /// What has happened to links, for the log.
     pub(crate) chronicle: Chronicle,
-    /// How many rows scopes have, and what was refused by which rule.
+    /// How many rows scopes have, what was refused by which rule, and how links have ended.
     pub(crate) census: Census,
     /// How many events were refused.
     pub(crate) refused: usize,
@@ -98,13 +91,13 @@ impl Ledger {
         core: &NodeCore,
     ) -> Result<(), OutOfMemory> {
         if self.creation != core.creation() {
-            *self = Ledger::new(look.hub.alloc);
+            *self = Ledger::new(look.alloc);
             self.creation = core.creation();
         }
         let seen = self.entries;
         for entry in core.audit().after(seen) {
             self.note(look, entry)?;
-            self.census.note(look.hub.alloc, entry)?;
+            self.census.note(look.alloc, entry)?;
             self.entries = self.entries.saturating_add(1);
         }
         if self.entries > seen {
@@ -130,6 +123,7 @@ impl Ledger {
     fn end(&mut self, place: usize, reason: DownReason) {
         if place < self.links.len() {
             let link = self.links.remove(place);
+            self.census.note_down(reason);
             self.chronicle.note_down(link, reason);
         }
     }
@@ -148,21 +142,21 @@ impl Ledger {
     ) -> Result<(), OutOfMemory> {
         match &entry.verdict {
             Verdict::Accepted(reply) => {
-                self.refusals.note(look.hub.alloc, &entry.event, reply)?;
+                self.refusals.note(look.alloc, &entry.event, reply)?;
                 self.note_accepted(look, &entry.event, reply)
             }
             Verdict::Refused(rule) => {
                 let address = match &entry.event {
-                    Event::Frame(link, _) => look.address(*link),
+                    Event::Frame(link, _) => look.links.address(look.rt, *link),
                     _ => None,
                 };
                 let links = self.links.as_slice();
                 self.refusals
-                    .refuse(look.hub.alloc, entry, *rule, address, links)?;
+                    .refuse(look.alloc, entry, *rule, address, links)?;
                 if let Some(last) = self.refusals.last.back()
                     && last.entry == entry.number
                 {
-                    self.chronicle.note_refused(look.hub.alloc, last);
+                    self.chronicle.note_refused(look.alloc, last);
                 }
                 self.refused = self.refused.saturating_add(1);
                 Ok(())
@@ -186,8 +180,8 @@ impl Ledger {
                 self.end_of(peer, DownReason::Disconnected);
                 Ok(())
             }
-            Event::Allow(names) => self.note_allowed(look.hub.alloc, names.as_slice()),
-            Event::StartScope(scope) => insert(look.hub.alloc, &mut self.scopes, scope),
+            Event::Allow(names) => self.note_allowed(look.alloc, names.as_slice()),
+            Event::StartScope(scope) => insert(look.alloc, &mut self.scopes, scope),
             Event::StopScope(scope) => {
                 self.scopes.retain(|running| running != scope);
                 Ok(())
@@ -198,7 +192,7 @@ impl Ledger {
 
     fn note_lost<R: Wait + Clock>(&mut self, look: &Look<'_, '_, R>, link: u32) {
         if let Some(place) = self.links.iter().position(|known| known.number == link) {
-            let reason = look.hub.reason_of(look.rt, link);
+            let reason = look.links.reason(look.rt, link);
             self.end(place, reason);
         }
     }
@@ -227,16 +221,16 @@ impl Ledger {
         };
         let link = UpLink {
             number,
-            peer: peer.try_clone(look.hub.alloc)?,
+            peer: peer.try_clone(look.alloc)?,
             creation: *creation,
             is_visible: *visible,
-            kind: look.kind(number),
-            address: look.address(number),
+            kind: look.links.kind(look.rt, number),
+            address: look.links.address(look.rt, number),
             since: look.now(),
         };
         self.links.reserve(1)?;
         self.end_of(&link.peer, DownReason::Replaced);
-        self.chronicle.note_up(look.hub.alloc, &link);
+        self.chronicle.note_up(look.alloc, &link);
         self.links.push(link)?;
         Ok(())
     }

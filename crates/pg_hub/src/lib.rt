@@ -24,10 +24,11 @@ mod readers;
 mod refusals;
 mod reporting;
 mod seating;
+mod signals;
 mod stock;
-mod taking;
 mod twins;
 mod viewing;
+mod views;
 
 pub use brake::{LetThrough, Promise};
 pub use clients::{Clients, Stream};
@@ -39,4 +40,4 @@ pub use logging::UntakenPeers;
 pub use memory::Memory;
 pub use page_queue::PageQueue;
 pub use readers::Readers;
-pub use taking::Taking;
+pub use signals::Signals;

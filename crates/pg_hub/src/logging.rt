@@ -1,15 +1,17 @@
 //! What happens to links, as it is logged.
 use crate::chronicle::Happening;
 use crate::hub::Hub;
-use crate::ledger::UpLink;
+use crate::ledger::{Ledger, UpLink};
 use crate::refusals::Refusal;
+use crate::stock::log_dropped;
 use dist_types::NodeName;
-use node_net::{Ending, TakingFaults};
-use pg_log::{Decision, Field, Level, Source, number, text};
+use node_net::{Edges, TakingFaults};
+use pg_log::{Decision, Field, Level, Log, Source, number, text};
 use pg_session::{DownReason, Seen};
 use policy_audit::Rule;
+use std::alloc::Global;
 use std::net::SocketAddr;
-use std::sync::Wait;
+use std::sync::{Mutex, Wait};
 use std::time::{Clock, Duration};
 use std::{io, thread};
 
@@ -20,24 +22,16 @@ const REST: u64 = 50;
 #[derive(Drop)]
 pub struct UntakenPeers<'a, R: Wait + Clock> {
     pub rt: &'a R,
-    pub hub: &'a Hub,
+    pub log: &'a Log,
 }
 
 impl<R: Wait + Clock> TakingFaults for UntakenPeers<'_, R> {
     fn note(&self, error: &io::Error) {
-        self.hub.log_untaken(self.rt, "peer", error);
+        self.log.tell_untaken(self.rt, "peer", error);
     }
 }
 
 impl Hub {
-    /// Logs that no connection of such a kind can be taken.
-    pub fn log_untaken<R: Wait + Clock>(&self, rt: &R, kind: &'static str, error: &io::Error) {
-        if let Ok(reason) = format!(in self.alloc; "{error}") {
-            let fields = untaken_fields(kind, reason.as_str());
-            self.log.tell(rt, Level::Warn, "not_taken", &fields);
-        }
-    }
-
     /// Logs what happens to links, until the program ends.
     pub fn log_all<R: Wait + Clock>(&self, rt: &R) {
         if !self.log.has(Level::Error) {
@@ -47,12 +41,12 @@ impl Hub {
         for _ in rt.forever() {
             let shared = self.node.shared.lock(rt);
             let shared = self.node.moved.wait_while(rt, shared, |shared| {
-                !self.is_quitting() && seen == Some(Seen::of(shared.core()))
+                !self.signals.is_quitting() && seen == Some(Seen::of(shared.core()))
             });
             seen = Some(Seen::of(shared.core()));
             drop(shared);
             self.log_links(rt);
-            if self.is_quitting() {
+            if self.signals.is_quitting() {
                 return;
             }
             thread::sleep(rt, Duration::from_millis(REST));
@@ -63,33 +57,54 @@ impl Hub {
     /// Logs what has happened to links since the last time.
     pub fn log_links<R: Wait + Clock>(&self, rt: &R) {
         self.follow(rt);
-        for _ in rt.forever() {
-            let next = self.ledger.lock(rt).chronicle.take();
+        let to = LinkLog {
+            rt,
+            alloc: self.alloc,
+            log: &self.log,
+            edges: &self.notes.edges,
+        };
+        to.say_all(&self.ledger);
+    }
+}
+
+/// Where it is logged what happens to links.
+#[derive(Drop)]
+struct LinkLog<'a, R: Wait + Clock> {
+    rt: &'a R,
+    alloc: Global,
+    log: &'a Log,
+    edges: &'a Edges,
+}
+
+impl<R: Wait + Clock> LinkLog<'_, R> {
+    /// Says what has happened since the last time. The ledger is free while a line is written.
+    fn say_all(&self, ledger: &Mutex<Ledger>) {
+        for _ in self.rt.forever() {
+            let next = ledger.lock(self.rt).chronicle.take();
             match next {
-                Some(happening) => self.log_happening(rt, &happening),
+                Some(happening) => self.say(&happening),
                 None => break,
             }
         }
-        let lost = self.ledger.lock(rt).chronicle.take_lost();
+        let lost = ledger.lock(self.rt).chronicle.take_lost();
         if lost > 0 {
-            self.log
-                .tell(rt, Level::Warn, "left_out", &[number("lines", lost)]);
+            let fields = [number("lines", lost)];
+            self.log.tell(self.rt, Level::Warn, "left_out", &fields);
         }
     }
 
-    fn log_happening<R: Wait + Clock>(&self, rt: &R, happening: &Happening) {
+    fn say(&self, happening: &Happening) {
         match happening {
             Happening::Up(peer, creation, kind, address) => {
-                self.log_up(rt, peer, *creation, kind, *address);
+                self.say_up(peer, *creation, kind, *address);
             }
-            Happening::Down(link, reason) => self.log_down(rt, link, *reason),
-            Happening::Refused(refusal) => self.log_refusal(rt, refusal),
+            Happening::Down(link, reason) => self.say_down(link, *reason),
+            Happening::Refused(refusal) => self.say_refused(refusal),
         }
     }
 
-    fn log_up<R: Wait + Clock>(
+    fn say_up(
         &self,
-        rt: &R,
         peer: &NodeName,
         creation: u32,
         kind: &'static str,
@@ -101,10 +116,10 @@ impl Hub {
             number("creation", u64::from(creation)),
             text("kind", kind),
         ];
-        self.log.tell(rt, Level::Info, "up", &fields);
+        self.log.tell(self.rt, Level::Info, "up", &fields);
     }
 
-    fn log_down<R: Wait + Clock>(&self, rt: &R, link: &UpLink, reason: DownReason) {
+    fn say_down(&self, link: &UpLink, reason: DownReason) {
         let level = match reason {
             DownReason::Slow | DownReason::Silent | DownReason::Replaced | DownReason::Unreadable =>
                 Level::Warn,
@@ -116,13 +131,13 @@ impl Hub {
             number("creation", u64::from(link.creation)),
             text("reason", reason.word()),
         ];
-        self.log.tell(rt, level, "down", &fields);
+        self.log.tell(self.rt, level, "down", &fields);
         if link.kind.is_otp() {
-            self.log_dropped(rt);
+            log_dropped(self.rt, self.log, self.edges);
         }
     }
 
-    fn log_refusal<R: Wait + Clock>(&self, rt: &R, refusal: &Refusal) {
+    fn say_refused(&self, refusal: &Refusal) {
         let Ok(rule) = format!(in self.alloc; "{}", refusal.rule) else {
             return;
         };
@@ -137,7 +152,7 @@ impl Hub {
             _ => Level::Warn,
         };
         self.log.say(
-            rt,
+            self.rt,
             &Decision {
                 level,
                 what: "refused",
@@ -146,10 +161,6 @@ impl Hub {
             },
         );
     }
-}
-
-fn untaken_fields<'a>(kind: &'a str, reason: &'a str) -> [Field<'a>; 2] {
-    [text("kind", kind), text("reason", reason)]
 }
 
 fn refusal_fields<'a>(refusal: &Refusal, peer: &'a str, rule: &'a str) -> [Field<'a>; 5] {

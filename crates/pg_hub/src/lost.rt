@@ -1,15 +1,41 @@
-//! Why the links of a node were lost.
+//! What is known of the links of a life beside the node, and so why they were lost.
 use crate::hub::Hub;
+use crate::signals::Signals;
 use node_core::NodeCore;
-use node_net::Ending;
+use node_net::{Ending, Notes, PeerKind};
 use pg_session::{DownReason, LostLinks};
+use std::net::SocketAddr;
 use std::sync::Wait;
 
+/// What the links of this life tell beside the node.
+#[derive(Clone, Copy, Drop)]
+pub(crate) struct LinkNotes<'a> {
+    notes: &'a Notes,
+    signals: &'a Signals,
+}
+
 impl Hub {
+    pub(crate) fn link_notes(&self) -> LinkNotes<'_> {
+        LinkNotes {
+            notes: &self.notes,
+            signals: &self.signals,
+        }
+    }
+}
+
+impl LinkNotes<'_> {
+    pub(crate) fn address<R: Wait>(&self, rt: &R, link: u32) -> Option<SocketAddr> {
+        self.notes.addresses.of(rt, link)
+    }
+
+    pub(crate) fn kind<R: Wait>(&self, rt: &R, link: u32) -> PeerKind {
+        self.notes.edges.kind_of(rt, link)
+    }
+
     /// Why a link was lost. Those that are lost at the end of a life are so because the node begins
     /// anew.
-    pub(crate) fn reason_of<R: Wait>(&self, rt: &R, link: u32) -> DownReason {
-        if self.is_turning() {
+    pub(crate) fn reason<R: Wait>(&self, rt: &R, link: u32) -> DownReason {
+        if self.signals.is_turning() {
             return DownReason::Restarted;
         }
         match self.notes.endings.of(rt, link) {
@@ -25,11 +51,11 @@ impl Hub {
 #[derive(Drop)]
 pub(crate) struct Lost<'a, R: Wait> {
     pub(crate) rt: &'a R,
-    pub(crate) hub: &'a Hub,
+    pub(crate) links: LinkNotes<'a>,
 }
 
 impl<R: Wait> LostLinks for Lost<'_, R> {
     fn reason(&self, _core: &NodeCore, link: u32) -> DownReason {
-        self.hub.reason_of(self.rt, link)
+        self.links.reason(self.rt, link)
     }
 }

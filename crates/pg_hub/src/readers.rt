@@ -124,7 +124,7 @@ impl Readers {
     }
 
     /// Nobody is told any more at the seat.
-    pub(crate) fn leave(&self, seat: usize) {
+    pub fn leave(&self, seat: usize) {
         if let Some(reader) = self.seats.get(seat) {
             reader.monitors.store(0, Ordering::SeqCst);
             reader.told.store(NOBODY, Ordering::SeqCst);
@@ -187,7 +187,7 @@ impl Readers {
     }
 
     /// Whether the connection of the seat is to be ended, since it doesn't read.
-    pub(crate) fn is_behind(&self, seat: usize) -> bool {
+    pub fn is_behind(&self, seat: usize) -> bool {
         match self.seats.get(seat) {
             Some(reader) => reader.is_behind.load(Ordering::SeqCst),
             None => false,

@@ -1,21 +1,16 @@
-//! What a connection is told of the node beside its rows: what the ledger, the node and the clients
-//! say now.
+//! What a connection is told of the node beside its rows: what is seen of it now, as a line.
 use crate::changing::put_fault;
 use crate::hub::Hub;
-use crate::keeping::kept;
-use crate::ledger::{Ledger, UpLink};
+use crate::ledger::Ledger;
 use crate::refusals::Refusal;
 use dist_types::{NodeName, OutOfMemory, Scope};
-use node_core::NodeCore;
-use node_net::{Target, Tried};
+use pg_page::{DialView, LinkView, NodeView};
 use pg_session::{Change, Report, Surroundings};
 use pg_text::{put_bytes, put_number, put_word};
+use std::alloc::Global;
 use std::net::SocketAddr;
 use std::sync::{MutexGuard, Wait};
-use std::time::{Clock, Instant};
-
-/// The most links.
-pub(crate) const LINKS: u64 = 64;
+use std::time::Clock;
 
 /// What stands for what isn't known.
 const UNKNOWN: &str = " -";
@@ -39,7 +34,7 @@ impl<R: Wait + Clock> Surroundings for Reporting<'_, R> {
             Report::Scopes => put_scopes(&*self.ledger()?, &mut out)?,
             Report::Allowed => put_allowed(&*self.ledger()?, &mut out)?,
             Report::Clients => self.put_clients(&mut out)?,
-            Report::Refusals => self.put_refusals(&mut out)?,
+            Report::Refusals => put_refusals(self.hub.alloc, &*self.ledger()?, &mut out)?,
         }
         put_word("\n", &mut out)?;
         Ok(out)
@@ -73,105 +68,30 @@ impl<R: Wait + Clock> Reporting<'_, R> {
     }
 
     fn put_status(&self, out: &mut Vec<u8>) -> Result<(), OutOfMemory> {
-        let hub = self.hub;
-        let clients = hub.clients.seats(self.rt, hub.alloc)?.len();
-        let ledger = self.ledger()?;
-        let (entries, kept) = self.put_who(out)?;
-        put_word(" version=", out)?;
-        put_word(hub.version, out)?;
-        put_number(" seconds=", self.seconds_since(hub.begun), out)?;
-        put_number(" lives=", u64::from(hub.lives()), out)?;
-        put_part(" links=", ledger.links.len() as u64, LINKS, out)?;
-        put_number(" otp_links=", ledger.otp_links(), out)?;
-        put_part(
-            " clients=",
-            clients as u64,
-            u64::from(hub.seats).saturating_sub(1),
-            out,
-        )?;
-        put_number(" entries=", entries as u64, out)?;
-        put_part(" kept=", kept as u64, u64::from(hub.keeping.entries), out)?;
-        put_number(" lost=", hub.keeping.lost(), out)?;
-        put_number(" archived=", hub.keeping.archived(), out)?;
-        put_number(" refused=", ledger.refused as u64, out)?;
-        put_number(" told=", hub.told(), out)?;
-        match hub.memory.bytes() {
-            Some(bytes) => put_number(" bytes=", bytes, out),
-            None => put_word(" bytes=-", out),
-        }
-    }
-
-    /// Adds the node's name and creation: how many entries it has, and how many of them it keeps.
-    fn put_who(&self, out: &mut Vec<u8>) -> Result<(usize, usize), OutOfMemory> {
-        let shared = self.hub.node.shared.lock(self.rt);
-        put_word("status name=", out)?;
-        put_bytes(shared.core().name().as_bytes(), out)?;
-        put_number(" creation=", u64::from(shared.core().creation()), out)?;
-        Ok(entries_of(shared.core()))
+        let mut view = self.new_view();
+        self.look_at_program(&mut view)?;
+        self.look_at_ledger(&mut view)?;
+        put_status(&view, out)
     }
 
     fn put_links(&self, out: &mut Vec<u8>) -> Result<(), OutOfMemory> {
-        let ledger = self.ledger()?;
-        let waiting = self.waiting(&ledger)?;
+        let mut view = self.new_view();
+        self.look_at_ledger(&mut view)?;
         put_word("links", out)?;
-        for (link, waiting) in ledger.links.iter().zip(waiting) {
-            self.put_link(link, waiting, out)?;
+        for link in &view.links {
+            put_link(link, out)?;
         }
         Ok(())
-    }
-
-    /// How many frames wait for each link.
-    pub(crate) fn waiting(&self, ledger: &Ledger) -> Result<Vec<usize>, OutOfMemory> {
-        let mut waiting = Vec::with_capacity(self.hub.alloc, ledger.links.len())?;
-        let shared = self.hub.node.shared.lock(self.rt);
-        for link in ledger.links.iter() {
-            waiting.push(shared.core().waiting(link.number).unwrap_or(0))?;
-        }
-        Ok(waiting)
-    }
-
-    /// Adds a link: its number, the peer with its creation, whether it is visible, where it leads
-    /// to, for how many seconds it is up, and how many frames wait for it.
-    fn put_link(
-        &self,
-        link: &UpLink,
-        waiting: usize,
-        out: &mut Vec<u8>,
-    ) -> Result<(), OutOfMemory> {
-        put_number(" ", u64::from(link.number), out)?;
-        put_named(&link.peer, out)?;
-        put_number(" ", u64::from(link.creation), out)?;
-        put_word(" ", out)?;
-        put_word(link.kind.word(link.is_visible), out)?;
-        self.put_address(link.address, out)?;
-        put_number(" ", self.seconds_since(link.since), out)?;
-        put_number(" ", waiting as u64, out)
     }
 
     fn put_dials(&self, out: &mut Vec<u8>) -> Result<(), OutOfMemory> {
-        let targets = self.hub.targets.all(self.rt, self.hub.alloc)?;
-        let ledger = self.ledger()?;
+        let mut view = self.new_view();
+        self.look_at_dials(&mut view)?;
         put_word("dials", out)?;
-        for target in &targets {
-            self.put_dial(target, ledger.is_up(target.peer()), out)?;
+        for dial in &view.dials {
+            put_dial(dial, out)?;
         }
         Ok(())
-    }
-
-    /// Adds a peer to dial: its name, its place, how often it was dialled, in how many seconds it
-    /// is so again, and how that goes.
-    fn put_dial(&self, target: &Target, is_up: bool, out: &mut Vec<u8>) -> Result<(), OutOfMemory> {
-        let tried = target.tried(self.rt);
-        put_named(target.peer(), out)?;
-        put_word(" ", out)?;
-        put_word(target.place(), out)?;
-        put_number(" ", u64::from(tried.times), out)?;
-        match tried.next {
-            Some(next) if !is_up => put_number(" ", self.seconds_until(next), out)?,
-            _ => put_word(UNKNOWN, out)?,
-        }
-        put_word(" ", out)?;
-        put_word(how_it_goes(is_up, tried), out)
     }
 
     /// Adds the control connections, each by its seat in the audit.
@@ -182,61 +102,59 @@ impl<R: Wait + Clock> Reporting<'_, R> {
         }
         Ok(())
     }
+}
 
-    fn put_refusals(&self, out: &mut Vec<u8>) -> Result<(), OutOfMemory> {
-        let ledger = self.ledger()?;
-        put_word("refusals", out)?;
-        for refusal in ledger.refusals.last.iter() {
-            put_refusal(refusal, out)?;
-            self.put_address(refusal.address, out)?;
-        }
-        Ok(())
-    }
-
-    /// Adds an address behind a space, or a dash.
-    fn put_address(
-        &self,
-        address: Option<SocketAddr>,
-        out: &mut Vec<u8>,
-    ) -> Result<(), OutOfMemory> {
-        match address {
-            Some(address) => put_word(format!(in self.hub.alloc; " {address}")?.as_str(), out),
-            None => put_word(UNKNOWN, out),
-        }
-    }
-
-    /// How many whole seconds have passed.
-    pub(crate) fn seconds_since(&self, begin: Option<Instant>) -> u64 {
-        let Some(begin) = begin else {
-            return 0;
-        };
-        match begin.elapsed(self.rt) {
-            Ok(passed) => passed.as_secs(),
-            Err(_) => 0,
-        }
-    }
-
-    /// In how many seconds the time comes; 0 where it has.
-    pub(crate) fn seconds_until(&self, time: Instant) -> u64 {
-        match Instant::now(self.rt) {
-            Ok(now) => time.saturating_duration_since(now).as_secs(),
-            Err(_) => 0,
-        }
+/// Adds what a node is, and has of each limit.
+fn put_status(view: &NodeView, out: &mut Vec<u8>) -> Result<(), OutOfMemory> {
+    put_word("status name=", out)?;
+    put_word(view.name.as_str(), out)?;
+    put_number(" creation=", u64::from(view.creation), out)?;
+    put_word(" version=", out)?;
+    put_word(view.version, out)?;
+    put_number(" seconds=", view.seconds, out)?;
+    put_number(" lives=", view.lives, out)?;
+    put_part(" links=", view.links.len() as u64, view.most_links, out)?;
+    put_number(" otp_links=", view.otp_links, out)?;
+    put_part(" clients=", view.clients, view.most_clients, out)?;
+    put_number(" entries=", view.entries, out)?;
+    put_part(" kept=", view.kept, view.most_kept, out)?;
+    put_number(" lost=", view.lost, out)?;
+    put_number(" archived=", view.archived, out)?;
+    put_number(" refused=", view.refused, out)?;
+    put_number(" told=", view.told, out)?;
+    match view.bytes {
+        Some(bytes) => put_number(" bytes=", bytes, out),
+        None => put_word(" bytes=-", out),
     }
 }
 
-/// How many entries a node has, and how many of them it keeps.
-pub(crate) fn entries_of(core: &NodeCore) -> (usize, usize) {
-    (core.audit().len(), kept(core) as usize)
+/// Adds a link: its number, the peer with its creation, whether it is visible, where it leads to,
+/// for how many seconds it is up, and how many frames wait for it.
+fn put_link(link: &LinkView, out: &mut Vec<u8>) -> Result<(), OutOfMemory> {
+    put_number(" ", u64::from(link.number), out)?;
+    put_text(link.peer.as_str(), out)?;
+    put_number(" ", u64::from(link.creation), out)?;
+    put_text(link.kind, out)?;
+    if link.address.is_empty() {
+        put_word(UNKNOWN, out)?;
+    } else {
+        put_text(link.address.as_str(), out)?;
+    }
+    put_number(" ", link.seconds, out)?;
+    put_number(" ", link.waiting, out)
 }
 
-/// How dials go: the link is up, why the last one has failed, or a dash for the first one.
-pub(crate) fn how_it_goes(is_up: bool, tried: Tried) -> &'static str {
-    match tried.fault {
-        _ if is_up => "up",
-        Some(fault) => fault.name(),
-        None => "-",
+/// Adds a peer to dial: its name, its place, how often it was dialled, in how many seconds it is so
+/// again, and how that goes.
+fn put_dial(dial: &DialView, out: &mut Vec<u8>) -> Result<(), OutOfMemory> {
+    put_text(dial.peer.as_str(), out)?;
+    put_text(dial.place.as_str(), out)?;
+    put_number(" ", dial.times, out)?;
+    match dial.next {
+        Some(seconds) => put_number(" ", seconds, out)?,
+        None => put_word(UNKNOWN, out)?,
     }
+    put_text(dial.state, out)
 }
 
 fn put_scopes(ledger: &Ledger, out: &mut Vec<u8>) -> Result<(), OutOfMemory> {
@@ -260,16 +178,35 @@ fn put_allowed(ledger: &Ledger, out: &mut Vec<u8>) -> Result<(), OutOfMemory> {
     Ok(())
 }
 
+fn put_refusals(alloc: Global, ledger: &Ledger, out: &mut Vec<u8>) -> Result<(), OutOfMemory> {
+    put_word("refusals", out)?;
+    for refusal in ledger.refusals.last.iter() {
+        put_refusal(refusal, out)?;
+        put_address(alloc, refusal.address, out)?;
+    }
+    Ok(())
+}
+
 /// Adds a refused event: its entry, its kind, the rule by number and name, and the peer, or a dash.
 fn put_refusal(refusal: &Refusal, out: &mut Vec<u8>) -> Result<(), OutOfMemory> {
     put_number(" ", u64::from(refusal.entry), out)?;
-    put_word(" ", out)?;
-    put_word(refusal.kind, out)?;
+    put_text(refusal.kind, out)?;
     put_number(" ", u64::from(refusal.rule.number()), out)?;
-    put_word(" ", out)?;
-    put_word(refusal.rule.name(), out)?;
+    put_text(refusal.rule.name(), out)?;
     match &refusal.peer {
         Some(peer) => put_named(peer, out),
+        None => put_word(UNKNOWN, out),
+    }
+}
+
+/// Adds an address behind a space, or a dash.
+fn put_address(
+    alloc: Global,
+    address: Option<SocketAddr>,
+    out: &mut Vec<u8>,
+) -> Result<(), OutOfMemory> {
+    match address {
+        Some(address) => put_word(format!(in alloc; " {address}")?.as_str(), out),
         None => put_word(UNKNOWN, out),
     }
 }
@@ -278,6 +215,12 @@ fn put_refusal(refusal: &Refusal, out: &mut Vec<u8>) -> Result<(), OutOfMemory> 
 fn put_named(name: &NodeName, out: &mut Vec<u8>) -> Result<(), OutOfMemory> {
     put_word(" ", out)?;
     put_bytes(name.as_bytes(), out)
+}
+
+/// Adds a text behind a space.
+fn put_text(text: &str, out: &mut Vec<u8>) -> Result<(), OutOfMemory> {
+    put_word(" ", out)?;
+    put_word(text, out)
 }
 
 /// Adds how many there are of so many that there may be.

@@ -10,7 +10,7 @@ impl Hub {
     /// Takes a seat that nobody has, if there is one, with so many others, and memory for it, and
     /// somebody may be let in.
     pub fn enter<R: Wait>(&self, rt: &R, others: usize) -> Option<(usize, Seen)> {
-        if self.is_draining() {
+        if self.signals.is_draining() {
             return None;
         }
         for _ in 0..2 {
@@ -56,7 +56,7 @@ impl Hub {
                 return;
             };
             let call = self.let_through(rt, promise);
-            let had_one = !self.is_quitting() && self.leave_one(rt, seat);
+            let had_one = !self.signals.is_quitting() && self.leave_one(rt, seat);
             self.has_called(rt, call);
             if !had_one {
                 return;

@@ -5,7 +5,7 @@ use crate::reserve::Reserve;
 use anyhow::{Error, Result, anyhow};
 use node_threads::{CloseRule, Node, Pass};
 use pg_archive::Life;
-use pg_hub::{Hub, PageQueue};
+use pg_hub::{Hub, Keeping, PageQueue};
 use pg_log::Log;
 use policy_audit::{PAGE_SIZE, Page};
 use std::alloc::Global;
@@ -199,9 +199,9 @@ impl<'a> Closer<'a> {
     /// Does what is put in, until the end. A life that isn't closed ends the program.
     pub fn work<R: Wait + Clock>(&self, rt: &R, hub: &Hub) {
         for _ in rt.forever() {
-            let may_write = self.look(rt, hub);
+            let may_write = self.look(rt, &hub.log, &hub.keeping);
             match self.take(rt, may_write) {
-                Task::Write(page) => self.write(rt, hub, &page),
+                Task::Write(page) => self.write(rt, &hub.log, &hub.keeping, &page),
                 Task::Close(life) => self.close_one(rt, hub, life),
                 Task::Look => {}
                 Task::End => return,
@@ -217,24 +217,24 @@ impl<'a> Closer<'a> {
     }
 
     /// Opens the archive's file anew if that is asked for, and writes what waits there: whether it takes more.
-    fn look<R: Wait + Clock>(&self, rt: &R, hub: &Hub) -> bool {
+    fn look<R: Wait + Clock>(&self, rt: &R, log: &Log, keeping: &Keeping) -> bool {
         let Some(archive) = &self.archive else {
             return true;
         };
         let lost = self.take_lost(rt);
         let mut archive = archive.lock(rt);
         archive.count_lost(lost.saturating_mul(PAGE));
-        let is_open = archive.reopen(rt, hub.alloc, hub.keeping.reopens(), &hub.log);
-        let may_write = is_open && archive.flush(rt, hub.alloc, &hub.log);
-        archive.tell(&hub.keeping);
+        let is_open = archive.reopen(rt, self.alloc, keeping.reopens(), log);
+        let may_write = is_open && archive.flush(rt, self.alloc, log);
+        archive.tell(keeping);
         may_write
     }
 
-    fn write<R: Wait + Clock>(&self, rt: &R, hub: &Hub, page: &Page) {
+    fn write<R: Wait + Clock>(&self, rt: &R, log: &Log, keeping: &Keeping, page: &Page) {
         if let Some(archive) = &self.archive {
             let mut archive = archive.lock(rt);
-            archive.write(rt, hub.alloc, page.as_slice(), &hub.log);
-            archive.tell(&hub.keeping);
+            archive.write(rt, self.alloc, page.as_slice(), log);
+            archive.tell(keeping);
         }
     }
 

@@ -1,11 +1,14 @@
 //! One life of the node: its links are served until its audit is nearly full, or memory is wanting.
 use node_net::{Arrivals, Lane, Lanes, Limits, Met, Target, start_accepting, start_dialling};
+use node_threads::Node;
 use pg_hub::{Host, Hub};
-use pg_log::{Level, text};
+use pg_log::{Level, Log, text};
+use pg_session::Seen;
+use std::alloc::Global;
 use std::sync::Wait;
 use std::thread;
 use std::thread::Scope;
-use std::time::Clock;
+use std::time::{Clock, Duration};
 
 /// How many links the node keeps at most, and so how many threads serve connections.
 pub const LANES: usize = 64;
@@ -25,6 +28,9 @@ const NATIVE: &str =
 
 const ATOMS: &str = "stock nodes were told 65536 groups as atoms; rows of others are left out, \
     unless they begin with #b:";
+
+/// The milliseconds between two looks while calls come: a burst costs no more looks.
+const REST: u64 = 20;
 
 const UNSTEADY: &str = "the peer ends the links to it soon: has another node the name of this one?";
 
@@ -51,13 +57,14 @@ pub fn live<R: Host>(rt: &R, site: Site<'_>, lanes: Vec<Lane>) -> Vec<Lane> {
     thread::scope(thread::scope_env(), rt, |scope| {
         let mut dialled = 0;
         let mut are_made = start_dials(scope, rt, hub, &lanes, &mut dialled);
-        are_made &= start_takers(scope, rt, hub, arrivals, &lanes);
-        are_made &= start_takers(scope, rt, hub, otp_arrivals, &lanes);
+        for arrivals in [arrivals, otp_arrivals] {
+            are_made &= start_takers(scope, rt, hub.alloc, &hub.node, arrivals, &lanes);
+        }
         if !are_made {
-            warn_of_threads(rt, hub);
+            warn_of_threads(rt, &hub.log);
         }
         wait_for_end(scope, rt, site, &lanes, dialled);
-        hub.end_links();
+        hub.signals.end_links();
         lanes.stop(rt);
         for arrivals in [arrivals, otp_arrivals] {
             if let Some(arrivals) = arrivals {
@@ -72,7 +79,8 @@ pub fn live<R: Host>(rt: &R, site: Site<'_>, lanes: Vec<Lane>) -> Vec<Lane> {
 fn start_takers<'s, E: 's, R: Host + 's>(
     scope: &'s Scope<'s, E>,
     rt: &'s R,
-    hub: &'s Hub,
+    alloc: Global,
+    node: &'s Node,
     arrivals: Option<&'s Arrivals>,
     lanes: &'s Lanes<'s>,
 ) -> bool {
@@ -81,7 +89,7 @@ fn start_takers<'s, E: 's, R: Host + 's>(
     };
     let mut are_made = true;
     for _ in 0..LANES {
-        are_made &= start_accepting(scope, rt, hub.alloc, &hub.node, lanes, arrivals);
+        are_made &= start_accepting(scope, rt, alloc, node, lanes, arrivals);
     }
     are_made
 }
@@ -107,7 +115,7 @@ fn start_dials<'s, E: 's, R: Host + 's>(
     are_made
 }
 
-/// What a life was last looked at for beside its node.
+/// What there is to notice beside the node.
 #[derive(Clone, Copy, PartialEq, Eq)]
 struct Noticed {
     met: Met,
@@ -121,8 +129,44 @@ impl Noticed {
         Noticed {
             met: lanes.met(),
             changes: hub.targets.changes(),
-            is_draining: hub.is_draining(),
+            is_draining: hub.signals.is_draining(),
         }
+    }
+}
+
+/// What a life was last looked at for.
+#[derive(Drop)]
+struct Watch {
+    entries: Option<Seen>,
+    noticed: Noticed,
+}
+
+impl Watch {
+    fn new() -> Watch {
+        Watch {
+            entries: None,
+            noticed: Noticed {
+                met: Met::NOTHING,
+                changes: 0,
+                is_draining: false,
+            },
+        }
+    }
+
+    /// Waits until there is anything new, and looks at it: whether the life is over.
+    fn wait<R: Wait>(&mut self, rt: &R, hub: &Hub, lanes: &Lanes<'_>) -> bool {
+        let (entries, noticed) = (self.entries, self.noticed);
+        let shared = hub.node.shared.lock(rt);
+        let shared = hub.node.moved.wait_while(rt, shared, |shared| {
+            !hub.is_over(shared)
+                && entries == Some(Seen::of(shared.core()))
+                && noticed == Noticed::now(hub, lanes)
+        });
+        self.entries = Some(Seen::of(shared.core()));
+        let is_over = hub.is_over(&shared);
+        drop(shared);
+        self.noticed = Noticed::now(hub, lanes);
+        is_over
     }
 }
 
@@ -136,71 +180,68 @@ fn wait_for_end<'s, E: 's, R: Host + 's>(
     mut dialled: u64,
 ) {
     let hub = site.hub;
-    let mut seen = Noticed {
-        met: Met::NOTHING,
-        changes: 0,
-        is_draining: false,
-    };
+    let mut watch = Watch::new();
     for _ in rt.forever() {
-        let shared = hub.node.shared.lock(rt);
-        let shared = hub.node.moved.wait_while(rt, shared, |shared| {
-            !hub.is_quitting() && !hub.is_ending(shared) && Noticed::now(hub, lanes) == seen
-        });
-        drop(shared);
-        let now = Noticed::now(hub, lanes);
-        if now == seen {
+        let told = watch.noticed;
+        let is_over = watch.wait(rt, hub, lanes);
+        let now = watch.noticed;
+        if now != told {
+            if now.is_draining {
+                lanes.drain(rt);
+            }
+            if !start_dials(scope, rt, hub, lanes, &mut dialled) {
+                warn_of_threads(rt, &hub.log);
+            }
+            lanes.wake_dials(rt);
+            warn(rt, &hub.log, told.met, now.met);
+            warn_of_dials(rt, hub, told.met, now.met);
+        }
+        if is_over {
             return;
         }
-        if now.is_draining {
-            lanes.drain(rt);
-        }
-        if !start_dials(scope, rt, hub, lanes, &mut dialled) {
-            warn_of_threads(rt, hub);
-        }
-        lanes.wake_dials(rt);
-        warn(rt, hub, seen.met, now.met);
-        seen = now;
+        thread::sleep(rt, Duration::from_millis(REST));
     }
+    unreachable!()
 }
 
-fn warn_of_threads<R: Wait + Clock>(rt: &R, hub: &Hub) {
-    hub.log
-        .warn(rt, "no_thread", "no thread can be made for a link");
+fn warn_of_threads<R: Wait + Clock>(rt: &R, log: &Log) {
+    log.warn(rt, "no_thread", "no thread can be made for a link");
 }
 
-/// Says what was met since the last time.
-fn warn<R: Wait + Clock>(rt: &R, hub: &Hub, told: Met, met: Met) {
+/// Says what was met since the last time, but for dials.
+fn warn<R: Wait + Clock>(rt: &R, log: &Log, told: Met, met: Met) {
     if met.reflections != told.reflections {
-        hub.log.warn(rt, "reflected", REFLECTED);
+        log.warn(rt, "reflected", REFLECTED);
     }
     if met.fillings != told.fillings {
-        hub.log.warn(rt, "full", FULL);
+        log.warn(rt, "full", FULL);
     }
     if met.stock_nodes != told.stock_nodes {
-        hub.log.warn(rt, "stock_node", STOCK);
+        log.warn(rt, "stock_node", STOCK);
     }
     if met.native_nodes != told.native_nodes {
-        hub.log.warn(rt, "no_stock_node", NATIVE);
+        log.warn(rt, "no_stock_node", NATIVE);
     }
     if met.refused_atoms != told.refused_atoms {
-        hub.log.warn(rt, "too_many_atoms", ATOMS);
-    }
-    if met.early_ends != told.early_ends || met.failed_dials != told.failed_dials {
-        warn_of_dials(rt, hub);
+        log.warn(rt, "too_many_atoms", ATOMS);
     }
 }
 
-fn warn_of_dials<R: Wait + Clock>(rt: &R, hub: &Hub) {
+/// Says what was met of dials since the last time.
+fn warn_of_dials<R: Wait + Clock>(rt: &R, hub: &Hub, told: Met, met: Met) {
+    if met.early_ends == told.early_ends && met.failed_dials == told.failed_dials {
+        return;
+    }
     let Ok(targets) = hub.targets.all(rt, hub.alloc) else {
         return;
     };
     for target in &targets {
-        warn_of_dial(rt, hub, target);
+        warn_of_dial(rt, &hub.log, target);
     }
 }
 
 /// Says why a peer isn't up, and once that its links end early.
-fn warn_of_dial<R: Wait + Clock>(rt: &R, hub: &Hub, target: &Target) {
+fn warn_of_dial<R: Wait + Clock>(rt: &R, log: &Log, target: &Target) {
     let peer = target.peer().as_str();
     if let Some(fault) = target.take_fault(rt) {
         let fields = [
@@ -209,10 +250,10 @@ fn warn_of_dial<R: Wait + Clock>(rt: &R, hub: &Hub, target: &Target) {
             text("fault", fault.name()),
             text("reason", fault.reason()),
         ];
-        hub.log.tell(rt, Level::Warn, "dial_failed", &fields);
+        log.tell(rt, Level::Warn, "dial_failed", &fields);
     }
     if target.has_news() {
         let fields = [text("peer", peer), text("reason", UNSTEADY)];
-        hub.log.tell(rt, Level::Warn, "unsteady", &fields);
+        log.tell(rt, Level::Warn, "unsteady", &fields);
     }
 }

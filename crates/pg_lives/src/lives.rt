@@ -5,7 +5,7 @@ use crate::turn::{LifeMaker, last};
 use anyhow::{Result, bail};
 use node_net::Lane;
 use pg_hub::{Host, Hub};
-use pg_log::{Level, number};
+use pg_log::{Level, Log, number};
 use std::sync::{Arc, Wait};
 use std::time::{Clock, Instant};
 
@@ -28,7 +28,7 @@ pub fn live_on<R: Host>(
     for _ in rt.forever() {
         let begun = Instant::now(rt).ok();
         let ended = live(rt, site, lanes);
-        if site.hub.is_quitting() {
+        if site.hub.signals.is_quitting() {
             return Ok(ended);
         }
         lanes = begin_anew(rt, site.hub, maker, closer, ended, begun)?;
@@ -48,10 +48,11 @@ fn begin_anew<R: Wait + Clock>(
 ) -> Result<Vec<Lane>> {
     let wants_memory = check_memory(rt, hub, closer)?;
     hub.log_links(rt);
-    let entries = hub.node.shared.lock(rt).core().audit().len();
+    let entries = hub.node.shared.lock(rt).core().audit().len() as u64;
     closer.reserve.release(rt);
     let (lanes, life) = maker.turn(rt, hub, ended)?;
-    log_life(rt, hub, entries, begun);
+    let creation = hub.node.shared.lock(rt).core().creation();
+    log_life(rt, &hub.log, creation, entries, begun);
     closer.put(rt, life);
     if wants_memory {
         closer.wait_until_idle(rt);
@@ -60,14 +61,19 @@ fn begin_anew<R: Wait + Clock>(
 }
 
 /// Logs a new life, behind one of so many entries that has begun then.
-fn log_life<R: Wait + Clock>(rt: &R, hub: &Hub, entries: usize, begun: Option<Instant>) {
-    let creation = hub.node.shared.lock(rt).core().creation();
+fn log_life<R: Wait + Clock>(
+    rt: &R,
+    log: &Log,
+    creation: u32,
+    entries: u64,
+    begun: Option<Instant>,
+) {
     let fields = [
         number("creation", u64::from(creation)),
-        number("entries", entries as u64),
+        number("entries", entries),
         number("seconds", seconds_since(rt, begun)),
     ];
-    hub.log.tell(rt, Level::Info, "new_life", &fields);
+    log.tell(rt, Level::Info, "new_life", &fields);
 }
 
 fn seconds_since<R: Clock>(rt: &R, begun: Option<Instant>) -> u64 {
@@ -82,7 +88,7 @@ fn check_memory<R: Wait + Clock>(rt: &R, hub: &Hub, closer: &Closer<'_>) -> Resu
     let shared_memory = closer.wait_until_idle(rt);
     let shared = hub.node.shared.lock(rt);
     let entries = shared.core().audit().len();
-    let wants_memory = hub.wants_memory(&shared);
+    let wants_memory = hub.signals.wants_memory(&shared);
     drop(shared);
     if wants_memory && entries < FEWEST && !shared_memory {
         bail!("out of memory");

@@ -26,7 +26,7 @@ struct State {
 /// Where decisions are logged, from which level on. To log one takes no memory, unless its line is
 /// very long.
 pub struct Log {
-    alloc: Global,
+    pub(crate) alloc: Global,
     format: Format,
     level: LevelFilter,
     state: Mutex<State>,

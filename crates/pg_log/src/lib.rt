@@ -6,8 +6,10 @@ mod format;
 mod journal;
 mod limiter;
 mod recent;
+mod taking;
 
 pub use decision::{Decision, Field, Source, Value, number, text};
 pub use format::{Format, FormatFault};
 pub use journal::Log;
 pub use log::{Level, LevelFilter};
+pub use taking::Taking;

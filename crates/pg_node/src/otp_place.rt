@@ -6,7 +6,7 @@ use anyhow::{Result, bail};
 use dist_types::NodeName;
 use epmd::{Alive, AskFault, NodeKind, register};
 use node_net::{Arrivals, PeerKind};
-use pg_hub::{Host, Hub};
+use pg_hub::Host;
 use pg_log::{Level, Log, number, text};
 use pg_options::OtpOptions;
 use std::alloc::Global;
@@ -141,18 +141,18 @@ impl Registration {
 
     /// Keeps the node registered until the end. Where EPMD isn't there, or has gone, it is tried
     /// again; that is logged once until it is there again.
-    fn keep<R: Host>(&self, rt: &R, hub: &Hub) {
+    fn keep<R: Host>(&self, rt: &R, log: &Log) {
         let mut is_told = false;
         for _ in rt.forever() {
             match self.register_once(rt) {
                 Ok(stream) => {
                     is_told = false;
-                    self.log_registered(rt, hub);
+                    self.log_registered(rt, log);
                     self.hold(rt, &stream);
                 }
                 Err(fault) => {
                     if !is_told && !self.has_ended(rt) {
-                        self.log_fault(rt, hub, &fault);
+                        self.log_fault(rt, log, &fault);
                     }
                     is_told = true;
                 }
@@ -238,22 +238,22 @@ impl Registration {
         unreachable!()
     }
 
-    fn log_registered<R: Wait + Clock>(&self, rt: &R, hub: &Hub) {
+    fn log_registered<R: Wait + Clock>(&self, rt: &R, log: &Log) {
         let fields = [
             text("name", self.name.as_str()),
             number("port", u64::from(self.port)),
             number("epmd", u64::from(self.epmd)),
         ];
-        hub.log.tell(rt, Level::Info, "registered", &fields);
+        log.tell(rt, Level::Info, "registered", &fields);
     }
 
-    fn log_fault<R: Wait + Clock>(&self, rt: &R, hub: &Hub, fault: &AskFault) {
+    fn log_fault<R: Wait + Clock>(&self, rt: &R, log: &Log, fault: &AskFault) {
         if let Ok(reason) = format!(in self.alloc; "{fault}") {
             let fields = [
                 number("epmd", u64::from(self.epmd)),
                 text("reason", reason.as_str()),
             ];
-            hub.log.tell(rt, Level::Warn, "not_registered", &fields);
+            log.tell(rt, Level::Warn, "not_registered", &fields);
         }
     }
 }
@@ -263,7 +263,7 @@ pub fn start_registering<'s, E: 's, R: Host + 's>(
     scope: &'s Scope<'s, E>,
     rt: &'s R,
     place: Option<&'s OtpPlace>,
-    hub: &'s Hub,
+    log: &'s Log,
 ) -> bool {
     match place {
         Some(
@@ -271,7 +271,7 @@ pub fn start_registering<'s, E: 's, R: Host + 's>(
                 registration: Some(registration),
                 ..
             },
-        ) => scope.spawn(move || registration.keep(rt, hub)).is_ok(),
+        ) => scope.spawn(move || registration.keep(rt, log)).is_ok(),
         _ => true,
     }
 }

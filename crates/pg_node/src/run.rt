@@ -202,7 +202,7 @@ fn serve<R: Host>(
         bail!("out of memory");
     };
     let operator = Operator::new(hub, seat, streams, places.door.is_none());
-    let untaken = UntakenPeers { rt, hub };
+    let untaken = UntakenPeers { rt, log: &hub.log };
     thread::scope(thread::scope_env(), rt, |scope| {
         let are_made = start_all(scope, rt, program, &operator, seen)
             && start_arrivals(scope, rt, site.arrivals, &untaken)
@@ -232,9 +232,9 @@ fn start_all<'s, E: 's, R: Host + 's>(
     let are_served = start_operator(scope, rt, operator, seen);
     let are_let_in = start_control(scope, rt, hub, places.door.as_ref())
         && start_control(scope, rt, hub, places.read_door.as_ref())
-        && start_pages(scope, rt, hub, places.pages.as_ref());
+        && start_pages(scope, rt, hub, &hub.log, places.pages.as_ref());
     let are_kept = start_keeping(scope, rt, hub, closer);
-    let is_found = start_registering(scope, rt, otp_place, hub);
+    let is_found = start_registering(scope, rt, otp_place, &hub.log);
     are_logged && are_served && are_let_in && are_kept && is_found
 }
 

@@ -63,7 +63,7 @@ fn add_all<R: Files>(
 ) -> Result<(), Fault> {
     let bytes = fs::read(&(rt, alloc), path).map_err(|error| unread(path, error))?;
     let Ok(text) = str::from_utf8(bytes.as_slice()) else {
-        return Err(misused(anyhow!("--config: {path:.60}: it isn't UTF-8")));
+        return Err(misused(anyhow!("--config: {path:.255}: it isn't UTF-8")));
     };
     let table = parse(alloc, path, text)?;
     for (key, value) in &table {
@@ -91,7 +91,7 @@ fn parse(alloc: Global, path: &str, text: &str) -> Result<Table, Fault> {
             let start = error.span().map(|span| span.start).unwrap_or(0);
             let line = line_at(text, start);
             let message = error.message();
-            Err(misused(anyhow!("--config: {path:.60}: line {line}: {message}")))
+            Err(misused(anyhow!("--config: {path:.255}: line {line}: {message}")))
         }
     }
 }
@@ -102,8 +102,8 @@ fn line_at(text: &str, place: usize) -> usize {
     before.count().saturating_add(1)
 }
 
-/// The line that begins with this key, from 1; 0 where none does.
-fn line_of(text: &str, key: &str) -> usize {
+/// The line that begins with this key, from 1: none does where the key is written another way.
+fn line_of(text: &str, key: &str) -> Option<usize> {
     let mut number = 0usize;
     for line in text.lines() {
         number = number.saturating_add(1);
@@ -111,15 +111,18 @@ fn line_of(text: &str, key: &str) -> usize {
         if let Some(rest) = line.strip_prefix(key) {
             let rest = rest.trim_start_matches(|c| c == ' ' || c == '\t' || c == '"');
             if rest.starts_with('=') || rest.starts_with(']') || rest.starts_with('.') {
-                return number;
+                return Some(number);
             }
         }
     }
-    0
+    None
 }
 
-fn at_line(path: &str, line: usize, key: &str, reason: &'static str) -> Fault {
-    let reason: Reason = anyhow!("--config: {path:.60}: line {line}: {reason}: {key:.60}");
+fn at_line(path: &str, line: Option<usize>, key: &str, reason: &'static str) -> Fault {
+    let reason: Reason = match line {
+        Some(line) => anyhow!("--config: {path:.255}: line {line}: {reason}: {key:.60}"),
+        None => anyhow!("--config: {path:.255}: {reason}: {key:.60}"),
+    };
     misused(reason)
 }
 

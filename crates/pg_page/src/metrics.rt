@@ -1,6 +1,6 @@
 //! The metrics of a node, in the text format of Prometheus, version 0.0.4.
 use crate::sheet::Sheet;
-use crate::view::{DialView, DropView, LinkView, NodeView, RuleView, ScopeView};
+use crate::view::{DialView, LinkView, NodeView, ReasonView, RuleView, ScopeView};
 
 /// Adds all metrics.
 pub fn put_metrics(view: &NodeView, sheet: &mut Sheet) {
@@ -8,6 +8,7 @@ pub fn put_metrics(view: &NodeView, sheet: &mut Sheet) {
     put_gauges(view, sheet);
     put_counts(view, sheet);
     put_links(view.links.as_slice(), sheet);
+    put_downs(view.downs.as_slice(), sheet);
     put_dropped(view.dropped.as_slice(), sheet);
     put_dials(view.dials.as_slice(), sheet);
     put_scopes(view.scopes.as_slice(), sheet);
@@ -147,11 +148,26 @@ fn put_links(links: &[LinkView], sheet: &mut Sheet) {
     }
 }
 
-fn put_dropped(dropped: &[DropView], sheet: &mut Sheet) {
+fn put_downs(downs: &[ReasonView], sheet: &mut Sheet) {
+    let name = "pg_link_downs_total";
+    family(
+        name,
+        "counter",
+        "Links of this life that have ended.",
+        sheet,
+    );
+    put_reasons(name, downs, sheet);
+}
+
+fn put_dropped(dropped: &[ReasonView], sheet: &mut Sheet) {
     let name = "pg_otp_dropped_total";
     let what = "What isn't carried between stock nodes of Erlang/OTP and the node.";
     family(name, "counter", what, sheet);
-    for one in dropped {
+    put_reasons(name, dropped, sheet);
+}
+
+fn put_reasons(name: &str, counted: &[ReasonView], sheet: &mut Sheet) {
+    for one in counted {
         sample(name, "reason", one.reason.as_bytes(), one.times, sheet);
     }
 }

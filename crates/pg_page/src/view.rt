@@ -32,8 +32,10 @@ pub struct NodeView {
     /// How many of them lead to stock nodes of Erlang/OTP.
     pub otp_links: u64,
     /// What isn't carried between these and the node, by its reason.
-    pub dropped: Vec<DropView>,
+    pub dropped: Vec<ReasonView>,
     pub most_links: u64,
+    /// How often links of this life have ended, by the reason.
+    pub downs: Vec<ReasonView>,
     pub dials: Vec<DialView>,
     pub scopes: Vec<ScopeView>,
     /// The rules that have refused something, ascending.
@@ -66,6 +68,7 @@ impl Drop for NodeView {
             otp_links: _,
             dropped: _,
             most_links: _,
+            downs: _,
             dials: _,
             scopes: _,
             rules: _,
@@ -99,6 +102,7 @@ impl NodeView {
             otp_links: 0,
             dropped: Vec::new(alloc),
             most_links: 0,
+            downs: Vec::new(alloc),
             dials: Vec::new(alloc),
             scopes: Vec::new(alloc),
             rules: Vec::new(alloc),
@@ -107,16 +111,16 @@ impl NodeView {
     }
 }
 
-/// What isn't carried over links to stock nodes of Erlang/OTP.
-pub struct DropView {
+/// How often something was so, for one reason.
+pub struct ReasonView {
     /// Why, as one word.
     pub reason: &'static str,
     pub times: u64,
 }
 
-impl Drop for DropView {
+impl Drop for ReasonView {
     fn drop(self) {
-        let DropView {
+        let ReasonView {
             reason: _,
             times: _,
         } = self;

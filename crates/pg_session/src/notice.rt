@@ -27,6 +27,17 @@ pub enum DownReason {
 }
 
 impl DownReason {
+    /// All of them, each once.
+    pub const ALL: [DownReason; 7] = [
+        DownReason::Closed,
+        DownReason::Silent,
+        DownReason::Slow,
+        DownReason::Replaced,
+        DownReason::Unreadable,
+        DownReason::Disconnected,
+        DownReason::Restarted,
+    ];
+
     pub fn word(self) -> &'static str
         ensures { result.now ≡ reason_word self }
     {

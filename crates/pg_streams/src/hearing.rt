@@ -3,10 +3,14 @@
 use std::io::{self, Read};
 use std::net::TcpStream;
 use std::os::unix::net::UnixStream;
+use std::sync::atomic::{AtomicUsize, Ordering};
 use std::time::{Clock, Duration, Instant};
 
 /// The milliseconds for which somebody is heard out at most.
 const HEARING: u64 = 300;
+
+/// The most threads that hear somebody out, of one door.
+const MOST: usize = 8;
 
 /// How many bytes are read at a time.
 const PIECE: usize = 4_096;
@@ -61,4 +65,31 @@ pub fn hear_out<R: Clock, S: Hearable>(rt: &R, stream: &S) -> io::Result<()> {
 pub fn is_at_end<S: Hearable>(stream: &S) -> io::Result<bool> {
     let mut piece = [0u8; PIECE];
     Ok(stream.hear(&mut piece)? == 0)
+}
+
+/// The threads that hear out who isn't served.
+#[derive(Drop)]
+pub struct Hearers {
+    count: AtomicUsize,
+}
+
+impl Hearers {
+    pub fn new() -> Hearers {
+        Hearers {
+            count: AtomicUsize::new(0),
+        }
+    }
+
+    /// Counts one more: whether there may be one.
+    pub fn add(&self) -> bool {
+        if self.count.fetch_add(1, Ordering::SeqCst) < MOST {
+            return true;
+        }
+        self.remove();
+        false
+    }
+
+    pub fn remove(&self) {
+        self.count.fetch_sub(1, Ordering::SeqCst);
+    }
 }

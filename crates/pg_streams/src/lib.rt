@@ -7,7 +7,7 @@ mod lines;
 mod output;
 mod warnings;
 
-pub use hearing::{Hearable, hear_out, is_at_end};
+pub use hearing::{Hearable, Hearers, hear_out, is_at_end};
 pub use lines::{LineQueue, Lines, Next, QueuedLines, ReadLines, is_too_long, read_input};
 pub use output::{OutputQueue, QueuedOutput, write_output};
 pub use warnings::{Warnings, write_warnings};

@@ -1,5 +1,7 @@
-//! Connections that are taken one after another.
-use crate::hub::Hub;
+//! Connections that are taken one after another, and those that can't be.
+use crate::decision::text;
+use crate::journal::Log;
+use log::Level;
 use std::sync::Wait;
 use std::time::{Clock, Duration};
 use std::{io, thread};
@@ -28,7 +30,7 @@ impl Taking {
     pub fn taken<R: Wait + Clock, T: Drop>(
         &mut self,
         rt: &R,
-        hub: &Hub,
+        log: &Log,
         accepted: io::Result<T>,
     ) -> Option<T> {
         match accepted {
@@ -38,12 +40,22 @@ impl Taking {
             }
             Err(error) => {
                 if !self.has_failed {
-                    hub.log_untaken(rt, self.kind, &error);
+                    log.tell_untaken(rt, self.kind, &error);
                 }
                 self.has_failed = true;
                 thread::sleep(rt, Duration::from_millis(REST));
                 None
             }
+        }
+    }
+}
+
+impl Log {
+    /// Logs that no connection of such a kind can be taken.
+    pub fn tell_untaken<R: Wait + Clock>(&self, rt: &R, kind: &'static str, error: &io::Error) {
+        if let Ok(reason) = format!(in self.alloc; "{error}") {
+            let fields = [text("kind", kind), text("reason", reason.as_str())];
+            self.tell(rt, Level::Warn, "not_taken", &fields);
         }
     }
 }
