@@ -189,7 +189,7 @@ def archive_of_something_else(field):
             file.write(text)
         node = field.start(name, "--audit", path)
         expect("the status", 1, node.status())
-        expect_one("its standard error", node.errors(), f"error: --audit: {path[:255]}: it is no archive")
+        expect_one("its standard error", node.errors(), f"error: --audit: {path[:60]}: it is no archive")
         with open(path, "rb") as file:
             expect("the file", text, file.read())
 
@@ -202,7 +202,7 @@ def archive_of_another_node(field):
     start(a)
     other = field.start("b@h", "--audit", path)
     expect("the status", 1, other.status())
-    expect_one("its standard error", other.errors(), f"error: --audit: {path[:255]}: another program writes to it")
+    expect_one("its standard error", other.errors(), f"error: --audit: {path[:60]}: another program writes to it")
     a.process.kill()
     a.process.wait()
     b = field.node("b@h", "--audit", path)

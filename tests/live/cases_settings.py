@@ -148,7 +148,7 @@ def options_that_do_not_fit(field):
                          (("--control-mode", "0660"), "--control-mode: there is no --control"),
                          (("--control-read-mode", "0660"), "--control-read-mode: there is no --control-read"),
                          (("--control", long + ".s", "--control-read", long + ".s"), "--control-read: the path of --control"),
-                         (("--control", long), f"--control: {long[:255]}: a path of more than 103 bytes"),
+                         (("--control", long), f"--control: {long[:60]}: a path of more than 103 bytes"),
                          (("--log-level", "debug"), "--log-level: not error, warn or info: debug"),
                          (("--audit-size", "5000"), "--audit-size: there is no --audit")):
         node = field.start("a@h", *words, control=False, port=None)

@@ -74,7 +74,7 @@ def half_a_line_at_the_end(field):
     limited = ["bash", "-c", f'trap "" XFSZ; exec prlimit --fsize={whole - 10} "$@"', "bash", *words]
     done = subprocess.run(limited, input=script.encode(), capture_output=True, timeout=LIMIT, check=False)
     expect("the status", 1, done.returncode)
-    expect("the last line", f"error: --audit: {path[:255]}: 1 entries are not in the file", done.stderr.decode().splitlines()[-1])
+    expect("the last line", f"error: --audit: {path[:60]}: 1 entries are not in the file", done.stderr.decode().splitlines()[-1])
     expect("the size of the file", whole - 10, os.path.getsize(path))
 
 

@@ -36,5 +36,5 @@ pub fn open<'a>(
 
 /// What is said of a file that can't be opened, or written to.
 pub fn fault(path: &str, error: &io::Error) -> Error {
-    anyhow!("--audit: {path:.255}: {error}")
+    anyhow!("--audit: {path:.60}: {error}")
 }

@@ -93,7 +93,7 @@ fn read_secret<R: Files>(rt: &R, alloc: Global, path: &str) -> Result<Vec<u8>> {
     let mode = mode_of(rt, path).map_err(|error| anyhow!("{path:.80}: {error}"))?;
     if mode & OTHERS != 0 {
         bail!(
-            "{path:.255}: others can read this file of a cookie, or its group write it (chmod 600)"
+            "{path:.60}: others can read this file of a cookie, or its group write it (chmod 600)"
         );
     }
     fs::read(&(rt, alloc), path).map_err(|error| anyhow!("{path:.80}: {error}"))

@@ -159,7 +159,7 @@ fn play_kept<R: AllocGlobal + Input + Print + Eprint + Files<File = File>>(
 /// Ends a run whose archive can't be written. What was written of it stays.
 fn unwritten<R: AllocGlobal + Eprint>(rt: &R, path: Option<&str>, error: &io::Error) -> ExitCode {
     let path = path.unwrap_or("");
-    match format!(in rt.alloc(); "error: --archive: {path:.255}: {error}") {
+    match format!(in rt.alloc(); "error: --archive: {path:.60}: {error}") {
         Ok(text) => failed(rt, 1, text.as_str()),
         Err(_) => failed(rt, 1, OUT_OF_MEMORY),
     }
@@ -195,7 +195,7 @@ fn play_files<R: AllocGlobal + Files<File = File>>(
     player: &mut Player,
 ) -> Result<()> {
     for path in matches.get_strs("ARCHIVE").unwrap_or(&[]) {
-        let file = File::open(rt, path).map_err(|error| anyhow!("{path:.255}: {error}"))?;
+        let file = File::open(rt, path).map_err(|error| anyhow!("{path:.60}: {error}"))?;
         let mut reader = BufReader::new(rt.alloc(), file)?;
         player.play(path, &mut reader)?;
     }

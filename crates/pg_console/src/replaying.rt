@@ -61,13 +61,13 @@ impl Player {
                 Ok(true) => {}
                 Ok(false) => return Ok(()),
                 Err(RunFault::Memory) => bail!("out of memory"),
-                Err(_) => bail!("{path:.255}: it can't be read"),
+                Err(_) => bail!("{path:.60}: it can't be read"),
             }
             if let Err(error) = self.follow(without_feed(line.as_slice())) {
-                bail!("{path:.255}: line {}: {error}", turn + 1);
+                bail!("{path:.60}: line {}: {error}", turn + 1);
             }
         }
-        bail!("{path:.255}: it has too many lines")
+        bail!("{path:.60}: it has too many lines")
     }
 
     /// Plays a line.

@@ -41,7 +41,7 @@ impl DoorPlace<'_> {
 
     fn fault(&self, reason: impl Display + Drop) -> Error {
         let (option, path) = (self.option(), self.path);
-        anyhow!("{option}: {path:.255}: {reason}")
+        anyhow!("{option}: {path:.60}: {reason}")
     }
 }
 

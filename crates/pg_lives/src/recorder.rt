@@ -99,7 +99,7 @@ impl<'a> Recorder<'a> {
         }
         self.is_failing = true;
         let path = self.path;
-        if let Ok(reason) = format!(in alloc; "--audit: {path:.255}: {error}; entries wait") {
+        if let Ok(reason) = format!(in alloc; "--audit: {path:.60}: {error}; entries wait") {
             log.warn(rt, "archive", reason.as_str());
         }
     }
@@ -157,7 +157,7 @@ impl<'a> Recorder<'a> {
         let waiting = self.archive.waiting() as u64;
         let (path, lost) = (self.path, self.archive.lost().saturating_add(waiting));
         if lost > 0 {
-            bail!("--audit: {path:.255}: {lost} entries are not in the file");
+            bail!("--audit: {path:.60}: {lost} entries are not in the file");
         }
         Ok(())
     }

@@ -63,7 +63,7 @@ fn add_all<R: Files>(
 ) -> Result<(), Fault> {
     let bytes = fs::read(&(rt, alloc), path).map_err(|error| unread(path, error))?;
     let Ok(text) = str::from_utf8(bytes.as_slice()) else {
-        return Err(misused(anyhow!("--config: {path:.255}: it isn't UTF-8")));
+        return Err(misused(anyhow!("--config: {path:.60}: it isn't UTF-8")));
     };
     let table = parse(alloc, path, text)?;
     for (key, value) in &table {
@@ -91,7 +91,7 @@ fn parse(alloc: Global, path: &str, text: &str) -> Result<Table, Fault> {
             let start = error.span().map(|span| span.start).unwrap_or(0);
             let line = line_at(text, start);
             let message = error.message();
-            Err(misused(anyhow!("--config: {path:.255}: line {line}: {message}")))
+            Err(misused(anyhow!("--config: {path:.60}: line {line}: {message}")))
         }
     }
 }
@@ -120,8 +120,8 @@ fn line_of(text: &str, key: &str) -> Option<usize> {
 
 fn at_line(path: &str, line: Option<usize>, key: &str, reason: &'static str) -> Fault {
     let reason: Reason = match line {
-        Some(line) => anyhow!("--config: {path:.255}: line {line}: {reason}: {key:.60}"),
-        None => anyhow!("--config: {path:.255}: {reason}: {key:.60}"),
+        Some(line) => anyhow!("--config: {path:.60}: line {line}: {reason}: {key:.60}"),
+        None => anyhow!("--config: {path:.60}: {reason}: {key:.60}"),
     };
     misused(reason)
 }

@@ -35,7 +35,7 @@ fn read_cookie<R: Files>(rt: &R, alloc: Global, option: &str, path: &str) -> Res
     let mode = mode_of(rt, path).map_err(|error| unread(option, path, error))?;
     if mode & OTHERS != 0 {
         return Err(failed(anyhow!(
-            "{option}: {path:.255}: others can read this file, or its group write it (chmod 600)"
+            "{option}: {path:.60}: others can read this file, or its group write it (chmod 600)"
         )));
     }
     match fs::read(&(rt, alloc), path) {
@@ -54,7 +54,7 @@ fn unread(option: &str, path: &str, error: io::Error) -> Fault {
 
 fn parse_cookie(alloc: Global, option: &str, path: &str, text: &[u8]) -> Result<Cookie, Fault> {
     Cookie::parse(alloc, first_line(text)).map_err(|fault| failed(anyhow!(
-        "{option}: {path:.255}: {fault}"
+        "{option}: {path:.60}: {fault}"
     )))
 }
 
