@@ -1,5 +1,5 @@
 //! Connections that are taken one after another, and those that can't be.
-use crate::decision::text;
+use crate::decision::{Field, text};
 use crate::journal::Log;
 use log::Level;
 use std::sync::Wait;
@@ -54,8 +54,12 @@ impl Log {
     /// Logs that no connection of such a kind can be taken.
     pub fn tell_untaken<R: Wait + Clock>(&self, rt: &R, kind: &'static str, error: &io::Error) {
         if let Ok(reason) = format!(in self.alloc; "{error}") {
-            let fields = [text("kind", kind), text("reason", reason.as_str())];
+            let fields = untaken_fields(kind, reason.as_str());
             self.tell(rt, Level::Warn, "not_taken", &fields);
         }
     }
+}
+
+fn untaken_fields<'a>(kind: &'a str, reason: &'a str) -> [Field<'a>; 2] {
+    [text("kind", kind), text("reason", reason)]
 }
