@@ -1,14 +1,12 @@
 //! A node of process groups, linked with others over TCP, that plays commands from standard input and from a control socket.
 #![tactic(auto)]
 
-mod otp_place;
-mod places;
 mod run;
-mod threads;
 
 use clap::ArgMatches;
 use command_line::{failed, held_streams, matched, told, words};
 use pg_options::{Fault, Options, command, read_options, with_config};
+use pg_places::{Queues, start_connecting};
 use pg_streams::{read_input, write_output, write_warnings};
 use rand_chacha::ChaCha20Rng;
 use run::run;
@@ -21,7 +19,6 @@ use std::sync::Wait;
 use std::thread;
 use std::thread::Threads;
 use std::time::Clock;
-use threads::{Queues, start_connecting};
 
 /// The options, a generator that nobody can foresee, and the queues, for the run and for the threads beside it.
 #[derive(Drop)]

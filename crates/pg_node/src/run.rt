@@ -1,7 +1,4 @@
 //! The whole run of the program.
-use crate::otp_place::{OtpPlace, open_otp, start_registering};
-use crate::places::{Places, open_places};
-use crate::threads::Queues;
 use anyhow::{Result, bail};
 use dist_types::TryClone;
 use node_net::{Arrivals, Lane, Limits, Notes, Targets, start_taking};
@@ -11,6 +8,7 @@ use pg_hub::{Host, Hub, HubSettings, Keeping, Memory, Readers, UntakenPeers};
 use pg_lives::{ArchivePlace, Closer, LifeMaker, Recorder, Site, finish, given, keep_on, live_on};
 use pg_log::{Field, Level, Log, number, text};
 use pg_options::{LogOptions, Options, VERSION};
+use pg_places::{OtpPlace, Places, Queues, open_otp, open_places, start_registering};
 use pg_session::Seen;
 use pg_streams::Streams;
 use rand_chacha::ChaCha20Rng;

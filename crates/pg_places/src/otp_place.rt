@@ -1,7 +1,7 @@
 //! Where stock nodes of Erlang/OTP connect, and how the node is registered with EPMD so that they
 //! find it.
 use crate::places::{Listening, listen_at};
-use crate::threads::Queues;
+use crate::queues::Queues;
 use anyhow::{Result, bail};
 use dist_types::NodeName;
 use epmd::{Alive, AskFault, NodeKind, register};

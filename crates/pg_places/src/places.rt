@@ -1,5 +1,5 @@
 //! The places where peers and clients connect.
-use crate::threads::Queues;
+use crate::queues::Queues;
 use anyhow::{Error, Result, anyhow};
 use node_net::{Arrivals, PeerKind};
 use pg_control::{Door, DoorPlace};
@@ -90,7 +90,7 @@ fn of_program(place: &str) -> Listening<'_> {
 
 /// An address HOST:PORT where nodes connect.
 #[derive(Clone, Copy)]
-pub struct Listening<'a> {
+pub(crate) struct Listening<'a> {
     /// The option that names it.
     pub option: &'static str,
     /// The word behind which it is printed.
@@ -100,7 +100,7 @@ pub struct Listening<'a> {
 }
 
 /// Opens an address where nodes connect, and prints it.
-pub fn listen_at<R>(
+pub(crate) fn listen_at<R>(
     rt: &R,
     alloc: Global,
     at: Listening<'_>,
