@@ -12,6 +12,9 @@ use std::fmt::Display;
 use std::io::ErrorKind;
 use std::process::ExitCode;
 
+/// The version of all programs of this workspace.
+pub const VERSION: &str = "0.1.0";
+
 /// What a program says that finds no memory.
 pub const OUT_OF_MEMORY: &str = "error: out of memory";
 

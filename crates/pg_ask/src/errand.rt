@@ -2,6 +2,7 @@
 use crate::fault::Fault;
 use anyhow::anyhow;
 use clap::{Arg, ArgAction, ArgMatches, Command, Error as ClapError, value_parser};
+use command_line::VERSION;
 use std::alloc::Global;
 use std::time::Duration;
 
@@ -54,7 +55,7 @@ pub fn command<'a>(alloc: Global) -> Result<Command<'a>, ClapError> {
         .help("The control socket of the node")
         .required(true);
     let command = Command::new(alloc, "pg_ask")
-        .version("0.1.0")
+        .version(VERSION)
         .about("Asks a node of process groups, and prints what it answers")
         .after_help(COMMANDS)
         .arg(control)?;

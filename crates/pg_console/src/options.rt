@@ -1,5 +1,6 @@
 //! The command line.
 use clap::{Arg, ArgAction, ArgMatches, Command, Error, value_parser};
+use command_line::VERSION;
 use dist_types::{Cookie, NodeName, TextFault};
 use policy_audit::Opening;
 use std::alloc::Global;
@@ -77,7 +78,7 @@ pub fn command<'a>(alloc: Global) -> Result<Command<'a>, Error> {
     let run = run_command(alloc)?;
     Ok(
         Command::new(alloc, "pg_console")
-            .version("0.1.0")
+            .version(VERSION)
             .about("Plays scripts on a node of process groups")
             .after_help(SCRIPTS)
             .subcommand_required(true)

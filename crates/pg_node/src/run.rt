@@ -1,5 +1,6 @@
 //! The whole run of the program.
 use anyhow::{Result, bail};
+use command_line::VERSION;
 use dist_types::TryClone;
 use node_net::{Arrivals, Lane, Limits, Notes, Targets, start_taking};
 use pg_control::{Operator, start_control, start_operator};
@@ -7,7 +8,7 @@ use pg_http::start_pages;
 use pg_hub::{Host, Hub, HubSettings, Keeping, Memory, Readers, UntakenPeers};
 use pg_lives::{ArchivePlace, Closer, LifeMaker, Recorder, Site, finish, given, keep_on, live_on};
 use pg_log::{Field, Level, Log, number, text};
-use pg_options::{LogOptions, Options, VERSION};
+use pg_options::{LogOptions, Options};
 use pg_places::{OtpPlace, Places, Queues, open_otp, open_places, start_registering};
 use pg_session::Seen;
 use pg_streams::Streams;

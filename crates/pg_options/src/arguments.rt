@@ -2,10 +2,8 @@
 use crate::stock::otp_arguments;
 use crate::usual::{CLIENTS, ENTRIES, FORMAT, LEVEL, LINKS, SETUP, TICK, Usual};
 use clap::{Arg, ArgAction, Command, Error as ClapError, value_parser};
+use command_line::VERSION;
 use std::alloc::Global;
-
-/// The version of the program.
-pub const VERSION: &str = "0.1.0";
 
 /// What stands behind the help of the parser.
 const COMMANDS: &str = "\

@@ -11,7 +11,7 @@ mod options;
 mod stock;
 mod usual;
 
-pub use arguments::{VERSION, command};
+pub use arguments::command;
 pub use config::with_config;
 pub use faces::{Faces, SocketFile};
 pub use fault::Fault;
