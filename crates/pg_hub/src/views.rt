@@ -1,7 +1,7 @@
 //! What is shown of a node's links, scopes, groups and dials, as copies.
 use crate::keeping::kept;
 use crate::ledger::{Ledger, UpLink};
-use dist_types::{Group, OutOfMemory, Scope};
+use dist_types::{OutOfMemory, Scope};
 use node_core::{CoreFault, NodeCore, Query};
 use node_net::{Target, Tried};
 use node_threads::Node;
@@ -187,8 +187,11 @@ fn look_at_scope<R: Wait>(
     };
     shown.size = groups.as_slice().len() as u64;
     for group in groups.as_slice().iter().take(most) {
-        let members = asked(rt, node, scope, Query::Members(group));
-        shown.groups.push(group_view(alloc, group, members)?)?;
+        let answer = asked(rt, node, scope, Query::Members(group));
+        let members = members_in(&answer);
+        drop(answer);
+        let name = text(alloc, group.as_str())?;
+        shown.groups.push(GroupView { name, members })?;
     }
     Ok(())
 }
@@ -202,20 +205,12 @@ fn asked<R: Wait>(
     node.shared.lock(rt).core().look(scope, query)
 }
 
-/// A group, and how many processes an answer names.
-fn group_view(
-    alloc: Global,
-    group: &Group,
-    members: Result<Reply, CoreFault>,
-) -> Result<GroupView, OutOfMemory> {
-    let members = match members {
+/// How many processes an answer names.
+fn members_in(answer: &Result<Reply, CoreFault>) -> u64 {
+    match answer {
         Ok(Reply::Pids(pids)) => pids.as_slice().len() as u64,
         _ => 0,
-    };
-    Ok(GroupView {
-        name: text(alloc, group.as_str())?,
-        members,
-    })
+    }
 }
 
 fn text(alloc: Global, name: &str) -> Result<String, OutOfMemory> {
