@@ -55,7 +55,7 @@ def faults_of_dials(field):
     for line, fault in (
             ("dial", "a word is missing: dial NAME=HOST:PORT"), ("dial b@h", "no NAME=HOST:PORT: b@h"),
             ("dial b@h=host", "no NAME=HOST:PORT: b@h=host"), ("dial b@h=:1", "no NAME=HOST:PORT: b@h=:1"),
-            ("dial b@h=host:70000", "no NAME=HOST:PORT: b@h=host:70000"),
+            ("dial b@h=host:70000", "no NAME=HOST:PORT: b@h=host:70000"), ("dial b@h=host:0", "no NAME=HOST:PORT: b@h=host:0"),
             ("dial bh=host:1", "the name has no single `@` between other bytes: bh=host:1"),
             ("dial a@h=host:1", "the node's own name: a@h=host:1"), ("dial b@h 17", "no NAME=HOST:PORT: b@h 17"),
             ("undial", "a word is missing: undial NAME"), ("undial b@h", "not dialled: b@h"),

@@ -37,7 +37,7 @@ def settings_in_a_file(field):
                         ("allow = []\n", "line 1: an empty list would let all peers in: allow"), ("control-mode = 0660\n", "line 1: "),
                         ("hidden = 1\n", "line 1: not true or false: hidden"),
                         ("[listen]\n", "line 1: not a text"), ("a = 1\nb\n", "line 2: "), ("entries = 5\n", "entries"),
-                        ("listen = 'nowhere'\n", "--listen")):
+                        ("listen = 'nowhere'\n", "--listen"), ("'entris' = 5\n", f"{file[:60]}: no such option: entris")):
         write(text)
         done = subprocess.run([field.program, "a@h", "--config", file, "--cookie-file", cookie], stdin=subprocess.DEVNULL,
                               capture_output=True, timeout=LIMIT, check=False)
