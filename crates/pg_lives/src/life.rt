@@ -57,9 +57,8 @@ pub fn live<R: Host>(rt: &R, site: Site<'_>, lanes: Vec<Lane>) -> Vec<Lane> {
     thread::scope(thread::scope_env(), rt, |scope| {
         let mut dialled = 0;
         let mut are_made = start_dials(scope, rt, hub, &lanes, &mut dialled);
-        for arrivals in [arrivals, otp_arrivals] {
-            are_made &= start_takers(scope, rt, hub.alloc, &hub.node, arrivals, &lanes);
-        }
+        are_made &= start_takers(scope, rt, hub.alloc, &hub.node, arrivals, &lanes);
+        are_made &= start_takers(scope, rt, hub.alloc, &hub.node, otp_arrivals, &lanes);
         if !are_made {
             warn_of_threads(rt, &hub.log);
         }
