@@ -1,10 +1,8 @@
 //! One life of the node: its links are served until its audit is nearly full, or memory is wanting.
 use node_net::{Arrivals, Lane, Lanes, Limits, Met, Target, start_accepting, start_dialling};
-use node_threads::Node;
 use pg_hub::{Host, Hub};
 use pg_log::{Level, Log, text};
 use pg_session::Seen;
-use std::alloc::Global;
 use std::sync::Wait;
 use std::thread;
 use std::thread::Scope;
@@ -57,19 +55,16 @@ pub fn live<R: Host>(rt: &R, site: Site<'_>, lanes: Vec<Lane>) -> Vec<Lane> {
     thread::scope(thread::scope_env(), rt, |scope| {
         let mut dialled = 0;
         let mut are_made = start_dials(scope, rt, hub, &lanes, &mut dialled);
-        are_made &= start_takers(scope, rt, hub.alloc, &hub.node, arrivals, &lanes);
-        are_made &= start_takers(scope, rt, hub.alloc, &hub.node, otp_arrivals, &lanes);
+        are_made &= start_takers(scope, rt, hub, arrivals, &lanes);
+        are_made &= start_takers(scope, rt, hub, otp_arrivals, &lanes);
         if !are_made {
             warn_of_threads(rt, &hub.log);
         }
         wait_for_end(scope, rt, site, &lanes, dialled);
         hub.signals.end_links();
         lanes.stop(rt);
-        for arrivals in [arrivals, otp_arrivals] {
-            if let Some(arrivals) = arrivals {
-                arrivals.wake(rt);
-            }
-        }
+        wake_takers(rt, arrivals);
+        wake_takers(rt, otp_arrivals);
     });
     lanes.into_lanes()
 }
@@ -78,8 +73,7 @@ pub fn live<R: Host>(rt: &R, site: Site<'_>, lanes: Vec<Lane>) -> Vec<Lane> {
 fn start_takers<'s, E: 's, R: Host + 's>(
     scope: &'s Scope<'s, E>,
     rt: &'s R,
-    alloc: Global,
-    node: &'s Node,
+    hub: &'s Hub,
     arrivals: Option<&'s Arrivals>,
     lanes: &'s Lanes<'s>,
 ) -> bool {
@@ -88,9 +82,16 @@ fn start_takers<'s, E: 's, R: Host + 's>(
     };
     let mut are_made = true;
     for _ in 0..LANES {
-        are_made &= start_accepting(scope, rt, alloc, node, lanes, arrivals);
+        are_made &= start_accepting(scope, rt, hub.alloc, &hub.node, lanes, arrivals);
     }
     are_made
+}
+
+/// Wakes the threads that take connections of peers, so that they end.
+fn wake_takers<R: Wait>(rt: &R, arrivals: Option<&Arrivals>) {
+    if let Some(arrivals) = arrivals {
+        arrivals.wake(rt);
+    }
 }
 
 /// Starts a thread for each peer to dial from this number on, which becomes that of the next one:
