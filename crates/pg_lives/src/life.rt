@@ -58,7 +58,7 @@ pub fn live<R: Host>(rt: &R, site: Site<'_>, lanes: Vec<Lane>) -> Vec<Lane> {
         are_made &= start_takers(scope, rt, hub, arrivals, &lanes);
         are_made &= start_takers(scope, rt, hub, otp_arrivals, &lanes);
         if !are_made {
-            warn_of_threads(rt, &hub.log);
+            warn_of_threads(rt, hub);
         }
         wait_for_end(scope, rt, site, &lanes, dialled);
         hub.signals.end_links();
@@ -190,7 +190,7 @@ fn wait_for_end<'s, E: 's, R: Host + 's>(
                 lanes.drain(rt);
             }
             if !start_dials(scope, rt, hub, lanes, &mut dialled) {
-                warn_of_threads(rt, &hub.log);
+                warn_of_threads(rt, hub);
             }
             lanes.wake_dials(rt);
             warn(rt, &hub.log, told.met, now.met);
@@ -204,8 +204,9 @@ fn wait_for_end<'s, E: 's, R: Host + 's>(
     unreachable!()
 }
 
-fn warn_of_threads<R: Wait + Clock>(rt: &R, log: &Log) {
-    log.warn(rt, "no_thread", "no thread can be made for a link");
+fn warn_of_threads<R: Wait + Clock>(rt: &R, hub: &Hub) {
+    hub.log
+        .warn(rt, "no_thread", "no thread can be made for a link");
 }
 
 /// Says what was met since the last time, but for dials.
