@@ -227,13 +227,14 @@ fn start_all<'s, E: 's, R: Host + 's>(
         closer,
         ..
     } = program;
+    let log: &Log = &hub.log;
     let are_logged = scope.spawn(move || hub.log_all(rt)).is_ok();
     let are_served = start_operator(scope, rt, operator, seen);
     let are_let_in = start_control(scope, rt, hub, places.door.as_ref())
         && start_control(scope, rt, hub, places.read_door.as_ref())
-        && start_pages(scope, rt, hub, &hub.log, places.pages.as_ref());
+        && start_pages(scope, rt, hub, log, places.pages.as_ref());
     let are_kept = start_keeping(scope, rt, hub, closer);
-    let is_found = start_registering(scope, rt, otp_place, &hub.log);
+    let is_found = start_registering(scope, rt, otp_place, log);
     are_logged && are_served && are_let_in && are_kept && is_found
 }
 
