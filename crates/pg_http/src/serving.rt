@@ -3,7 +3,7 @@ use crate::entrance::PageEntrance;
 use crate::looker::Looker;
 use crate::refusing::{hang_up, say_full};
 use crate::visitors::Visitor;
-use http_server::{Config, Connection};
+use http_server::{Config, Connection, Service};
 use pg_log::{Log, Taking};
 use pg_page::Shown;
 use pg_streams::Hearers;
@@ -133,13 +133,26 @@ fn answer_all<R: Wait + Clock, N: Shown>(
     let alloc = entrance.alloc;
     let mut looker = Looker { rt, alloc, node };
     let mut connection = Connection::new(alloc, entrance.keys, config());
+    let answered = answer_each(rt, &mut connection, &mut looker, start, stream);
+    drop(connection);
+    answered
+}
+
+/// Answers what comes in until the connection is done.
+fn answer_each<R: Clock, S: Service>(
+    rt: &R,
+    connection: &mut Connection,
+    looker: &mut S,
+    start: Instant,
+    stream: &TcpStream,
+) -> io::Result<()> {
     for _ in 0..u64::MAX {
-        connection.advance(&mut looker);
+        connection.advance(looker);
         if connection.is_done() {
             return Ok(());
         }
         let passed = start.elapsed(rt)?;
-        move_bytes(&mut connection, stream, passed)?;
+        move_bytes(connection, stream, passed)?;
     }
     Ok(())
 }

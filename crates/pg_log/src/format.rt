@@ -119,43 +119,53 @@ pub(crate) fn put_json(
     object: Vec<u8>,
 ) -> Result<Vec<u8>, AllocError> {
     let mut writer = Writer::new(object);
+    let put = put_object(time, decision, left_out, line, &mut writer);
+    let object = writer.into_inner();
+    put?;
+    line.clear();
+    Ok(object)
+}
+
+fn put_object(
+    time: Timestamp,
+    decision: &Decision<'_>,
+    left_out: u64,
+    line: &mut String,
+    writer: &mut Writer,
+) -> Result<(), AllocError> {
     write!(line, "{time:.3}")?;
     writer.begin_object()?;
-    writer.key("time")?;
-    writer.string(line.as_str())?;
-    writer.key("level")?;
-    writer.string(name_of(decision.level))?;
-    writer.key("what")?;
-    writer.string(decision.what)?;
+    put_text_member("time", line, writer)?;
+    put_text_member("level", name_of(decision.level), writer)?;
+    put_text_member("what", decision.what, writer)?;
     for field in decision.fields {
-        put_member(field, line, &mut writer)?;
+        put_member(field, line, writer)?;
     }
     if left_out > 0 {
-        writer.key("left_out")?;
-        writer.u64(left_out)?;
+        put_number_member("left_out", left_out, writer)?;
     }
-    writer.end_object()?;
-    line.clear();
-    Ok(writer.into_inner())
+    writer.end_object()
 }
 
 fn put_member(field: &Field<'_>, line: &mut String, writer: &mut Writer) -> Result<(), AllocError> {
     match &field.value {
-        Value::Text(text) => {
-            writer.key(field.name)?;
-            writer.string(text)?;
-        }
-        Value::Number(number) => {
-            writer.key(field.name)?;
-            writer.u64(*number)?;
-        }
+        Value::Text(text) => put_text_member(field.name, text, writer),
+        Value::Number(number) => put_number_member(field.name, *number, writer),
         Value::Address(address) => {
             line.clear();
             write!(line, "{address}")?;
-            writer.key(field.name)?;
-            writer.string(line.as_str())?;
+            put_text_member(field.name, line, writer)
         }
-        Value::Unknown => {}
+        Value::Unknown => Ok(()),
     }
-    Ok(())
+}
+
+fn put_text_member(name: &str, text: &str, writer: &mut Writer) -> Result<(), AllocError> {
+    writer.key(name)?;
+    writer.string(text)
+}
+
+fn put_number_member(name: &str, number: u64, writer: &mut Writer) -> Result<(), AllocError> {
+    writer.key(name)?;
+    writer.u64(number)
 }
