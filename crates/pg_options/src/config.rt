@@ -1,16 +1,17 @@
 //! A file of settings: the options' names as keys, in TOML. What the command line says goes first.
-use crate::fault::{Fault, failed, misused};
-use crate::keys::{ValueKind, kind_of, pair_of};
-use anyhow::{Error as Reason, anyhow};
+use crate::fault::{Fault, misused, unread};
+use crate::rows::{ROWS, Takes};
+use anyhow::anyhow;
 use clap::ArgMatches;
 use clap::parser::ValueSource;
 use std::alloc::{AllocError, AllocFailed, Global};
+use std::fmt::Display;
 use std::fs::{self, Files};
-use std::io;
+use toml::de::Error as TomlError;
 use toml::{Table, Value};
 
 /// Why a key of the file can't be taken.
-#[derive(Clone, Copy, Debug, Drop)]
+#[derive(Clone, Copy, Drop)]
 enum Unset {
     Wrong(&'static str),
     OutOfMemory,
@@ -28,6 +29,13 @@ impl<T: Drop> From<AllocFailed<T>> for Unset {
     }
 }
 
+/// A file of settings.
+#[derive(Clone, Copy)]
+struct File<'a> {
+    path: &'a str,
+    text: &'a str,
+}
+
 /// The words of the command line, and behind them, as words, what the file of `--config` says that
 /// it doesn't.
 pub fn with_config<R: Files>(
@@ -36,64 +44,53 @@ pub fn with_config<R: Files>(
     matches: &ArgMatches<'_>,
     words: &[String],
 ) -> Result<Vec<String>, Fault> {
-    let mut all = match copies(alloc, words) {
-        Ok(all) => all,
-        Err(_) => return Err(Fault::of_memory()),
-    };
+    let mut all = words.to_vec(alloc)?;
     if let Some(path) = matches.get_str("config") {
-        add_all(rt, alloc, matches, path, &mut all)?;
+        add_file(rt, alloc, matches, path, &mut all)?;
     }
     Ok(all)
 }
 
-fn copies(alloc: Global, words: &[String]) -> Result<Vec<String>, Unset> {
-    let mut all = Vec::with_capacity(alloc, words.len())?;
-    for word in words {
-        all.push(String::from_str(alloc, word.as_str())?)?;
-    }
-    Ok(all)
-}
-
-fn add_all<R: Files>(
+fn add_file<R: Files>(
     rt: &R,
     alloc: Global,
     matches: &ArgMatches<'_>,
     path: &str,
     words: &mut Vec<String>,
 ) -> Result<(), Fault> {
-    let bytes = fs::read(&(rt, alloc), path).map_err(|error| unread(path, error))?;
-    let Ok(text) = str::from_utf8(bytes.as_slice()) else {
+    match fs::read(&(rt, alloc), path) {
+        Ok(bytes) => add_bytes(alloc, matches, path, bytes.as_slice(), words),
+        Err(error) => Err(unread("--config", path, error)),
+    }
+}
+
+fn add_bytes(
+    alloc: Global,
+    matches: &ArgMatches<'_>,
+    path: &str,
+    bytes: &[u8],
+    words: &mut Vec<String>,
+) -> Result<(), Fault> {
+    let Ok(text) = str::from_utf8(bytes) else {
         return Err(misused(anyhow!("--config: {path:.60}: it isn't UTF-8")));
     };
-    let table = parse(alloc, path, text)?;
-    for (key, value) in &table {
-        let key = key.as_str();
-        match add(alloc, matches, key, value, words) {
-            Ok(()) => {}
-            Err(Unset::OutOfMemory) => return Err(Fault::of_memory()),
-            Err(Unset::Wrong(reason)) => {
-                return Err(at_line(path, line_of(text, key), key, reason));
-            }
-        }
-    }
-    Ok(())
-}
-
-fn unread(path: &str, error: io::Error) -> Fault {
-    failed(anyhow!("--config: {path:.80}: {error}"))
-}
-
-fn parse(alloc: Global, path: &str, text: &str) -> Result<Table, Fault> {
+    let file = File { path, text };
     match toml::table_from_str(alloc, text) {
-        Ok(table) => Ok(table),
+        Ok(table) => add_table(alloc, matches, file, &table, words),
         Err(error) if error.is_memory() => Err(Fault::of_memory()),
-        Err(error) => {
-            let start = error.span().map(|span| span.start).unwrap_or(0);
-            let line = line_at(text, start);
-            let message = error.message();
-            Err(misused(anyhow!("--config: {path:.60}: line {line}: {message}")))
-        }
+        Err(error) => Err(unparsed(file, &error)),
     }
+}
+
+fn unparsed(file: File<'_>, error: &TomlError) -> Fault {
+    let File { path, text } = file;
+    let start = match error.span() {
+        Some(span) => span.start,
+        None => 0,
+    };
+    let line = line_at(text, start);
+    let message = error.message();
+    misused(anyhow!("--config: {path:.60}: line {line}: {message}"))
 }
 
 /// The line in which the byte at this place stands, from 1.
@@ -118,12 +115,31 @@ fn line_of(text: &str, key: &str) -> Option<usize> {
     None
 }
 
-fn at_line(path: &str, line: Option<usize>, key: &str, reason: &'static str) -> Fault {
-    let reason: Reason = match line {
+fn add_table(
+    alloc: Global,
+    matches: &ArgMatches<'_>,
+    file: File<'_>,
+    table: &Table,
+    words: &mut Vec<String>,
+) -> Result<(), Fault> {
+    for (key, value) in table {
+        if let Err(unset) = add(alloc, matches, key.as_str(), value, words) {
+            return Err(untaken(file, key.as_str(), unset));
+        }
+    }
+    Ok(())
+}
+
+fn untaken(file: File<'_>, key: &str, unset: Unset) -> Fault {
+    let File { path, text } = file;
+    let reason = match unset {
+        Unset::OutOfMemory => return Fault::of_memory(),
+        Unset::Wrong(reason) => reason,
+    };
+    misused(match line_of(text, key) {
         Some(line) => anyhow!("--config: {path:.60}: line {line}: {reason}: {key:.60}"),
         None => anyhow!("--config: {path:.60}: {reason}: {key:.60}"),
-    };
-    misused(reason)
+    })
 }
 
 /// Adds what a key says, unless the command line says it: a reason where it can't be.
@@ -134,51 +150,71 @@ fn add(
     value: &Value,
     words: &mut Vec<String>,
 ) -> Result<(), Unset> {
-    let Some(kind) = kind_of(key) else {
+    let Some(takes) = taken_by(key) else {
         return Err(Unset::Wrong("no such option"));
     };
-    if is_given(matches, key) || pair_of(key).is_some_and(|other| is_given(matches, other)) {
-        return check(kind, value);
+    if !is_taken(takes, value) {
+        return Err(Unset::Wrong(takes.wanted()));
     }
-    add_value(alloc, kind, key, value, words)
+    if is_said(matches, key) {
+        return Ok(());
+    }
+    add_value(alloc, key, value, words)
+}
+
+/// What the option of this name takes, if there is one that a file may say: it names no other file.
+fn taken_by(name: &str) -> Option<Takes> {
+    if name == "config" {
+        return None;
+    }
+    for row in &ROWS {
+        if row.name == name {
+            return Some(row.takes);
+        }
+    }
+    None
+}
+
+/// Whether the command line says this, or the cookie in another way.
+fn is_said(matches: &ArgMatches<'_>, key: &str) -> bool {
+    match key {
+        "cookie" | "cookie-file" => is_given(matches, "cookie") || is_given(matches, "cookie-file"),
+        key => is_given(matches, key),
+    }
 }
 
 fn is_given(matches: &ArgMatches<'_>, key: &str) -> bool {
-    matches.value_source(key) == Some(ValueSource::CommandLine)
+    matches!(matches.value_source(key), Some(ValueSource::CommandLine))
 }
 
 /// Whether a value is of this kind.
-fn check(kind: ValueKind, value: &Value) -> Result<(), Unset> {
-    match (kind, value) {
-        (ValueKind::Text, Value::String(_))
-        | (ValueKind::Number, Value::Integer(_))
-        | (ValueKind::Switch, Value::Boolean(_)) => Ok(()),
-        (ValueKind::Texts, Value::Array(items)) if items.iter().all(Value::is_str) => Ok(()),
-        _ => Err(Unset::Wrong(kind.wanted())),
+fn is_taken(takes: Takes, value: &Value) -> bool {
+    match (takes, value) {
+        (Takes::Text(_), Value::String(_))
+        | (Takes::Number(_, _), Value::Integer(_))
+        | (Takes::Switch, Value::Boolean(_)) => true,
+        (Takes::Texts(_), Value::Array(items)) => items.iter().all(Value::is_str),
+        _ => false,
     }
 }
 
+/// Adds a value that the option takes.
 fn add_value(
     alloc: Global,
-    kind: ValueKind,
     key: &str,
     value: &Value,
     words: &mut Vec<String>,
 ) -> Result<(), Unset> {
-    match (kind, value) {
-        (ValueKind::Text, Value::String(text)) => add_text(alloc, key, text.as_str(), words)?,
-        (ValueKind::Number, Value::Integer(number)) => {
-            words.push(format!(in alloc; "--{key}={number}")?)?;
+    match value {
+        Value::String(text) => add_word(alloc, key, text.as_str(), words),
+        Value::Integer(number) => add_word(alloc, key, *number, words),
+        Value::Boolean(true) => add_switch(alloc, key, words),
+        Value::Array(items) if key == "allow" && items.is_empty() => {
+            Err(Unset::Wrong("an empty list would let all peers in"))
         }
-        (ValueKind::Switch, Value::Boolean(true)) => words.push(format!(in alloc; "--{key}")?)?,
-        (ValueKind::Switch, Value::Boolean(false)) => {}
-        (ValueKind::Texts, Value::Array(items)) if key == "allow" && items.is_empty() => {
-            return Err(Unset::Wrong("an empty list would let all peers in"));
-        }
-        (ValueKind::Texts, Value::Array(items)) => return add_texts(alloc, key, items, words),
-        _ => return Err(Unset::Wrong(kind.wanted())),
+        Value::Array(items) => add_texts(alloc, key, items, words),
+        _ => Ok(()),
     }
-    Ok(())
 }
 
 fn add_texts(
@@ -188,15 +224,24 @@ fn add_texts(
     words: &mut Vec<String>,
 ) -> Result<(), Unset> {
     for item in items {
-        let Some(text) = item.as_str() else {
-            return Err(Unset::Wrong(ValueKind::Texts.wanted()));
-        };
-        add_text(alloc, key, text, words)?;
+        if let Value::String(text) = item {
+            add_word(alloc, key, text.as_str(), words)?;
+        }
     }
     Ok(())
 }
 
-fn add_text(alloc: Global, key: &str, text: &str, words: &mut Vec<String>) -> Result<(), Unset> {
-    words.push(format!(in alloc; "--{key}={text}")?)?;
-    Ok(())
+fn add_switch(alloc: Global, key: &str, words: &mut Vec<String>) -> Result<(), Unset> {
+    let word = format!(in alloc; "--{key}")?;
+    Ok(words.push(word)?)
+}
+
+fn add_word<D: Display + Drop>(
+    alloc: Global,
+    key: &str,
+    value: D,
+    words: &mut Vec<String>,
+) -> Result<(), Unset> {
+    let word = format!(in alloc; "--{key}={value}")?;
+    Ok(words.push(word)?)
 }

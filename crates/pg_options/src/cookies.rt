@@ -1,10 +1,11 @@
 //! The secrets that the node shares with its peers.
-use crate::fault::{Fault, failed, misused};
-use crate::options::name;
+use crate::fault::{Fault, failed, misused, refused, unread};
+use crate::words::name;
 use anyhow::anyhow;
 use clap::ArgMatches;
 use dist_types::{Cookie, NodeName};
 use std::alloc::Global;
+use std::fmt::Display;
 use std::fs::{self, Files};
 use std::io;
 use std::os::unix::fs::PermissionsExt;
@@ -19,9 +20,7 @@ pub fn own_cookie<R: Files>(
 ) -> Result<Cookie, Fault> {
     match (matches.get_str("cookie-file"), matches.get_str("cookie")) {
         (Some(path), None) => read_cookie(rt, alloc, "--cookie-file", path),
-        (None, Some(text)) => Cookie::parse(alloc, text.as_bytes()).map_err(|fault| misused(anyhow!(
-            "--cookie: {fault}"
-        ))),
+        (None, Some(text)) => shown_cookie(alloc, text),
         (Some(_), Some(_)) => Err(misused(anyhow!(
             "--cookie-file and --cookie: only one may be given"
         ))),
@@ -29,14 +28,24 @@ pub fn own_cookie<R: Files>(
     }
 }
 
+/// The cookie that stands on the command line. A fault doesn't repeat it.
+fn shown_cookie(alloc: Global, text: &str) -> Result<Cookie, Fault> {
+    match Cookie::parse(alloc, text.as_bytes()) {
+        Ok(cookie) => Ok(cookie),
+        Err(fault) => Err(misused(anyhow!("--cookie: {fault}"))),
+    }
+}
+
 /// The cookie in a file, which ends with its first line. Others than the owner and the group, which may read it, may have no right
 /// to the file. A fault names the option.
 fn read_cookie<R: Files>(rt: &R, alloc: Global, option: &str, path: &str) -> Result<Cookie, Fault> {
-    let mode = mode_of(rt, path).map_err(|error| unread(option, path, error))?;
-    if mode & OTHERS != 0 {
-        return Err(failed(anyhow!(
-            "{option}: {path:.60}: others can read this file, or its group write it (chmod 600)"
-        )));
+    match mode_of(rt, path) {
+        Ok(mode) if mode & OTHERS == 0 => {}
+        Ok(_) => {
+            let reason = "others can read this file, or its group write it (chmod 600)";
+            return Err(unfit(option, path, reason));
+        }
+        Err(error) => return Err(unread(option, path, error)),
     }
     match fs::read(&(rt, alloc), path) {
         Ok(text) => parse_cookie(alloc, option, path, text.as_slice()),
@@ -48,14 +57,16 @@ fn mode_of<R: Files>(rt: &R, path: &str) -> io::Result<u32> {
     Ok(fs::metadata(rt, path)?.permissions().mode())
 }
 
-fn unread(option: &str, path: &str, error: io::Error) -> Fault {
-    failed(anyhow!("{option}: {path:.80}: {error}"))
+fn parse_cookie(alloc: Global, option: &str, path: &str, text: &[u8]) -> Result<Cookie, Fault> {
+    match Cookie::parse(alloc, first_line(text)) {
+        Ok(cookie) => Ok(cookie),
+        Err(fault) => Err(unfit(option, path, fault)),
+    }
 }
 
-fn parse_cookie(alloc: Global, option: &str, path: &str, text: &[u8]) -> Result<Cookie, Fault> {
-    Cookie::parse(alloc, first_line(text)).map_err(|fault| failed(anyhow!(
-        "{option}: {path:.60}: {fault}"
-    )))
+/// The file can be read, and is no file of a cookie.
+fn unfit<D: Display + Drop>(option: &str, path: &str, reason: D) -> Fault {
+    failed(anyhow!("{option}: {path:.60}: {reason}"))
 }
 
 fn first_line(text: &[u8]) -> &[u8] {
@@ -67,22 +78,26 @@ fn first_line(text: &[u8]) -> &[u8] {
     text
 }
 
-pub fn cookies<R: Files>(
+/// Adds the cookies for single peers.
+pub fn add_cookies<R: Files>(
     rt: &R,
     alloc: Global,
     matches: &ArgMatches<'_>,
-) -> Result<Vec<(NodeName, Cookie)>, Fault> {
-    let mut cookies = Vec::new(alloc);
+    cookies: &mut Vec<(NodeName, Cookie)>,
+) -> Result<(), Fault> {
     for word in matches.get_strs("cookie-for").unwrap_or(&[]) {
         cookies.push(cookie_for(rt, alloc, word)?)?;
     }
-    Ok(cookies)
+    Ok(())
 }
 
 fn cookie_for<R: Files>(rt: &R, alloc: Global, word: &str) -> Result<(NodeName, Cookie), Fault> {
     let Some((peer, path)) = word.split_once('=') else {
-        return Err(misused(anyhow!("--cookie-for: no NAME=FILE: {word:.60}")));
+        return Err(refused("--cookie-for", "no NAME=FILE", word));
     };
     let peer = name(alloc, "--cookie-for", peer)?;
-    Ok((peer, read_cookie(rt, alloc, "--cookie-for", path)?))
+    match read_cookie(rt, alloc, "--cookie-for", path) {
+        Ok(cookie) => Ok((peer, cookie)),
+        Err(fault) => Err(fault),
+    }
 }

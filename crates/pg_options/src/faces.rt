@@ -1,5 +1,5 @@
 //! Where a node is asked beside its standard input.
-use crate::fault::{Fault, misused};
+use crate::fault::{Fault, alone, misused, refused};
 use anyhow::anyhow;
 use clap::ArgMatches;
 use std::net::SocketAddr;
@@ -13,7 +13,7 @@ const OWNERS: u32 = 0o600;
 const GROUPS: u32 = 0o660;
 
 /// A Unix socket.
-#[derive(Clone, Copy, Debug, Drop)]
+#[derive(Clone, Copy, Drop)]
 pub struct SocketFile<'a> {
     pub path: &'a str,
     /// Its mode, as `chmod` takes it.
@@ -21,7 +21,7 @@ pub struct SocketFile<'a> {
 }
 
 /// Where a node is asked.
-#[derive(Clone, Copy, Debug, Drop)]
+#[derive(Clone, Copy, Drop)]
 pub struct Faces<'a> {
     pub control: Option<SocketFile<'a>>,
     /// Where all may be read, and nothing changed.
@@ -33,8 +33,9 @@ pub struct Faces<'a> {
 pub fn read_faces<'a>(matches: &ArgMatches<'a>) -> Result<Faces<'a>, Fault> {
     let control = socket_file(matches, "control", "control-mode", OWNERS)?;
     let control_read = socket_file(matches, "control-read", "control-read-mode", GROUPS)?;
-    let path = control.map(|file| file.path);
-    if path.is_some() && path == control_read.map(|file| file.path) {
+    if let (Some(all), Some(reads)) = (control, control_read)
+        && all.path == reads.path
+    {
         return Err(misused(anyhow!("--control-read: the path of --control")));
     }
     Ok(Faces {
@@ -46,19 +47,19 @@ pub fn read_faces<'a>(matches: &ArgMatches<'a>) -> Result<Faces<'a>, Fault> {
 
 fn socket_file<'a>(
     matches: &ArgMatches<'a>,
-    path: &str,
-    mode: &str,
+    option: &str,
+    mode_option: &str,
     usual: u32,
 ) -> Result<Option<SocketFile<'a>>, Fault> {
-    let place = matches.get_str(path);
-    let mode = match matches.get_str(mode) {
-        Some(_) if place.is_none() => {
-            return Err(misused(anyhow!("--{mode}: there is no --{path}")));
+    match (matches.get_str(option), matches.get_str(mode_option)) {
+        (None, None) => Ok(None),
+        (None, Some(_)) => Err(alone(mode_option, option)),
+        (Some(path), None) => Ok(Some(SocketFile { path, mode: usual })),
+        (Some(path), Some(word)) => {
+            let mode = mode_of(mode_option, word)?;
+            Ok(Some(SocketFile { path, mode }))
         }
-        Some(word) => mode_of(mode, word)?,
-        None => usual,
-    };
-    Ok(place.map(|path| SocketFile { path, mode }))
+    }
 }
 
 fn mode_of(option: &str, word: &str) -> Result<u32, Fault> {
@@ -73,13 +74,12 @@ fn http<'a>(matches: &ArgMatches<'a>) -> Result<Option<&'a str>, Fault> {
     let Some(word) = matches.get_str("http") else {
         return Ok(None);
     };
-    match SocketAddr::parse_ascii(word.as_bytes()) {
-        Ok(address) if address.ip().is_loopback() || matches.get_flag("http-anywhere") => {
-            Ok(Some(word))
-        }
-        Ok(_) => Err(misused(anyhow!(
-            "--http: others than this machine reach it; --http-anywhere lets them: {word:.60}"
-        ))),
-        Err(_) => Err(misused(anyhow!("--http: no ADDR:PORT: {word:.60}"))),
+    let Ok(address) = SocketAddr::parse_ascii(word.as_bytes()) else {
+        return Err(refused("--http", "no ADDR:PORT", word));
+    };
+    if address.ip().is_loopback() || matches.get_flag("http-anywhere") {
+        return Ok(Some(word));
     }
+    let reason = "others than this machine reach it; --http-anywhere lets them";
+    Err(refused("--http", reason, word))
 }

@@ -1,6 +1,8 @@
 //! Why a program can't begin.
 use anyhow::{Error as Reason, anyhow};
-use std::alloc::AllocFailed;
+use std::alloc::{AllocError, AllocFailed};
+use std::fmt::Display;
+use std::io;
 
 /// Why there are no options.
 #[derive(Drop)]
@@ -12,12 +14,18 @@ pub struct Fault {
 
 impl Fault {
     /// The system can't give what the program begins with.
-    pub fn of_system(error: std::io::Error) -> Fault {
+    pub fn of_system(error: io::Error) -> Fault {
         failed(anyhow!("{error}"))
     }
 
     pub fn of_memory() -> Fault {
         failed(anyhow!("out of memory"))
+    }
+}
+
+impl From<AllocError> for Fault {
+    fn from(_error: AllocError) -> Fault {
+        Fault::of_memory()
     }
 }
 
@@ -33,4 +41,19 @@ pub fn failed(reason: Reason) -> Fault {
 
 pub fn misused(reason: Reason) -> Fault {
     Fault { status: 2, reason }
+}
+
+/// The word at this option can't be taken, for this reason.
+pub fn refused<D: Display + Drop>(option: &str, reason: D, word: &str) -> Fault {
+    misused(anyhow!("{option}: {reason}: {word:.60}"))
+}
+
+/// One option says more of another, which isn't given.
+pub fn alone(option: &str, other: &str) -> Fault {
+    misused(anyhow!("--{option}: there is no --{other}"))
+}
+
+/// The file at this option can't be read.
+pub fn unread(option: &str, path: &str, error: io::Error) -> Fault {
+    failed(anyhow!("{option}: {path:.80}: {error}"))
 }

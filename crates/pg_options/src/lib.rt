@@ -6,10 +6,11 @@ mod config;
 mod cookies;
 mod faces;
 mod fault;
-mod keys;
 mod options;
+mod rows;
 mod stock;
 mod usual;
+mod words;
 
 pub use arguments::command;
 pub use config::with_config;

@@ -1,13 +1,13 @@
 //! What the command line says.
-use crate::cookies::{cookies, own_cookie};
+use crate::cookies::{add_cookies, own_cookie};
 use crate::faces::{Faces, read_faces};
-use crate::fault::{Fault, misused};
+use crate::fault::{Fault, alone, refused};
 use crate::stock::{OtpOptions, add_stock, read_otp};
-use crate::usual::{CLIENTS, ENTRIES, FORMAT, LEVEL, LINKS, SETUP, TICK, Usual};
-use anyhow::anyhow;
+use crate::usual::{CLIENTS, ENTRIES, FORMAT, LEVEL, LINKS, SETUP, TICK};
+use crate::words::{name, place, target};
 use clap::ArgMatches;
 use dist_types::{Cookie, NodeName};
-use node_net::{Limits, Target, TargetFault, Targets, is_place};
+use node_net::{Limits, Target, Targets};
 use pg_log::{Format, LevelFilter};
 use policy_audit::Opening;
 use rand::Rng;
@@ -43,10 +43,27 @@ pub struct Options<'a> {
 }
 
 /// How decisions are logged, and from which level on.
-#[derive(Clone, Copy, Debug, Drop)]
+#[derive(Clone, Copy, Drop)]
 pub struct LogOptions {
     pub format: Format,
     pub level: LevelFilter,
+}
+
+/// What is read of the words alone.
+#[derive(Clone, Copy, Drop)]
+struct Words<'a> {
+    archive: (Option<&'a str>, Option<u64>),
+    otp: OtpOptions<'a>,
+    faces: Faces<'a>,
+    log: LogOptions,
+}
+
+/// The peers that the node knows.
+#[derive(Drop)]
+struct Peers {
+    targets: Arc<Targets>,
+    allowed: Vec<NodeName>,
+    cookies: Vec<(NodeName, Cookie)>,
 }
 
 /// What the program runs with. Files with cookies are read.
@@ -56,44 +73,30 @@ pub fn read_options<'a, R: Files>(
     words: &mut impl Rng,
     matches: &ArgMatches<'a>,
 ) -> Result<Options<'a>, Fault> {
-    let (opening, listen) = node_options(rt, alloc, words, matches)?;
-    let (targets, allowed, cookies) = peer_options(rt, alloc, matches)?;
-    let (audit, audit_size) = archive(matches)?;
+    let opening = opening(rt, alloc, words, matches)?;
+    let listen = place("--listen", matches.get_str("listen"))?;
+    let peers = read_peers(rt, alloc, matches)?;
+    let words = read_words(matches)?;
+    let Peers {
+        targets,
+        allowed,
+        cookies,
+    } = peers;
     Ok(Options {
         opening,
         listen,
-        otp: read_otp(matches)?,
+        otp: words.otp,
         targets,
         limits: limits(matches),
         allowed,
         cookies,
-        faces: read_faces(matches)?,
-        clients: matches.get_one::<u32>("clients").unwrap_or(CLIENTS.number),
-        entries: matches.get_one::<u32>("entries").unwrap_or(ENTRIES.number),
-        audit,
-        audit_size,
-        log: log_options(matches)?,
+        faces: words.faces,
+        clients: number(matches, "clients", CLIENTS),
+        entries: number(matches, "entries", ENTRIES),
+        audit: words.archive.0,
+        audit_size: words.archive.1,
+        log: words.log,
     })
-}
-
-fn node_options<'a, R: Files>(
-    rt: &R,
-    alloc: Global,
-    words: &mut impl Rng,
-    matches: &ArgMatches<'a>,
-) -> Result<(Opening, Option<&'a str>), Fault> {
-    let opening = opening(rt, alloc, words, matches)?;
-    Ok((opening, listen(matches)?))
-}
-
-fn peer_options<R: Files>(
-    rt: &R,
-    alloc: Global,
-    matches: &ArgMatches<'_>,
-) -> Result<(Arc<Targets>, Vec<NodeName>, Vec<(NodeName, Cookie)>), Fault> {
-    let targets = targets(alloc, matches)?;
-    let allowed = allowed(alloc, matches)?;
-    Ok((targets, allowed, cookies(rt, alloc, matches)?))
 }
 
 fn opening<R: Files>(
@@ -102,88 +105,78 @@ fn opening<R: Files>(
     words: &mut impl Rng,
     matches: &ArgMatches<'_>,
 ) -> Result<Opening, Fault> {
+    let name = name(alloc, "NAME", matches.get_str("NAME").unwrap_or(""))?;
+    let cookie = own_cookie(rt, alloc, matches)?;
     Ok(Opening {
-        name: name(alloc, "NAME", matches.get_str("NAME").unwrap_or(""))?,
-        cookie: own_cookie(rt, alloc, matches)?,
+        name,
+        cookie,
         hidden: matches.get_flag("hidden"),
-        creation: matches
-            .get_one::<u32>("creation")
-            .unwrap_or_else(|| words.next_u32().max(1)),
-        entries: matches
-            .get_one::<u32>("last-entry")
-            .unwrap_or(u32::MAX)
-            .max(FEWEST),
-        links: matches.get_one::<u8>("links").unwrap_or(LINKS.number),
+        creation: creation(words, matches),
+        entries: last_entry(matches),
+        links: matches.get_one::<u8>("links").unwrap_or(LINKS),
     })
 }
 
-/// The path of the archive, and the most bytes of a file of it.
-fn archive<'a>(matches: &ArgMatches<'a>) -> Result<(Option<&'a str>, Option<u64>), Fault> {
-    let (path, size) = (
-        matches.get_str("audit"),
-        matches.get_one::<u64>("audit-size"),
-    );
-    if path.is_none() && size.is_some() {
-        return Err(misused(anyhow!("--audit-size: there is no --audit")));
-    }
-    Ok((path, size))
-}
-
-fn log_options(matches: &ArgMatches<'_>) -> Result<LogOptions, Fault> {
-    let format = matches.get_str("log").unwrap_or(FORMAT);
-    let level = matches.get_str("log-level").unwrap_or(LEVEL);
-    Ok(LogOptions {
-        format: match format.parse() {
-            Ok(format) => format,
-            Err(_) => {
-                return Err(misused(anyhow!("--log: not text, json or none: {format:.60}")));
-            }
-        },
-        level: level_of(level)?,
-    })
-}
-
-fn level_of(word: &str) -> Result<LevelFilter, Fault> {
-    match word {
-        "error" => Ok(LevelFilter::Error),
-        "warn" => Ok(LevelFilter::Warn),
-        "info" => Ok(LevelFilter::Info),
-        _ => Err(misused(anyhow!("--log-level: not error, warn or info: {word:.60}"))),
+fn creation(words: &mut impl Rng, matches: &ArgMatches<'_>) -> u32 {
+    match matches.get_one::<u32>("creation") {
+        Some(creation) => creation,
+        None => words.next_u32().max(1),
     }
 }
 
-fn allowed(alloc: Global, matches: &ArgMatches<'_>) -> Result<Vec<NodeName>, Fault> {
-    let mut names = Vec::new(alloc);
+fn last_entry(matches: &ArgMatches<'_>) -> u32 {
+    match matches.get_one::<u32>("last-entry") {
+        Some(number) => number.max(FEWEST),
+        None => u32::MAX,
+    }
+}
+
+fn read_peers<R: Files>(rt: &R, alloc: Global, matches: &ArgMatches<'_>) -> Result<Peers, Fault> {
+    let mut peers = Peers {
+        targets: targets(alloc, matches)?,
+        allowed: Vec::new(alloc),
+        cookies: Vec::new(alloc),
+    };
+    add_peers(rt, alloc, matches, &mut peers)?;
+    Ok(peers)
+}
+
+fn add_peers<R: Files>(
+    rt: &R,
+    alloc: Global,
+    matches: &ArgMatches<'_>,
+    peers: &mut Peers,
+) -> Result<(), Fault> {
     for word in matches.get_strs("allow").unwrap_or(&[]) {
-        names.push(name(alloc, "--allow", word)?)?;
+        peers.allowed.push(name(alloc, "--allow", word)?)?;
     }
-    Ok(names)
-}
-
-fn listen<'a>(matches: &ArgMatches<'a>) -> Result<Option<&'a str>, Fault> {
-    match matches.get_str("listen") {
-        Some(word) if !is_place(word) => Err(misused(anyhow!(
-            "--listen: no HOST:PORT: {word:.60}"
-        ))),
-        word => Ok(word),
-    }
+    add_cookies(rt, alloc, matches, &mut peers.cookies)
 }
 
 fn targets(alloc: Global, matches: &ArgMatches<'_>) -> Result<Arc<Targets>, Fault> {
     let mut targets = Vec::new(alloc);
-    let own = matches.get_str("NAME");
-    for word in matches.get_strs("dial").unwrap_or(&[]) {
-        let target = target(alloc, own, word)?;
-        if is_among(targets.as_slice(), &target) {
-            return Err(misused(anyhow!("--dial: this peer is given twice: {word:.60}")));
-        }
-        targets.push(target)?;
-    }
-    add_stock(alloc, matches, &mut targets)?;
+    add_targets(alloc, matches, &mut targets)?;
     match Targets::of(alloc, targets) {
         Ok(targets) => Ok(Arc::new(alloc, targets)?),
         Err(_) => Err(Fault::of_memory()),
     }
+}
+
+/// Adds the nodes to dial, those of this program first.
+fn add_targets(
+    alloc: Global,
+    matches: &ArgMatches<'_>,
+    targets: &mut Vec<Target>,
+) -> Result<(), Fault> {
+    let own = matches.get_str("NAME");
+    for word in matches.get_strs("dial").unwrap_or(&[]) {
+        let target = target("--dial", own, word, Target::parse(alloc, word))?;
+        if is_among(targets.as_slice(), &target) {
+            return Err(refused("--dial", "this peer is given twice", word));
+        }
+        targets.push(target)?;
+    }
+    add_stock(alloc, matches, targets)
 }
 
 /// Whether one of them is of the same peer.
@@ -192,14 +185,41 @@ fn is_among(targets: &[Target], target: &Target) -> bool {
     targets.iter().any(|other| other.peer().as_bytes() == peer)
 }
 
-fn target(alloc: Global, own: Option<&str>, word: &str) -> Result<Target, Fault> {
-    match Target::parse(alloc, word) {
-        Ok(target) if own.map(str::as_bytes) == Some(target.peer().as_bytes()) => Err(misused(
-            anyhow!("--dial: the node's own name: {word:.60}"),
-        )),
-        Ok(target) => Ok(target),
-        Err(TargetFault::OutOfMemory) => Err(Fault::of_memory()),
-        Err(fault) => Err(misused(anyhow!("--dial: {fault}: {word:.60}"))),
+fn read_words<'a>(matches: &ArgMatches<'a>) -> Result<Words<'a>, Fault> {
+    Ok(Words {
+        archive: archive(matches)?,
+        otp: read_otp(matches)?,
+        faces: read_faces(matches)?,
+        log: log_options(matches)?,
+    })
+}
+
+/// The path of the archive, and the most bytes of a file of it.
+fn archive<'a>(matches: &ArgMatches<'a>) -> Result<(Option<&'a str>, Option<u64>), Fault> {
+    let path = matches.get_str("audit");
+    let size = matches.get_one::<u64>("audit-size");
+    if path.is_none() && size.is_some() {
+        return Err(alone("audit-size", "audit"));
+    }
+    Ok((path, size))
+}
+
+fn log_options(matches: &ArgMatches<'_>) -> Result<LogOptions, Fault> {
+    let format = matches.get_str("log").unwrap_or(FORMAT);
+    let level = matches.get_str("log-level").unwrap_or(LEVEL);
+    match (format.parse(), level_of(level)) {
+        (Ok(format), Some(level)) => Ok(LogOptions { format, level }),
+        (Err(_), _) => Err(refused("--log", "not text, json or none", format)),
+        (Ok(_), None) => Err(refused("--log-level", "not error, warn or info", level)),
+    }
+}
+
+fn level_of(word: &str) -> Option<LevelFilter> {
+    match word {
+        "error" => Some(LevelFilter::Error),
+        "warn" => Some(LevelFilter::Warn),
+        "info" => Some(LevelFilter::Info),
+        _ => None,
     }
 }
 
@@ -210,14 +230,10 @@ fn limits(matches: &ArgMatches<'_>) -> Limits {
     }
 }
 
-fn millis(matches: &ArgMatches<'_>, name: &str, usual: Usual<u32>) -> Duration {
-    let millis = matches.get_one::<u32>(name).unwrap_or(usual.number);
-    Duration::from_millis(u64::from(millis))
+fn millis(matches: &ArgMatches<'_>, option: &str, usual: u32) -> Duration {
+    Duration::from_millis(u64::from(number(matches, option, usual)))
 }
 
-/// The name of a node that stands at this option.
-pub fn name(alloc: Global, option: &str, word: &str) -> Result<NodeName, Fault> {
-    NodeName::parse(alloc, word.as_bytes()).map_err(|fault| misused(anyhow!(
-        "{option}: {fault}: {word:.60}"
-    )))
+fn number(matches: &ArgMatches<'_>, option: &str, usual: u32) -> u32 {
+    matches.get_one::<u32>(option).unwrap_or(usual)
 }

@@ -1,47 +1,34 @@
-//! What options with a value are where none is given.
-
-/// The same value as the parser shows it, and as the program takes it.
-#[derive(Clone, Copy, Debug)]
-pub struct Usual<T: Copy> {
-    pub word: &'static str,
-    pub number: T,
-}
+//! What options with a value are where none is given, and as words, as the parser shows it.
 
 /// How many entries the node keeps.
-pub const ENTRIES: Usual<u32> = Usual {
-    word: "100000",
-    number: 100_000,
-};
+pub const ENTRIES: u32 = 100_000;
+
+pub const ENTRIES_WORD: &str = "100000";
 
 /// The highest version of link messages that it knows.
-pub const LINKS: Usual<u8> = Usual {
-    word: "1",
-    number: 1,
-};
+pub const LINKS: u8 = 1;
+
+pub const LINKS_WORD: &str = "1";
 
 /// The most clients of the control socket at once.
-pub const CLIENTS: Usual<u32> = Usual {
-    word: "100",
-    number: 100,
-};
+pub const CLIENTS: u32 = 100;
+
+pub const CLIENTS_WORD: &str = "100";
 
 /// The milliseconds for a whole handshake.
-pub const SETUP: Usual<u32> = Usual {
-    word: "7000",
-    number: 7_000,
-};
+pub const SETUP: u32 = 7_000;
+
+pub const SETUP_WORD: &str = "7000";
 
 /// Those for which a link may be silent.
-pub const TICK: Usual<u32> = Usual {
-    word: "60000",
-    number: 60_000,
-};
+pub const TICK: u32 = 60_000;
+
+pub const TICK_WORD: &str = "60000";
 
 /// The port of EPMD.
-pub const EPMD: Usual<u16> = Usual {
-    word: "4369",
-    number: 4_369,
-};
+pub const EPMD: u16 = 4_369;
+
+pub const EPMD_WORD: &str = "4369";
 
 /// How the node logs, and from which level on.
 pub const FORMAT: &str = "text";

@@ -139,12 +139,12 @@ fn put_links(links: &[LinkView], sheet: &mut Sheet) {
     let name = "pg_link_waiting_frames";
     family(name, "gauge", "Frames that wait for a link.", sheet);
     for link in links {
-        sample(name, "peer", link.peer.as_bytes(), link.waiting, sheet);
+        sample(name, "peer", link.peer.as_str(), link.waiting, sheet);
     }
     let name = "pg_link_up_seconds";
     family(name, "gauge", "For how long a link is up.", sheet);
     for link in links {
-        sample(name, "peer", link.peer.as_bytes(), link.seconds, sheet);
+        sample(name, "peer", link.peer.as_str(), link.seconds, sheet);
     }
 }
 
@@ -168,7 +168,7 @@ fn put_dropped(dropped: &[ReasonView], sheet: &mut Sheet) {
 
 fn put_reasons(name: &str, counted: &[ReasonView], sheet: &mut Sheet) {
     for one in counted {
-        sample(name, "reason", one.reason.as_bytes(), one.times, sheet);
+        sample(name, "reason", one.reason, one.times, sheet);
     }
 }
 
@@ -179,7 +179,7 @@ fn put_dials(dials: &[DialView], sheet: &mut Sheet) {
         sample(
             name,
             "peer",
-            dial.peer.as_bytes(),
+            dial.peer.as_str(),
             u64::from(dial.state == "up"),
             sheet,
         );
@@ -187,7 +187,7 @@ fn put_dials(dials: &[DialView], sheet: &mut Sheet) {
     let name = "pg_dials_total";
     family(name, "counter", "How often a peer was dialled.", sheet);
     for dial in dials {
-        sample(name, "peer", dial.peer.as_bytes(), dial.times, sheet);
+        sample(name, "peer", dial.peer.as_str(), dial.times, sheet);
     }
 }
 
@@ -200,7 +200,7 @@ fn put_scopes(scopes: &[ScopeView], sheet: &mut Sheet) {
         sheet,
     );
     for scope in scopes {
-        sample(name, "scope", scope.name.as_bytes(), scope.rows, sheet);
+        sample(name, "scope", scope.name.as_str(), scope.rows, sheet);
     }
 }
 
@@ -213,7 +213,7 @@ fn put_rules(rules: &[RuleView], sheet: &mut Sheet) {
         sheet,
     );
     for rule in rules {
-        sample(name, "rule", rule.name.as_bytes(), rule.times, sheet);
+        sample(name, "rule", rule.name, rule.times, sheet);
     }
 }
 
@@ -249,12 +249,12 @@ fn single(name: &str, value: u64, sheet: &mut Sheet) {
 }
 
 /// Adds a sample with one label.
-fn sample(name: &str, label: &str, of: &[u8], value: u64, sheet: &mut Sheet) {
+fn sample(name: &str, label: &str, of: &str, value: u64, sheet: &mut Sheet) {
     sheet.put(name);
     sheet.put("{");
     sheet.put(label);
     sheet.put("=\"");
-    sheet.label(of);
+    sheet.label(of.as_bytes());
     sheet.put("\"} ");
     sheet.number(value);
     sheet.put("\n");

@@ -1,7 +1,9 @@
 //! The page that people look at: one file of HTML, without a script, which asks for itself again.
 use crate::sheet::Sheet;
-use crate::tables::{cell, head, number_cell, pair, row, word_cell};
-use crate::view::{DialView, LinkView, NodeView, RuleView, ScopeView};
+use crate::tables::{
+    Listed, cell, is_none, number_cell, pair, put_table, put_where, row, word_cell,
+};
+use crate::view::{DialView, GroupView, LinkView, NodeView, RuleView, ScopeView};
 
 const HEAD: &str = "<!DOCTYPE html>\n<html lang=\"en\">\n<head>\n<meta charset=\"utf-8\">\n\
 <meta name=\"viewport\" content=\"width=device-width, initial-scale=1\">\n\
@@ -24,10 +26,10 @@ pub fn put_page(view: &NodeView, sheet: &mut Sheet) {
     sheet.put(STYLE);
     put_title(view, sheet);
     put_node(view, sheet);
-    put_links(view.links.as_slice(), sheet);
-    put_dials(view.dials.as_slice(), sheet);
-    put_scopes(view.scopes.as_slice(), sheet);
-    put_rules(view.rules.as_slice(), sheet);
+    put_table(view.links.as_slice(), sheet);
+    put_table(view.dials.as_slice(), sheet);
+    put_table(view.scopes.as_slice(), sheet);
+    put_table(view.rules.as_slice(), sheet);
     put_decisions(view.decisions.as_slice(), sheet);
     sheet.put(END);
 }
@@ -36,14 +38,11 @@ fn put_title(view: &NodeView, sheet: &mut Sheet) {
     sheet.put("<h1>");
     sheet.show(view.name.as_bytes());
     sheet.put("</h1>\n");
-    if view.is_draining {
-        sheet.put(
-            "<p><strong>It drains: nobody is let in any more, and it is to end.</strong></p>\n",
-        );
-    }
-    if view.wants_memory {
-        sheet.put("<p><strong>Memory is at its end: it is to begin anew.</strong></p>\n");
-    }
+    let drains =
+        "<p><strong>It drains: nobody is let in any more, and it is to end.</strong></p>\n";
+    put_where(view.is_draining, drains, sheet);
+    let wants = "<p><strong>Memory is at its end: it is to begin anew.</strong></p>\n";
+    put_where(view.wants_memory, wants, sheet);
 }
 
 fn put_node(view: &NodeView, sheet: &mut Sheet) {
@@ -77,119 +76,107 @@ fn part(name: &str, number: u64, most: u64, sheet: &mut Sheet) {
     sheet.put("</td></tr>\n");
 }
 
-fn put_links(links: &[LinkView], sheet: &mut Sheet) {
-    if is_none("Links", links.is_empty(), sheet) {
-        return;
-    }
-    head(
-        &[
-            "peer",
-            "creation",
-            "kind",
-            "address",
-            "seconds up",
-            "frames waiting",
-        ],
-        sheet,
-    );
-    for link in links {
-        put_link(link, sheet);
-    }
-    sheet.put("</table></div>\n");
-}
+impl Listed for LinkView {
+    const HEADING: &'static str = "Links";
 
-fn put_link(link: &LinkView, sheet: &mut Sheet) {
-    sheet.put("<tr>");
-    cell(link.peer.as_bytes(), sheet);
-    number_cell(u64::from(link.creation), sheet);
-    word_cell(link.kind, sheet);
-    cell(link.address.as_bytes(), sheet);
-    number_cell(link.seconds, sheet);
-    number_cell(link.waiting, sheet);
-    sheet.put("</tr>\n");
-}
+    const COLUMNS: &'static [&'static str] = &[
+        "peer",
+        "creation",
+        "kind",
+        "address",
+        "seconds up",
+        "frames waiting",
+    ];
 
-fn put_dials(dials: &[DialView], sheet: &mut Sheet) {
-    if is_none("Dials", dials.is_empty(), sheet) {
-        return;
-    }
-    head(
-        &[
-            "peer",
-            "place",
-            "dialled",
-            "again in seconds",
-            "state",
-            "last error",
-        ],
-        sheet,
-    );
-    for dial in dials {
-        put_dial(dial, sheet);
-    }
-    sheet.put("</table></div>\n");
-}
-
-fn put_dial(dial: &DialView, sheet: &mut Sheet) {
-    sheet.put("<tr>");
-    cell(dial.peer.as_bytes(), sheet);
-    cell(dial.place.as_bytes(), sheet);
-    number_cell(dial.times, sheet);
-    match dial.next {
-        Some(seconds) => number_cell(seconds, sheet),
-        None => word_cell("", sheet),
-    }
-    word_cell(dial.state, sheet);
-    word_cell(dial.reason, sheet);
-    sheet.put("</tr>\n");
-}
-
-fn put_scopes(scopes: &[ScopeView], sheet: &mut Sheet) {
-    if is_none("Scopes", scopes.is_empty(), sheet) {
-        return;
-    }
-    head(&["scope", "group", "members"], sheet);
-    for scope in scopes {
-        put_scope(scope, sheet);
-    }
-    sheet.put("</table></div>\n");
-}
-
-fn put_scope(scope: &ScopeView, sheet: &mut Sheet) {
-    sheet.put("<tr>");
-    cell(scope.name.as_bytes(), sheet);
-    sheet.put("<td>all ");
-    sheet.number(scope.size);
-    sheet.put("</td>");
-    number_cell(scope.rows, sheet);
-    sheet.put("</tr>\n");
-    for group in &scope.groups {
-        sheet.put("<tr><td></td>");
-        cell(group.name.as_bytes(), sheet);
-        number_cell(group.members, sheet);
-        sheet.put("</tr>\n");
-    }
-    let shown = scope.groups.len() as u64;
-    if shown < scope.size {
-        sheet.put("<tr><td></td><td>and ");
-        sheet.number(scope.size - shown);
-        sheet.put(" more</td><td></td></tr>\n");
-    }
-}
-
-fn put_rules(rules: &[RuleView], sheet: &mut Sheet) {
-    if is_none("Refused in this life", rules.is_empty(), sheet) {
-        return;
-    }
-    head(&["rule", "name", "events"], sheet);
-    for rule in rules {
+    fn put_rows(&self, sheet: &mut Sheet) {
         sheet.put("<tr>");
-        number_cell(u64::from(rule.number), sheet);
-        word_cell(rule.name, sheet);
-        number_cell(rule.times, sheet);
+        cell(self.peer.as_bytes(), sheet);
+        number_cell(u64::from(self.creation), sheet);
+        word_cell(self.kind, sheet);
+        cell(self.address.as_bytes(), sheet);
+        number_cell(self.seconds, sheet);
+        number_cell(self.waiting, sheet);
         sheet.put("</tr>\n");
     }
-    sheet.put("</table></div>\n");
+}
+
+impl Listed for DialView {
+    const HEADING: &'static str = "Dials";
+
+    const COLUMNS: &'static [&'static str] = &[
+        "peer",
+        "place",
+        "dialled",
+        "again in seconds",
+        "state",
+        "last error",
+    ];
+
+    fn put_rows(&self, sheet: &mut Sheet) {
+        sheet.put("<tr>");
+        cell(self.peer.as_bytes(), sheet);
+        cell(self.place.as_bytes(), sheet);
+        number_cell(self.times, sheet);
+        match self.next {
+            Some(seconds) => number_cell(seconds, sheet),
+            None => word_cell("", sheet),
+        }
+        word_cell(self.state, sheet);
+        word_cell(self.reason, sheet);
+        sheet.put("</tr>\n");
+    }
+}
+
+impl Listed for ScopeView {
+    const HEADING: &'static str = "Scopes";
+
+    const COLUMNS: &'static [&'static str] = &["scope", "group", "members"];
+
+    /// A row of all its groups, and one of each that is shown.
+    fn put_rows(&self, sheet: &mut Sheet) {
+        sheet.put("<tr>");
+        cell(self.name.as_bytes(), sheet);
+        sheet.put("<td>all ");
+        sheet.number(self.size);
+        sheet.put("</td>");
+        number_cell(self.rows, sheet);
+        sheet.put("</tr>\n");
+        for group in &self.groups {
+            put_group(group, sheet);
+        }
+        let shown = self.groups.len() as u64;
+        if shown < self.size {
+            put_more(self.size - shown, sheet);
+        }
+    }
+}
+
+fn put_group(group: &GroupView, sheet: &mut Sheet) {
+    sheet.put("<tr><td></td>");
+    cell(group.name.as_bytes(), sheet);
+    number_cell(group.members, sheet);
+    sheet.put("</tr>\n");
+}
+
+/// Adds how many groups of a scope aren't shown.
+fn put_more(groups: u64, sheet: &mut Sheet) {
+    sheet.put("<tr><td></td><td>and ");
+    sheet.number(groups);
+    sheet.put(" more</td><td></td></tr>\n");
+}
+
+impl Listed for RuleView {
+    const HEADING: &'static str = "Refused in this life";
+
+    const COLUMNS: &'static [&'static str] = &["rule", "name", "events"];
+
+    fn put_rows(&self, sheet: &mut Sheet) {
+        sheet.put("<tr>");
+        number_cell(u64::from(self.number), sheet);
+        word_cell(self.name, sheet);
+        number_cell(self.times, sheet);
+        sheet.put("</tr>\n");
+    }
 }
 
 fn put_decisions(decisions: &[Vec<u8>], sheet: &mut Sheet) {
@@ -202,15 +189,4 @@ fn put_decisions(decisions: &[Vec<u8>], sheet: &mut Sheet) {
         sheet.put("\n");
     }
     sheet.put("</pre>\n");
-}
-
-/// Adds a heading, and that there is nothing below it where that is so.
-fn is_none(heading: &str, is_none: bool, sheet: &mut Sheet) -> bool {
-    sheet.put("<h2>");
-    sheet.put(heading);
-    sheet.put("</h2>\n");
-    if is_none {
-        sheet.put("<p>none</p>\n");
-    }
-    is_none
 }

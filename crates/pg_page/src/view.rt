@@ -223,7 +223,7 @@ impl Drop for GroupView {
 }
 
 /// A rule that has refused events.
-#[derive(Clone, Copy, Debug, Drop)]
+#[derive(Clone, Copy, Drop)]
 pub struct RuleView {
     pub number: u32,
     pub name: &'static str,
