@@ -22,7 +22,6 @@ const PATIENCE: u32 = 10_000;
 const PATIENCE_WORD: &str = "10000";
 
 /// What the program is to do.
-#[derive(Drop)]
 pub struct Errand {
     /// The path of the control socket.
     pub control: String,
@@ -30,6 +29,17 @@ pub struct Errand {
     /// How long to wait for an answer.
     pub patience: Duration,
     pub show: Show,
+}
+
+impl Drop for Errand {
+    fn drop(self) {
+        let Errand {
+            control: _,
+            deed: _,
+            patience: _,
+            show: _,
+        } = self;
+    }
 }
 
 /// What the node is asked for.
@@ -51,26 +61,27 @@ pub struct Show {
 
 /// The arguments of the program.
 pub fn command<'a>(alloc: Global) -> Result<Command<'a>, ClapError> {
-    let control = Arg::new(alloc, "CONTROL")
-        .help("The control socket of the node")
-        .required(true);
+    let follow = "Prints what comes unasked, too, until the node is gone";
+    let json = "Prints each line as a JSON object";
+    let args = [
+        control(alloc),
+        words(alloc),
+        flag(alloc, "follow", follow),
+        flag(alloc, "json", json),
+        timeout(alloc),
+    ];
+    let args = Vec::from_array(alloc, args)?;
     let command = Command::new(alloc, "pg_ask")
         .version(VERSION)
         .about("Asks a node of process groups, and prints what it answers")
-        .after_help(COMMANDS)
-        .arg(control)?;
-    let command = with(command, words(alloc))?;
-    let follow = "Prints what comes unasked, too, until the node is gone";
-    let command = with(command, flag(alloc, "follow", follow))?;
-    let json = "Prints each line as a JSON object";
-    let command = with(command, flag(alloc, "json", json))?;
-    with(command, timeout(alloc))
+        .after_help(COMMANDS);
+    Ok(command.args(args)?)
 }
 
-/// The command with one more argument. A function of its own, so that a check meets the clauses of
-/// `arg` once.
-fn with<'a>(command: Command<'a>, arg: Arg<'a>) -> Result<Command<'a>, ClapError> {
-    Ok(command.arg(arg)?)
+fn control<'a>(alloc: Global) -> Arg<'a> {
+    Arg::new(alloc, "CONTROL")
+        .help("The control socket of the node")
+        .required(true)
 }
 
 fn words<'a>(alloc: Global) -> Arg<'a> {

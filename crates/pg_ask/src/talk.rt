@@ -23,7 +23,10 @@ pub struct Talk<'a, R: Print> {
 
 /// Connects to the control socket at this path.
 pub fn connect<R: Net>(rt: &R, path: &str) -> Result<UnixStream, Fault> {
-    UnixStream::connect(rt, path).map_err(|error| Fault::of_node(anyhow!("{path:.80}: {error}")))
+    match UnixStream::connect(rt, path) {
+        Ok(stream) => Ok(stream),
+        Err(error) => Err(Fault::of_node(anyhow!("{path:.80}: {error}"))),
+    }
 }
 
 impl<'a, R: Print> Talk<'a, R> {
@@ -92,10 +95,15 @@ impl<'a, R: Print> Talk<'a, R> {
             }
         }
         self.line.push(b'\n')?;
+        match self.put_out() {
+            Ok(()) => Ok(()),
+            Err(error) => Err(Fault::of_output(error)),
+        }
+    }
+
+    fn put_out(&self) -> io::Result<()> {
         let mut writer = io::writer(self.rt);
-        let written = writer.write_all(self.line.as_slice());
-        written
-            .and_then(|()| writer.flush())
-            .map_err(Fault::of_output)
+        writer.write_all(self.line.as_slice())?;
+        writer.flush()
     }
 }
