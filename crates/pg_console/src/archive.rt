@@ -27,8 +27,7 @@ impl<W: Write + Drop> Archive<W> {
         file: Option<W>,
         opening: &Opening,
     ) -> Result<Archive<W>, OutOfMemory> {
-        let mut lines = Vec::new(alloc);
-        put_life(alloc, &mut lines, &Life::of(alloc, opening)?)?;
+        let lines = first_line(alloc, opening)?;
         Ok(Archive {
             file,
             lines,
@@ -61,6 +60,14 @@ impl<W: Write + Drop> Archive<W> {
         }
         Ok(())
     }
+}
+
+/// The line of the life that begins so.
+fn first_line(alloc: Global, opening: &Opening) -> Result<Vec<u8>, OutOfMemory> {
+    let life = Life::of(alloc, opening)?;
+    let mut line = Vec::new(alloc);
+    put_life(alloc, &mut line, &life)?;
+    Ok(line)
 }
 
 fn write_lines<W: Write>(file: &mut W, lines: &[u8]) -> io::Result<()> {

@@ -1,5 +1,5 @@
 //! The cookies that an archive doesn't tell.
-use anyhow::{Result, anyhow, bail};
+use anyhow::{Result, bail};
 use clap::ArgMatches;
 use dist_types::{Cookie, NodeName, TryClone};
 use std::alloc::Global;
@@ -25,21 +25,26 @@ struct Given {
 }
 
 impl Cookies {
-    /// Those that stand on the command line.
-    pub fn shown(alloc: Global, matches: &ArgMatches<'_>) -> Result<Cookies> {
-        let mut given = Vec::new(alloc);
+    pub fn new(alloc: Global) -> Cookies {
+        Cookies {
+            given: Vec::new(alloc),
+        }
+    }
+
+    /// Adds those that stand on the command line.
+    pub fn add_shown(&mut self, alloc: Global, matches: &ArgMatches<'_>) -> Result<()> {
         for word in matches.get_strs("cookie").unwrap_or(&[]) {
             let (peer, text) = parts(word)?;
-            given.push(cookie_for(alloc, peer, text.as_bytes())?)?;
+            self.add(alloc, peer, text.as_bytes())?;
         }
         for word in matches.get_strs("cookie-for").unwrap_or(&[]) {
             parts(word)?;
         }
-        Ok(Cookies { given })
+        Ok(())
     }
 
     /// Adds those in the files that are named there.
-    pub fn read<R: Files>(
+    pub fn add_filed<R: Files>(
         &mut self,
         rt: &R,
         alloc: Global,
@@ -48,9 +53,14 @@ impl Cookies {
         for word in matches.get_strs("cookie-for").unwrap_or(&[]) {
             let (peer, path) = parts(word)?;
             let text = read_secret(rt, alloc, path)?;
-            self.given
-                .push(cookie_for(alloc, peer, first_line(text.as_slice()))?)?;
+            self.add(alloc, peer, first_line(text.as_slice()))?;
         }
+        Ok(())
+    }
+
+    fn add(&mut self, alloc: Global, peer: &str, text: &[u8]) -> Result<()> {
+        let given = cookie_for(alloc, peer, text)?;
+        self.given.push(given)?;
         Ok(())
     }
 
@@ -90,30 +100,40 @@ impl Cookies {
 
 /// What a file has to which others than its owner and its group, which may read it, have no right.
 fn read_secret<R: Files>(rt: &R, alloc: Global, path: &str) -> Result<Vec<u8>> {
-    let mode = mode_of(rt, path).map_err(|error| anyhow!("{path:.80}: {error}"))?;
-    if mode & OTHERS != 0 {
-        bail!(
+    match read_own(rt, alloc, path) {
+        Ok(Some(text)) => Ok(text),
+        Ok(None) => bail!(
             "{path:.60}: others can read this file of a cookie, or its group write it (chmod 600)"
-        );
+        ),
+        Err(error) => bail!("{path:.80}: {error}"),
     }
-    fs::read(&(rt, alloc), path).map_err(|error| anyhow!("{path:.80}: {error}"))
 }
 
-fn mode_of<R: Files>(rt: &R, path: &str) -> io::Result<u32> {
-    Ok(fs::metadata(rt, path)?.permissions().mode())
+/// What a file has, or None where others have a right to it.
+fn read_own<R: Files>(rt: &R, alloc: Global, path: &str) -> io::Result<Option<Vec<u8>>> {
+    if fs::metadata(rt, path)?.permissions().mode() & OTHERS != 0 {
+        return Ok(None);
+    }
+    Ok(Some(fs::read(&(rt, alloc), path)?))
 }
 
 /// What stands before the first `=`, and behind it.
 fn parts(word: &str) -> Result<(&str, &str)> {
-    word.split_once('=')
-        .ok_or_else(|| anyhow!("no NAME=..: {word:.60}"))
+    match word.split_once('=') {
+        Some(parts) => Ok(parts),
+        None => bail!("no NAME=..: {word:.60}"),
+    }
 }
 
-fn cookie_for(alloc: Global, peer: &str, text: &[u8]) -> Result<Given> {
-    let peer = NodeName::parse(alloc, peer.as_bytes()).map_err(|fault| anyhow!(
-        "{peer:.60}: {fault}"
-    ))?;
-    let cookie = Cookie::parse(alloc, text).map_err(|fault| anyhow!("the cookie: {fault}"))?;
+fn cookie_for(alloc: Global, name: &str, text: &[u8]) -> Result<Given> {
+    let peer = match NodeName::parse(alloc, name.as_bytes()) {
+        Ok(peer) => peer,
+        Err(fault) => bail!("{name:.60}: {fault}"),
+    };
+    let cookie = match Cookie::parse(alloc, text) {
+        Ok(cookie) => cookie,
+        Err(fault) => bail!("the cookie: {fault}"),
+    };
     Ok(Given {
         peer,
         cookie,

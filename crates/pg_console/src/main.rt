@@ -9,18 +9,16 @@ mod replaying;
 mod sockets;
 mod world;
 
-use anyhow::{Result, anyhow};
+use anyhow::{Result, bail};
 use archive::Archive;
 use clap::ArgMatches;
 use command_line::{OUT_OF_MEMORY, failed, held_streams, matched, told, words};
-use cookies::Cookies;
 use options::{command, opening};
-use pair::{PairEnd, pair};
+use pair::pair;
 use pg_script::{KeepFault, RunFault, play_keeping};
 use pg_text::{diagnose, without_feed};
 use policy_audit::Opening;
 use replaying::Player;
-use std::alloc::{AllocError, Global};
 use std::fmt::Display;
 use std::fs::{File, Files};
 use std::io::{self, BufReader};
@@ -59,27 +57,14 @@ where
         + Clock
         + Sync,
 {
-    if matches.subcommand_matches("pair").is_some() {
-        return meet(rt);
-    }
-    if matches.subcommand_matches("world").is_some() {
-        return try_out(rt);
-    }
-    if let Some(replay) = matches.subcommand_matches("replay") {
-        return play_again(rt, replay);
-    }
-    let Some(run) = matches.subcommand_matches("run") else {
+    let Some((name, matches)) = matches.subcommand() else {
         return failed(rt, 2, "error: no command was given");
     };
-    match opening(rt.alloc(), run) {
-        Ok(opening) => match (run.get_one::<u32>("keep"), run.get_str("archive")) {
-            (None, None) => play(rt, opening),
-            (keep, path) => play_kept(rt, opening, keep.unwrap_or(u32::MAX), path),
-        },
-        Err(fault) => match format!(in rt.alloc(); "{fault}") {
-            Ok(text) => failed(rt, fault.status(), text.as_str()),
-            Err(_) => failed(rt, 1, OUT_OF_MEMORY),
-        },
+    match name {
+        "pair" => meet(rt),
+        "world" => try_out(rt),
+        "replay" => play_again(rt, matches),
+        _ => run(rt, matches),
     }
 }
 
@@ -95,23 +80,46 @@ fn meet<
         + Sync,
 >(rt: &R) -> ExitCode {
     match pair(rt, rt.alloc(), &mut io::writer(rt)) {
-        PairEnd::Done => ExitCode::SUCCESS,
-        PairEnd::Late => ExitCode::from(1),
-        PairEnd::Failed(error) => told(rt, 1, &error),
+        Ok(true) => ExitCode::SUCCESS,
+        Ok(false) => ExitCode::from(1),
+        Err(error) => told(rt, 1, &error),
+    }
+}
+
+/// Plays standard input on one node.
+fn run<R: AllocGlobal + Input + Print + Eprint + Files<File = File>>(
+    rt: &R,
+    matches: &ArgMatches<'_>,
+) -> ExitCode {
+    let opening = match opening(rt.alloc(), matches) {
+        Ok(opening) => opening,
+        Err(fault) => return told(rt, fault.status(), &fault),
+    };
+    match (matches.get_one::<u32>("keep"), matches.get_str("archive")) {
+        (None, None) => play(rt, opening),
+        (keep, path) => play_kept(rt, opening, keep.unwrap_or(u32::MAX), path),
     }
 }
 
 /// Plays standard input on a node that is opened so.
 fn play<R: AllocGlobal + Input + Print + Eprint>(rt: &R, opening: Opening) -> ExitCode {
-    let Ok(mut reader) = BufReader::new(rt.alloc(), rt.reader()) else {
-        return failed(rt, 1, OUT_OF_MEMORY);
-    };
     let mut line = Vec::new(rt.alloc());
-    let mut writer = io::writer(rt);
-    match pg_script::play(rt.alloc(), opening, &mut reader, &mut line, &mut writer) {
+    match play_lines(rt, opening, &mut line) {
         Ok(()) => ExitCode::SUCCESS,
-        Err(RunFault::Script(number)) => misread(rt, number, without_feed(line.as_slice())),
-        Err(fault) => told(rt, 1, &fault),
+        Err(fault) => faulted(rt, fault, line.as_slice()),
+    }
+}
+
+fn play_lines<R: AllocGlobal + Input + Print>(
+    rt: &R,
+    opening: Opening,
+    line: &mut Vec<u8>,
+) -> Result<(), RunFault> {
+    match BufReader::new(rt.alloc(), rt.reader()) {
+        Ok(mut reader) => {
+            pg_script::play(rt.alloc(), opening, &mut reader, line, &mut io::writer(rt))
+        }
+        Err(_) => Err(RunFault::Memory),
     }
 }
 
@@ -122,15 +130,15 @@ fn play_kept<R: AllocGlobal + Input + Print + Eprint + Files<File = File>>(
     keep: u32,
     path: Option<&str>,
 ) -> ExitCode {
-    let alloc = rt.alloc();
-    let file = match path.map(|path| File::create(rt, path)).transpose() {
+    let file = match created(rt, path) {
         Ok(file) => file,
         Err(error) => return unwritten(rt, path, &error),
     };
-    let (Ok(mut archive), Ok(mut reader)) = (
-        Archive::begin(alloc, file, &opening),
-        BufReader::new(alloc, rt.reader()),
-    ) else {
+    let alloc = rt.alloc();
+    let Ok(mut reader) = BufReader::new(alloc, rt.reader()) else {
+        return failed(rt, 1, OUT_OF_MEMORY);
+    };
+    let Ok(mut archive) = Archive::begin(alloc, file, &opening) else {
         return failed(rt, 1, OUT_OF_MEMORY);
     };
     let mut line = Vec::new(alloc);
@@ -149,20 +157,22 @@ fn play_kept<R: AllocGlobal + Input + Print + Eprint + Files<File = File>>(
     }
     match played {
         Ok(()) => ExitCode::SUCCESS,
-        Err(KeepFault::Run(RunFault::Script(number))) => {
-            misread(rt, number, without_feed(line.as_slice()))
-        }
+        Err(KeepFault::Run(fault)) => faulted(rt, fault, line.as_slice()),
         Err(fault) => told(rt, 1, &fault),
+    }
+}
+
+fn created<R: Files<File = File>>(rt: &R, path: Option<&str>) -> io::Result<Option<File>> {
+    match path {
+        Some(path) => Ok(Some(File::create(rt, path)?)),
+        None => Ok(None),
     }
 }
 
 /// Ends a run whose archive can't be written. What was written of it stays.
 fn unwritten<R: AllocGlobal + Eprint>(rt: &R, path: Option<&str>, error: &io::Error) -> ExitCode {
     let path = path.unwrap_or("");
-    match format!(in rt.alloc(); "error: --archive: {path:.60}: {error}") {
-        Ok(text) => failed(rt, 1, text.as_str()),
-        Err(_) => failed(rt, 1, OUT_OF_MEMORY),
-    }
+    told(rt, 1, &format_args!("--archive: {path:.60}: {error}"))
 }
 
 /// Plays archives again, and prints how many of their lives and entries agreed.
@@ -170,22 +180,27 @@ fn play_again<R: AllocGlobal + Print + Eprint + Files<File = File>>(
     rt: &R,
     matches: &ArgMatches<'_>,
 ) -> ExitCode {
-    let mut cookies = match Cookies::shown(rt.alloc(), matches) {
-        Ok(cookies) => cookies,
-        Err(error) => return told(rt, 2, &error),
-    };
-    if let Err(error) = cookies.read(rt, rt.alloc(), matches) {
-        return told(rt, 1, &error);
+    let mut player = Player::new(rt.alloc());
+    if let Err(error) = player.cookies.add_shown(rt.alloc(), matches) {
+        return told(rt, 2, &error);
     }
-    let mut player = Player::new(rt.alloc(), cookies);
-    let played = play_files(rt, matches, &mut player);
+    match replay(rt, matches, &mut player) {
+        Ok(()) => ExitCode::SUCCESS,
+        Err(error) => told(rt, 1, &error),
+    }
+}
+
+fn replay<R: AllocGlobal + Print + Files<File = File>>(
+    rt: &R,
+    matches: &ArgMatches<'_>,
+    player: &mut Player,
+) -> Result<()> {
+    player.cookies.add_filed(rt, rt.alloc(), matches)?;
+    let played = play_files(rt, matches, player);
     let agreed = player.agreed();
     let written = println!(rt; "lives {} entries {}", agreed.lives, agreed.entries);
-    match (played, written) {
-        (Err(error), _) => told(rt, 1, &error),
-        (Ok(()), Err(error)) => told(rt, 1, &error),
-        (Ok(()), Ok(())) => ExitCode::SUCCESS,
-    }
+    played?;
+    Ok(written?)
 }
 
 /// Plays the files that are named, one behind the other.
@@ -195,7 +210,10 @@ fn play_files<R: AllocGlobal + Files<File = File>>(
     player: &mut Player,
 ) -> Result<()> {
     for path in matches.get_strs("ARCHIVE").unwrap_or(&[]) {
-        let file = File::open(rt, path).map_err(|error| anyhow!("{path:.60}: {error}"))?;
+        let file = match File::open(rt, path) {
+            Ok(file) => file,
+            Err(error) => bail!("{path:.60}: {error}"),
+        };
         let mut reader = BufReader::new(rt.alloc(), file)?;
         player.play(path, &mut reader)?;
     }
@@ -216,50 +234,41 @@ fn try_out<R: AllocGlobal + Input + Print + Eprint>(rt: &R) -> ExitCode {
 
 /// Ends a script of world steps at this line.
 fn stopped<R: AllocGlobal + Eprint>(rt: &R, stop: Stop, line: &[u8]) -> ExitCode {
-    let status = match stop {
-        Stop::SameName(_) => 2,
-        Stop::Run(_) => 1,
-    };
-    match why_stopped(rt.alloc(), stop, line) {
-        Ok(text) => failed(rt, status, text.as_str()),
-        Err(_) => failed(rt, 1, OUT_OF_MEMORY),
-    }
-}
-
-/// Why a script of world steps stopped at this line.
-fn why_stopped(alloc: Global, stop: Stop, line: &[u8]) -> Result<String, AllocError> {
     match stop {
-        Stop::SameName(number) => {
-            format!(in alloc; "line {number}: an earlier node has this name")
-        }
+        Stop::SameName(number) => misread(rt, 2, number, &"an earlier node has this name", ""),
         Stop::Run(RunFault::Script(number)) => {
-            let (reason, part) = why_unread(alloc, line);
-            about(alloc, number, &reason, part)
+            let (reason, part) = why_unread(rt.alloc(), line);
+            misread(rt, 1, number, &reason, part)
         }
-        Stop::Run(fault) => format!(in alloc; "error: {fault}"),
+        Stop::Run(fault) => told(rt, 1, &fault),
     }
 }
 
-/// Ends a run at the line of this number, and says why it says no command.
-fn misread<R: AllocGlobal + Eprint>(rt: &R, number: u64, line: &[u8]) -> ExitCode {
-    let Some((reason, part)) = diagnose(rt.alloc(), line) else {
-        return failed(rt, 1, "error: the line can't be read");
+/// Ends a run on one node, at this line if that says no command.
+fn faulted<R: AllocGlobal + Eprint>(rt: &R, fault: RunFault, line: &[u8]) -> ExitCode {
+    let RunFault::Script(number) = fault else {
+        return told(rt, 1, &fault);
     };
-    match about(rt.alloc(), number, &reason, part) {
-        Ok(text) => failed(rt, 1, text.as_str()),
-        Err(_) => failed(rt, 1, OUT_OF_MEMORY),
+    match diagnose(rt.alloc(), without_feed(line)) {
+        Some((reason, part)) => misread(rt, 1, number, &reason, part),
+        None => failed(rt, 1, "error: the line can't be read"),
     }
 }
 
 /// Says of the line of this number why it can't be read, and what that is about.
-fn about<D: Display>(
-    alloc: Global,
+fn misread<R: AllocGlobal + Eprint, D: Display>(
+    rt: &R,
+    status: u8,
     number: u64,
     reason: &D,
     part: &str,
-) -> Result<String, AllocError> {
-    match part {
-        "" => format!(in alloc; "line {number}: {reason}"),
-        _ => format!(in alloc; "line {number}: {reason}: {part:.80}"),
+) -> ExitCode {
+    let text = match part {
+        "" => format!(in rt.alloc(); "line {number}: {reason}"),
+        _ => format!(in rt.alloc(); "line {number}: {reason}: {part:.80}"),
+    };
+    match text {
+        Ok(text) => failed(rt, status, text.as_str()),
+        Err(_) => failed(rt, 1, OUT_OF_MEMORY),
     }
 }

@@ -56,9 +56,9 @@ command line. docs/FORMATS.md has the lines.";
 /// Why NAME or COOKIE is refused.
 #[derive(Clone, Copy, Debug, thiserror::Error)]
 pub enum OptionsFault {
-    #[error("error: NAME: {0}")]
+    #[error("NAME: {0}")]
     Name(TextFault),
-    #[error("error: COOKIE: {0}")]
+    #[error("COOKIE: {0}")]
     Cookie(TextFault),
 }
 
@@ -76,16 +76,15 @@ impl OptionsFault {
 /// The commands of the program, and the arguments of each.
 pub fn command<'a>(alloc: Global) -> Result<Command<'a>, Error> {
     let run = run_command(alloc)?;
+    let replay = replay_command(alloc)?;
+    let commands = vec![in alloc; run, replay, pair_command(alloc), world_command(alloc)]?;
     Ok(
         Command::new(alloc, "pg_console")
             .version(VERSION)
             .about("Plays scripts on a node of process groups")
             .after_help(SCRIPTS)
             .subcommand_required(true)
-            .subcommand(run)?
-            .subcommand(replay_command(alloc)?)?
-            .subcommand(pair_command(alloc))?
-            .subcommand(world_command(alloc))?,
+            .subcommands(commands)?,
     )
 }
 
@@ -102,106 +101,92 @@ fn pair_command<'a>(alloc: Global) -> Command<'a> {
 }
 
 fn run_command<'a>(alloc: Global) -> Result<Command<'a>, Error> {
+    let file = "A file for a line of JSON for each entry, which is written anew";
+    let args = vec![in alloc;
+        word(alloc, "NAME", "The node's own name, as b@h"),
+        word(
+            alloc,
+            "COOKIE",
+            "The secret that the node shares with its peers"
+        ),
+        creation(alloc),
+        entries(alloc),
+        links(alloc),
+        hidden(alloc),
+        keep(alloc),
+        option(alloc, "archive", "FILE", file),
+    ]?;
     Ok(
         Command::new(alloc, "run")
             .about("Plays a script from standard input on one node")
             .after_help(SCRIPTS)
-            .arg(name(alloc))?
-            .arg(cookie(alloc))?
-            .arg(creation(alloc))?
-            .arg(entries(alloc))?
-            .arg(links(alloc))?
-            .arg(hidden(alloc))?
-            .arg(keep(alloc))?
-            .arg(archive(alloc))?,
+            .args(args)?,
     )
 }
 
 fn replay_command<'a>(alloc: Global) -> Result<Command<'a>, Error> {
+    let shown = "The secret of the node of this name, or for this peer";
+    let args = vec![in alloc;
+        archives(alloc),
+        options(alloc, "cookie", "NAME=TEXT", shown),
+        options(alloc, "cookie-for", "NAME=FILE", "The same, in a file"),
+    ]?;
     Ok(
         Command::new(alloc, "replay")
             .about("Plays archives again, and compares each verdict and change with the policy's")
             .after_help(ARCHIVES)
-            .arg(archives(alloc))?
-            .arg(shown_cookies(alloc))?
-            .arg(cookie_files(alloc))?,
+            .args(args)?,
     )
 }
 
+/// A word that has to be there.
+fn word<'a>(alloc: Global, name: &'a str, help: &'a str) -> Arg<'a> {
+    Arg::new(alloc, name).help(help).required(true)
+}
+
 fn archives<'a>(alloc: Global) -> Arg<'a> {
-    Arg::new(alloc, "ARCHIVE")
-        .help("The files, in the order in which they were written")
-        .num_args(1..)
-        .action(ArgAction::Append)
-        .required(true)
+    word(
+        alloc,
+        "ARCHIVE",
+        "The files, in the order in which they were written",
+    )
+    .num_args(1..)
+    .action(ArgAction::Append)
 }
 
-fn shown_cookies<'a>(alloc: Global) -> Arg<'a> {
-    Arg::new(alloc, "cookie")
-        .long("cookie")
-        .value_name("NAME=TEXT")
-        .help("The secret of the node of this name, or for this peer")
-        .action(ArgAction::Append)
+fn option<'a>(alloc: Global, name: &'a str, value: &'a str, help: &'a str) -> Arg<'a> {
+    Arg::new(alloc, name)
+        .long(name)
+        .value_name(value)
+        .help(help)
 }
 
-fn cookie_files<'a>(alloc: Global) -> Arg<'a> {
-    Arg::new(alloc, "cookie-for")
-        .long("cookie-for")
-        .value_name("NAME=FILE")
-        .help("The same, in a file")
-        .action(ArgAction::Append)
+/// An option that may be given several times.
+fn options<'a>(alloc: Global, name: &'a str, value: &'a str, help: &'a str) -> Arg<'a> {
+    option(alloc, name, value, help).action(ArgAction::Append)
 }
 
 fn keep<'a>(alloc: Global) -> Arg<'a> {
-    Arg::new(alloc, "keep")
-        .long("keep")
-        .value_name("N")
-        .help("How many entries are kept at least; older ones are forgotten, 256 at a time")
-        .value_parser(value_parser!(u32))
-}
-
-fn archive<'a>(alloc: Global) -> Arg<'a> {
-    Arg::new(alloc, "archive")
-        .long("archive")
-        .value_name("FILE")
-        .help("A file for a line of JSON for each entry, which is written anew")
-}
-
-fn name<'a>(alloc: Global) -> Arg<'a> {
-    Arg::new(alloc, "NAME")
-        .help("The node's own name, as b@h")
-        .required(true)
-}
-
-fn cookie<'a>(alloc: Global) -> Arg<'a> {
-    Arg::new(alloc, "COOKIE")
-        .help("The secret that the node shares with its peers")
-        .required(true)
+    let help = "How many entries are kept at least; older ones are forgotten, 256 at a time";
+    option(alloc, "keep", "N", help).value_parser(value_parser!(u32))
 }
 
 fn creation<'a>(alloc: Global) -> Arg<'a> {
-    Arg::new(alloc, "creation")
-        .long("creation")
-        .value_name("N")
-        .help("The node's creation")
+    option(alloc, "creation", "N", "The node's creation")
         .value_parser(value_parser!(u32))
         .default_value("1")
 }
 
 fn entries<'a>(alloc: Global) -> Arg<'a> {
-    Arg::new(alloc, "entries")
-        .long("entries")
-        .value_name("N")
-        .help("The most entries of the node's audit, at least 1")
+    let help = "The most entries of the node's audit, at least 1";
+    option(alloc, "entries", "N", help)
         .value_parser(value_parser!(u32).range(1..))
         .default_value("1000000")
 }
 
 fn links<'a>(alloc: Global) -> Arg<'a> {
-    Arg::new(alloc, "links")
-        .long("links")
-        .value_name("N")
-        .help("The highest version of link messages that the node knows, 1 or 2")
+    let help = "The highest version of link messages that the node knows, 1 or 2";
+    option(alloc, "links", "N", help)
         .value_parser(value_parser!(u8).range(1..3))
         .default_value("1")
 }

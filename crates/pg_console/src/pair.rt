@@ -1,13 +1,10 @@
 //! Two nodes in one process, linked over the loopback: each has a process in one group, and lists that of the other.
 use crate::sockets::{connected, second_of};
-use anyhow::{Result, bail};
-use cookie_digest::ChallengeSource;
-use dist_types::{Cookie, Group, Items, NodeName, OutOfMemory, Pid, Scope, TextFault, TryClone};
-use node_threads::{Connection, Node, OpenGate, Pair, Pass, ServedLink, serve_link};
-use pg_text::Printed;
+use anyhow::{Error, Result, bail};
+use dist_types::{Cookie, NodeName, OutOfMemory, TextFault};
+use node_threads::{Connection, Node, OpenGate, Pair, Pass, serve_link};
+use pg_text::{Command, LineFault, parse, put_each, put_word};
 use policy_audit::{Event, Members, Opening, Reply};
-use rand_chacha::ChaCha20Rng;
-use rand_core::SeedableRng;
 use std::alloc::Global;
 use std::io::Write;
 use std::net::{Net, Shutdown, TcpListener, TcpStream};
@@ -22,78 +19,87 @@ const TRIES: u32 = 10_000;
 /// The milliseconds between two questions.
 const PAUSE: u64 = 1;
 
-/// How the two nodes parted.
-#[derive(Debug, Drop)]
-pub enum PairEnd {
-    Done,
-    /// A node didn't list both processes in time.
-    Late,
-    Failed(anyhow::Error),
-}
+/// What opens the link at the end that dials. The challenges are the same in each run: nobody else speaks on this link.
+const DIAL: &str = "dial b@h 7";
 
-/// Links the nodes a@h and b@h over 127.0.0.1, until each lists the process of the other, and parts and closes them. It writes
-/// a line for whom each node has seen and one for each that is closed, or the line `late`.
-pub fn pair<R, W>(rt: &R, alloc: Global, writer: &mut W) -> PairEnd
-where
-    R: Net<Listener = TcpListener, Stream = TcpStream> + Threads + Wait + Clock + Sync,
-    W: Write,
-{
-    match meet(rt, alloc, writer) {
-        Ok(true) => PairEnd::Done,
-        Ok(false) => PairEnd::Late,
-        Err(error) => PairEnd::Failed(error),
-    }
-}
+/// What opens it at the other end.
+const OPENED: &str = "opened 9";
 
-/// A node with a process in the group, and its caller.
-#[derive(Drop)]
+/// A node with a process in the group, the pass that asks it, and those that serve its link.
 struct Member {
     node: Node,
     caller: Pass,
-    reader: Pass,
-    writer: Pass,
-}
-
-/// An end of the link: the passes of its workers, and the sockets.
-#[derive(Drop)]
-struct End {
     pair: Pair,
-    connection: Connection<TcpStream, TcpStream>,
 }
 
-/// A node, its caller, and its end of the link.
-#[derive(Drop)]
-struct Linked {
-    node: Node,
-    caller: Pass,
-    end: End,
-}
-
-impl Linked {
-    fn into_parts(self) -> (Node, Pass, End) {
-        let Linked { node, caller, end } = self;
-        (node, caller, end)
+/// Lets go of a node in one call, so that the proof of a caller has one step for it.
+impl Drop for Member {
+    fn drop(self) {
+        let Member {
+            node: _,
+            caller: _,
+            pair: _,
+        } = self;
     }
 }
 
-/// A node whose link has ended, and its caller.
-#[derive(Drop)]
-struct Parted {
-    node: Node,
-    caller: Pass,
-    served: ServedLink,
+impl Member {
+    fn into_parts(self) -> (Node, Pass, Pair) {
+        let Member { node, caller, pair } = self;
+        (node, caller, pair)
+    }
+
+    /// Closes the node with all its passes.
+    fn close(self, alloc: Global) -> Result<()> {
+        let Member { node, caller, pair } = self;
+        let passes = vec![in alloc; caller, pair.reader, pair.writer]?;
+        if let Err(fault) = node.close(passes) {
+            bail!("the node is not closed: {}", fault.rule);
+        }
+        Ok(())
+    }
 }
 
-/// Whether each node has listed both processes.
-fn meet<R, W>(rt: &R, alloc: Global, writer: &mut W) -> Result<bool>
+/// The node that dials, and the other one.
+struct Both {
+    near: Member,
+    far: Member,
+}
+
+impl Drop for Both {
+    fn drop(self) {
+        let Both { near: _, far: _ } = self;
+    }
+}
+
+impl Both {
+    fn into_parts(self) -> (Member, Member) {
+        let Both { near, far } = self;
+        (near, far)
+    }
+}
+
+/// Both ends of the link, and a handle of its socket that cuts it.
+#[derive(Drop)]
+struct Wire {
+    near: Connection<TcpStream, TcpStream>,
+    far: Connection<TcpStream, TcpStream>,
+    hook: TcpStream,
+}
+
+/// Links the nodes a@h and b@h over 127.0.0.1, until each lists the process of the other, and parts and closes them. It writes
+/// a line for whom each node has seen and one for each that is closed, or the line `late`: whether each has listed both
+/// processes in time.
+pub fn pair<R, W>(rt: &R, alloc: Global, writer: &mut W) -> Result<bool>
 where
     R: Net<Listener = TcpListener, Stream = TcpStream> + Threads + Wait + Clock + Sync,
     W: Write,
 {
-    let (near, far, hook) = link_both(rt, alloc)?;
-    let (near, far, seen) = run_both(rt, alloc, near, far, &hook);
-    match tell_seen(alloc, writer, seen) {
-        Ok(true) => close_both(alloc, writer, near, far),
+    let mut both = start_both(rt, alloc)?;
+    let wire = link_both(rt, alloc, &mut both)?;
+    let (both, seen) = run_both(rt, alloc, both, wire);
+    match tell_seen(writer, seen) {
+        Ok(true) => close_both(alloc, writer, both),
         told => told,
     }
 }
@@ -102,30 +108,33 @@ where
 fn run_both<R: Threads + Wait + Clock + Sync>(
     rt: &R,
     alloc: Global,
-    near: Linked,
-    far: Linked,
-    hook: &TcpStream,
-) -> (Parted, Parted, Result<Option<(Members, Members)>>) {
+    both: Both,
+    wire: Wire,
+) -> (Both, Result<Option<Vec<u8>>>) {
+    let (near, far) = both.into_parts();
     let (a, mut first, near) = near.into_parts();
     let (b, mut second, far) = far.into_parts();
+    let Wire {
+        near: out,
+        far: back,
+        hook,
+    } = wire;
     let ((near, far), seen) = thread::join(
         rt,
-        || serve_both(rt, alloc, (&a, near), (&b, far)),
-        || watch_and_cut(rt, alloc, (&a, &mut first), (&b, &mut second), hook),
+        || serve_both(rt, alloc, (&a, near, out), (&b, far, back)),
+        || watch_and_cut(rt, alloc, (&a, &mut first), (&b, &mut second), &hook),
     );
-    (
-        Parted {
-            node: a,
-            caller: first,
-            served: near,
-        },
-        Parted {
-            node: b,
-            caller: second,
-            served: far,
-        },
-        seen,
-    )
+    let near = Member {
+        node: a,
+        caller: first,
+        pair: near,
+    };
+    let far = Member {
+        node: b,
+        caller: second,
+        pair: far,
+    };
+    (Both { near, far }, seen)
 }
 
 fn watch_and_cut<R: Wait + Clock + Sync>(
@@ -134,64 +143,52 @@ fn watch_and_cut<R: Wait + Clock + Sync>(
     first: (&Node, &mut Pass),
     second: (&Node, &mut Pass),
     hook: &TcpStream,
-) -> Result<Option<(Members, Members)>> {
-    let seen = watch(rt, alloc, first, second);
+) -> Result<Option<Vec<u8>>> {
+    let mut text = Vec::new(alloc);
+    let seen = watch(rt, alloc, first, second, &mut text);
     // Both workers of both nodes end with the socket, whatever was seen.
     hook.shutdown(Shutdown::Both).ok();
-    seen
+    match seen {
+        Ok(true) => Ok(Some(text)),
+        Ok(false) => Ok(None),
+        Err(error) => Err(error),
+    }
 }
 
-/// Two members at both ends of a socket, and what cuts it.
-fn link_both<R>(rt: &R, alloc: Global) -> Result<(Linked, Linked, TcpStream)>
+/// Joins both nodes by a socket.
+fn link_both<R>(rt: &R, alloc: Global, both: &mut Both) -> Result<Wire>
 where
     R: Net<Listener = TcpListener, Stream = TcpStream> + Wait + Sync,
 {
-    let (dialler, acceptor) = start_both(rt, alloc)?;
     let (out, back, hook) = connected(rt)?;
-    let (dial, opened) = openings(alloc)?;
-    let near = link(rt, dialler, dial, out)?;
-    let far = link(rt, acceptor, opened, back)?;
-    Ok((near, far, hook))
+    let near = link(rt, alloc, &mut both.near, DIAL, out)?;
+    let far = link(rt, alloc, &mut both.far, OPENED, back)?;
+    Ok(Wire { near, far, hook })
 }
 
-fn start_both<R: Wait + Sync>(rt: &R, alloc: Global) -> Result<(Member, Member)> {
-    let dialler = start(rt, alloc, b"a@h")?;
-    Ok((dialler, start(rt, alloc, b"b@h")?))
+fn start_both<R: Wait + Sync>(rt: &R, alloc: Global) -> Result<Both> {
+    let near = start(rt, alloc, b"a@h", "join pg g a@h/1/1")?;
+    let far = start(rt, alloc, b"b@h", "join pg g b@h/1/1")?;
+    Ok(Both { near, far })
 }
 
-/// The events that open the link at either end. The challenges are the same in each run: nobody else speaks on this link.
-fn openings(alloc: Global) -> Result<(Event, Event), TextFault> {
-    let peer = NodeName::parse(alloc, b"b@h")?;
-    let mut source = ChallengeSource::new(ChaCha20Rng::from_seed([0; 32]));
-    let dial = Event::Dial(peer, source.draw());
-    Ok((dial, Event::Opened(source.draw())))
-}
-
-/// A node of that name with a process in the group.
-fn start<R: Wait + Sync>(rt: &R, alloc: Global, name: &[u8]) -> Result<Member> {
+/// A node of that name, whose process joins the group by this line.
+fn start<R: Wait + Sync>(rt: &R, alloc: Global, name: &[u8], join: &'static str) -> Result<Member> {
     let (node, passes) = Node::new(alloc, opening(alloc, name)?, 3)?;
-    let Some(mut member) = member_of(node, passes) else {
+    let Some((mut caller, pair)) = seats_of(passes) else {
         bail!("a node without passes");
     };
-    join(rt, alloc, &member.node, &mut member.caller)?;
+    let joined = join_group(rt, alloc, &node, &mut caller, join);
+    let member = Member { node, caller, pair };
+    joined?;
     Ok(member)
 }
 
-fn member_of(node: Node, passes: Vec<Pass>) -> Option<Member> {
-    let (caller, reader, writer) = three_of(passes)?;
-    Some(Member {
-        node,
-        caller,
-        reader,
-        writer,
-    })
-}
-
-fn three_of(passes: Vec<Pass>) -> Option<(Pass, Pass, Pass)> {
+fn seats_of(passes: Vec<Pass>) -> Option<(Pass, Pair)> {
     let mut passes = passes;
     let writer = passes.pop()?;
     let reader = passes.pop()?;
-    Some((passes.pop()?, reader, writer))
+    Some((passes.pop()?, Pair { reader, writer }))
 }
 
 fn opening(alloc: Global, name: &[u8]) -> Result<Opening, TextFault> {
@@ -205,193 +202,176 @@ fn opening(alloc: Global, name: &[u8]) -> Result<Opening, TextFault> {
     })
 }
 
-/// Spawns a process, which joins the group.
-fn join<R: Wait + Sync>(rt: &R, alloc: Global, node: &Node, caller: &mut Pass) -> Result<()> {
-    caller.call(node, rt, Event::StartScope(scope(alloc)?))?;
-    let pid = spawn(rt, alloc, node, caller)?;
-    let event = join_of(alloc, Items::of(vec![in alloc; pid]?))?;
-    caller.call(node, rt, event)?;
+/// Spawns a process, which joins the group by this line.
+fn join_group<R: Wait + Sync>(
+    rt: &R,
+    alloc: Global,
+    node: &Node,
+    caller: &mut Pass,
+    join: &'static str,
+) -> Result<()> {
+    for line in ["start pg", "spawn", join] {
+        ask(rt, alloc, node, caller, line)?;
+    }
     Ok(())
 }
 
-fn spawn<R: Wait + Sync>(rt: &R, alloc: Global, node: &Node, caller: &mut Pass) -> Result<Pid> {
-    match caller.call(node, rt, Event::Spawn)? {
-        Reply::Pid(pid) => Ok(pid.try_clone(alloc)?),
-        _ => bail!("no process"),
+/// What the node answers to a line of a script.
+fn ask<'a, R: Wait + Sync>(
+    rt: &R,
+    alloc: Global,
+    node: &Node,
+    pass: &'a mut Pass,
+    line: &str,
+) -> Result<&'a Reply> {
+    let event = event_of(alloc, line)?;
+    Ok(pass.call(node, rt, event)?)
+}
+
+fn event_of(alloc: Global, line: &str) -> Result<Event> {
+    match parse(alloc, line.as_bytes()) {
+        Ok(Command::Step(event)) => Ok(event),
+        Ok(Command::Seat(_) | Command::Size | Command::Audit(_)) | Err(LineFault::Script) => {
+            bail!("no event: {line}")
+        }
+        Err(LineFault::Memory) => Err(Error::from(OutOfMemory)),
     }
 }
 
-fn join_of(alloc: Global, pids: Items<Pid>) -> Result<Event, TextFault> {
-    let scope = scope(alloc)?;
-    Ok(Event::Join(scope, group(alloc)?, pids))
-}
-
-/// The member, at an end of the link that the event opens over this socket.
-fn link<R: Wait + Sync>(rt: &R, member: Member, event: Event, input: TcpStream) -> Result<Linked> {
+/// An end of the link that the line opens over this socket.
+fn link<R: Wait + Sync>(
+    rt: &R,
+    alloc: Global,
+    member: &mut Member,
+    line: &str,
+    input: TcpStream,
+) -> Result<Connection<TcpStream, TcpStream>> {
     let output = second_of(&input)?;
-    let Member {
-        node,
-        caller,
-        mut reader,
-        writer,
-    } = member;
-    let link = open_link(rt, &node, &mut reader, event)?;
-    let end = End {
-        pair: Pair { reader, writer },
-        connection: Connection {
-            link,
-            input,
-            output,
-        },
-    };
-    Ok(Linked { node, caller, end })
+    let link = open_link(rt, alloc, member, line)?;
+    Ok(Connection {
+        link,
+        input,
+        output,
+    })
 }
 
-/// The number of the link that the event opens.
-fn open_link<R: Wait + Sync>(rt: &R, node: &Node, reader: &mut Pass, event: Event) -> Result<u32> {
-    match reader.call(node, rt, event)? {
+/// The number of the link that the line opens.
+fn open_link<R: Wait + Sync>(
+    rt: &R,
+    alloc: Global,
+    member: &mut Member,
+    line: &str,
+) -> Result<u32> {
+    match ask(rt, alloc, &member.node, &mut member.pair.reader, line)? {
         Reply::Link(link) => Ok(*link),
         _ => bail!("no link"),
     }
 }
 
-fn serve<R: Threads + Wait + Sync>(rt: &R, alloc: Global, node: &Node, end: End) -> ServedLink {
-    let End { pair, connection } = end;
-    serve_link(rt, alloc, node, pair, connection, &OpenGate)
+/// A node at its end of the link.
+type End<'a> = (&'a Node, Pair, Connection<TcpStream, TcpStream>);
+
+/// Serves an end until the link has ended.
+fn serve<R: Threads + Wait + Sync>(rt: &R, alloc: Global, end: End<'_>) -> Pair {
+    let (node, pair, connection) = end;
+    serve_link(rt, alloc, node, pair, connection, &OpenGate).pair
 }
 
 /// Serves both ends until the link has ended.
 fn serve_both<R: Threads + Wait + Sync>(
     rt: &R,
     alloc: Global,
-    near: (&Node, End),
-    far: (&Node, End),
-) -> (ServedLink, ServedLink) {
+    near: End<'_>,
+    far: End<'_>,
+) -> (Pair, Pair) {
     thread::join(
         rt,
-        move || serve(rt, alloc, near.0, near.1),
-        move || serve(rt, alloc, far.0, far.1),
+        move || serve(rt, alloc, near),
+        move || serve(rt, alloc, far),
     )
 }
 
-/// Asks each node until it lists two processes, and parts them: the two lists, or None where one didn't come in time.
+/// Asks each node until it lists two processes, which it adds, and parts them: whether both came in time.
 fn watch<R: Wait + Clock + Sync>(
     rt: &R,
     alloc: Global,
     first: (&Node, &mut Pass),
     second: (&Node, &mut Pass),
-) -> Result<Option<(Members, Members)>> {
+    text: &mut Vec<u8>,
+) -> Result<bool> {
     let (a, caller) = first;
-    let at_a = both_at(rt, alloc, a, caller)?;
-    let at_b = both_at(rt, alloc, second.0, second.1)?;
-    if at_a.is_some() {
-        part(rt, alloc, a, caller)?;
+    let (b, other) = second;
+    let at_a = both_at(rt, alloc, a, caller, "a@h sees", text)?;
+    let at_b = both_at(rt, alloc, b, other, "b@h sees", text)?;
+    if at_a {
+        ask(rt, alloc, a, caller, "disconnect b@h")?;
     }
-    Ok(at_a.zip(at_b))
+    Ok(at_a && at_b)
 }
 
-fn part<R: Wait + Sync>(rt: &R, alloc: Global, node: &Node, caller: &mut Pass) -> Result<()> {
-    let peer = NodeName::parse(alloc, b"b@h")?;
-    caller.call(node, rt, Event::Disconnect(peer))?;
-    Ok(())
-}
-
-/// The members of the group, once there are two.
+/// Adds the members of the group, once there are two: whether that came in time.
 fn both_at<R: Wait + Clock + Sync>(
     rt: &R,
     alloc: Global,
     node: &Node,
     caller: &mut Pass,
-) -> Result<Option<Members>> {
+    head: &str,
+    text: &mut Vec<u8>,
+) -> Result<bool> {
     for _ in 0..TRIES {
-        let found = two_at(rt, alloc, node, caller)?;
-        if found.is_some() {
-            return Ok(found);
+        if two_at(rt, alloc, node, caller, head, text)? {
+            return Ok(true);
         }
         thread::sleep(rt, Duration::from_millis(PAUSE));
     }
-    Ok(None)
+    Ok(false)
 }
 
-/// The members of the group, if there are two.
+/// Adds the members of the group, if there are two.
 fn two_at<R: Wait + Sync>(
     rt: &R,
     alloc: Global,
     node: &Node,
     caller: &mut Pass,
-) -> Result<Option<Members>> {
-    let event = members_of(alloc)?;
-    match caller.call(node, rt, event)? {
-        Reply::Pids(pids) if pids.as_slice().len() == 2 => Ok(Some(pids.try_clone(alloc)?)),
-        _ => Ok(None),
+    head: &str,
+    text: &mut Vec<u8>,
+) -> Result<bool> {
+    match ask(rt, alloc, node, caller, "members pg g")? {
+        Reply::Pids(pids) if pids.as_slice().len() == 2 => {
+            put_seen(alloc, head, pids, text)?;
+            Ok(true)
+        }
+        _ => Ok(false),
     }
 }
 
-fn members_of(alloc: Global) -> Result<Event, TextFault> {
-    let scope = scope(alloc)?;
-    Ok(Event::Members(scope, group(alloc)?))
+fn put_seen(
+    alloc: Global,
+    head: &str,
+    pids: &Members,
+    text: &mut Vec<u8>,
+) -> Result<(), OutOfMemory> {
+    put_word(head, text)?;
+    put_each(alloc, pids.as_slice(), text)?;
+    put_word("\n", text)
 }
 
 /// Writes whom each node has seen, or that one didn't see both in time: whether both did.
-fn tell_seen<W: Write>(
-    alloc: Global,
-    writer: &mut W,
-    seen: Result<Option<(Members, Members)>>,
-) -> Result<bool> {
-    let Some((at_a, at_b)) = seen? else {
-        writer.write_all(b"late\n")?;
-        return Ok(false);
-    };
-    sees(alloc, writer, b"a@h", &at_a)?;
-    sees(alloc, writer, b"b@h", &at_b)?;
-    Ok(true)
-}
-
-/// Writes whom a node has seen.
-fn sees<W: Write>(alloc: Global, writer: &mut W, name: &[u8], pids: &Members) -> Result<()> {
-    let line = seen_line(alloc, name, pids)?;
-    writer.write_all(line.as_slice())?;
-    Ok(())
-}
-
-fn seen_line(alloc: Global, name: &[u8], pids: &Members) -> Result<Vec<u8>, OutOfMemory> {
-    let mut line = Vec::from_slice(alloc, name)?;
-    line.extend_from_slice(b" sees")?;
-    for pid in pids.as_slice() {
-        line.push(b' ')?;
-        pid.put(alloc, &mut line)?;
+fn tell_seen<W: Write>(writer: &mut W, seen: Result<Option<Vec<u8>>>) -> Result<bool> {
+    let seen = seen?;
+    match &seen {
+        Some(text) => writer.write_all(text.as_slice())?,
+        None => writer.write_all(b"late\n")?,
     }
-    line.push(b'\n')?;
-    Ok(line)
+    Ok(seen.is_some())
 }
 
-/// Closes both nodes.
-fn close_both<W: Write>(alloc: Global, writer: &mut W, near: Parted, far: Parted) -> Result<bool> {
-    close(alloc, writer, b"a@h", near)?;
-    close(alloc, writer, b"b@h", far)?;
+/// Closes both nodes, and writes that.
+fn close_both<W: Write>(alloc: Global, writer: &mut W, both: Both) -> Result<bool> {
+    let (near, far) = both.into_parts();
+    near.close(alloc)?;
+    writer.write_all(b"a@h closed\n")?;
+    far.close(alloc)?;
+    writer.write_all(b"b@h closed\n")?;
     Ok(true)
-}
-
-/// Closes a node with all its passes, and writes that.
-fn close<W: Write>(alloc: Global, writer: &mut W, name: &[u8], parted: Parted) -> Result<()> {
-    let Parted {
-        node,
-        caller,
-        served,
-    } = parted;
-    let passes = vec![in alloc; caller, served.pair.reader, served.pair.writer]?;
-    if let Err(fault) = node.close(passes) {
-        bail!("the node is not closed: {}", fault.rule);
-    }
-    writer.write_all(name)?;
-    writer.write_all(b" closed\n")?;
-    Ok(())
-}
-
-fn scope(alloc: Global) -> Result<Scope, TextFault> {
-    Scope::parse(alloc, b"pg")
-}
-
-fn group(alloc: Global) -> Result<Group, TextFault> {
-    Group::parse(alloc, b"g")
 }

@@ -2,7 +2,7 @@
 use crate::cookies::Cookies;
 use anyhow::{Error, Result, anyhow, bail};
 use dist_types::{NodeName, TryClone};
-use pg_archive::{Asked, Life, Line, LineFault, Replay, ReplayFault, Scratch, Told, read_line};
+use pg_archive::{Asked, Life, Line, Replay, Scratch, Told, read_line};
 use pg_script::{RunFault, TURNS};
 use pg_text::without_feed;
 use policy_audit::Event;
@@ -10,7 +10,7 @@ use std::alloc::Global;
 use std::io::BufRead;
 
 /// How many lives and entries agreed with the policy.
-#[derive(Clone, Copy, Debug, PartialEq, Eq)]
+#[derive(Clone, Copy)]
 pub struct Agreed {
     pub lives: u64,
     pub entries: u64,
@@ -24,17 +24,30 @@ struct Played {
 }
 
 /// What plays the lines of archives.
-#[derive(Drop)]
 pub struct Player {
     alloc: Global,
     scratch: Scratch,
-    cookies: Cookies,
+    /// The cookies that the lives begin with, and that their entries set.
+    pub cookies: Cookies,
     played: Option<Played>,
     agreed: Agreed,
 }
 
+impl Drop for Player {
+    fn drop(self) {
+        let Player {
+            alloc: _,
+            scratch: _,
+            cookies: _,
+            played: _,
+            agreed: _,
+        } = self;
+    }
+}
+
 impl Player {
-    pub fn new(alloc: Global, cookies: Cookies) -> Player {
+    /// A player without cookies.
+    pub fn new(alloc: Global) -> Player {
         let agreed = Agreed {
             lives: 0,
             entries: 0,
@@ -42,7 +55,7 @@ impl Player {
         Player {
             alloc,
             scratch: Scratch::new(alloc),
-            cookies,
+            cookies: Cookies::new(alloc),
             played: None,
             agreed,
         }
@@ -56,18 +69,27 @@ impl Player {
     /// and the line.
     pub fn play<R: BufRead>(&mut self, path: &str, reader: &mut R) -> Result<()> {
         let mut line = Vec::new(self.alloc);
+        self.play_lines(path, reader, &mut line)
+    }
+
+    fn play_lines<R: BufRead>(
+        &mut self,
+        path: &str,
+        reader: &mut R,
+        line: &mut Vec<u8>,
+    ) -> Result<()> {
         for turn in 0..TURNS {
-            match pg_script::read_line(&mut line, reader) {
+            match pg_script::read_line(line, reader) {
                 Ok(true) => {}
                 Ok(false) => return Ok(()),
                 Err(RunFault::Memory) => bail!("out of memory"),
-                Err(_) => bail!("{path:.60}: it can't be read"),
+                Err(_) => return Err(of_file(path, "it can't be read")),
             }
             if let Err(error) = self.follow(without_feed(line.as_slice())) {
                 bail!("{path:.60}: line {}: {error}", turn + 1);
             }
         }
-        bail!("{path:.60}: it has too many lines")
+        Err(of_file(path, "it has too many lines"))
     }
 
     /// Plays a line.
@@ -75,7 +97,7 @@ impl Player {
         match read_line(&mut self.scratch, line) {
             Ok(Line::Life(life)) => self.open(life),
             Ok(Line::Entry(told)) => self.step(told, line),
-            Err(fault) => Err(unread(fault)),
+            Err(fault) => Err(Error::from(fault)),
         }
     }
 
@@ -92,35 +114,34 @@ impl Player {
 
     /// Plays an entry.
     fn step(&mut self, told: Told, line: &[u8]) -> Result<()> {
+        let Some(played) = &mut self.played else {
+            drop(told);
+            bail!("no life begins before this entry");
+        };
         let Told {
             number,
             seat,
             asked,
         } = told;
-        let Some(played) = &mut self.played else {
-            bail!("no life begins before this entry");
-        };
-        let event = match asked {
-            Asked::Event(event) => event,
-            Asked::SetCookie => { Event::SetCookie(self.cookies.next(self.alloc, &played.name)?) }
-            Asked::SetCookieFor(peer) => {
-                let cookie = self.cookies.next(self.alloc, &peer)?;
-                Event::SetCookieFor(peer, cookie)
-            }
-        };
-        played
-            .replay
-            .follow(number, seat, event, line)
-            .map_err(differs)?;
+        let event = event_of(self.alloc, &mut self.cookies, &played.name, asked)?;
+        played.replay.follow(number, seat, event, line)?;
         self.agreed.entries = self.agreed.entries.saturating_add(1);
         Ok(())
     }
 }
 
-fn unread(fault: LineFault) -> Error {
-    anyhow!("{fault}")
+/// The event, with the cookie that it sets, on the node of this name.
+fn event_of(alloc: Global, cookies: &mut Cookies, name: &NodeName, asked: Asked) -> Result<Event> {
+    match asked {
+        Asked::Event(event) => Ok(event),
+        Asked::SetCookie => Ok(Event::SetCookie(cookies.next(alloc, name)?)),
+        Asked::SetCookieFor(peer) => {
+            let cookie = cookies.next(alloc, &peer)?;
+            Ok(Event::SetCookieFor(peer, cookie))
+        }
+    }
 }
 
-fn differs(fault: ReplayFault) -> Error {
-    anyhow!("{fault}")
+fn of_file(path: &str, what: &str) -> Error {
+    anyhow!("{path:.60}: {what}")
 }

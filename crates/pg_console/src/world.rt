@@ -6,7 +6,7 @@ use std::io::{BufRead, Write};
 use world_script::{Lab, LabFault};
 
 /// Why a script of world steps did not end with its last line.
-#[derive(Clone, Copy, Debug, PartialEq, Eq)]
+#[derive(Clone, Copy)]
 pub enum Stop {
     Run(RunFault),
     /// The node of this line has the name of an earlier one.
@@ -28,13 +28,21 @@ pub fn play_world<R: BufRead, W: Write>(
     writer: &mut W,
 ) -> Result<(), Stop> {
     let mut lab = Lab::new(alloc);
-    let mut out = Vec::new(alloc);
+    play_lines(&mut lab, &mut Vec::new(alloc), reader, line, writer)
+}
+
+fn play_lines<R: BufRead, W: Write>(
+    lab: &mut Lab,
+    out: &mut Vec<u8>,
+    reader: &mut R,
+    line: &mut Vec<u8>,
+    writer: &mut W,
+) -> Result<(), Stop> {
     for turn in 0..TURNS {
         if !read_line(line, reader)? {
             return Ok(());
         }
-        let said = without_feed(line.as_slice());
-        answer_line(turn + 1, said, &mut lab, &mut out, writer)?;
+        answer_line(turn + 1, without_feed(line.as_slice()), lab, out, writer)?;
     }
     Err(Stop::Run(RunFault::Read))
 }
