@@ -52,12 +52,24 @@ impl<'a> Desk<'a> {
     ) -> io::Result<()> {
         let mut line = Vec::new(self.hub.alloc);
         let mut out = Vec::new(self.hub.alloc);
+        self.answer_each(rt, lines, writer, &mut line, &mut out)
+    }
+
+    /// The same, with room for a line and for an answer.
+    fn answer_each<R: Wait + Clock, L: Lines, W: Write>(
+        &self,
+        rt: &R,
+        lines: &mut L,
+        writer: &mut W,
+        line: &mut Vec<u8>,
+        out: &mut Vec<u8>,
+    ) -> io::Result<()> {
         for _ in rt.forever() {
             for _ in 0..IN_A_ROW {
                 if self.hub.signals.is_quitting() {
                     return Ok(());
                 }
-                let asked = match lines.next(&mut line) {
+                let asked = match lines.next(line) {
                     pg_streams::Next::Line => Some(line.as_slice()),
                     pg_streams::Next::LostLine => None,
                     pg_streams::Next::End => return Ok(()),
@@ -65,9 +77,9 @@ impl<'a> Desk<'a> {
                 if self.hub.signals.is_draining() {
                     return Ok(());
                 }
-                self.answer_one(rt, asked, &mut out, writer)?;
-                trim(&mut line);
-                trim(&mut out);
+                self.answer_one(rt, asked, out, writer)?;
+                trim(line);
+                trim(out);
             }
             self.hub.crowd.let_go_first(rt);
         }
@@ -150,10 +162,21 @@ impl<'a> Desk<'a> {
     pub fn tell_all<R: Wait + Clock, W: Write>(
         &self,
         rt: &R,
-        mut seen: Seen,
+        seen: Seen,
         writer: &mut W,
     ) -> io::Result<()> {
         let mut out = Vec::new(self.hub.alloc);
+        self.tell_each(rt, seen, writer, &mut out)
+    }
+
+    /// The same, with room for a piece of news.
+    fn tell_each<R: Wait + Clock, W: Write>(
+        &self,
+        rt: &R,
+        mut seen: Seen,
+        writer: &mut W,
+        out: &mut Vec<u8>,
+    ) -> io::Result<()> {
         for _ in rt.forever() {
             if !self.hub.wait_for_news(rt, self.seat, seen, &self.has_ended) {
                 return Ok(());
@@ -161,16 +184,16 @@ impl<'a> Desk<'a> {
             let printing = self.printing.lock(rt);
             out.clear();
             if self.hub.readers.is_behind(self.seat) {
-                return self.give_up(&mut out, writer);
+                return self.give_up(out, writer);
             }
-            match self.hub.tell(rt, self.seat, &mut out) {
+            match self.hub.tell(rt, self.seat, out) {
                 Ok(Some(now)) => seen = now,
                 Ok(None) => return Ok(()),
                 Err(_) => return Err(io::Error::from(ErrorKind::OutOfMemory)),
             }
             send(writer, out.as_slice())?;
             drop(printing);
-            trim(&mut out);
+            trim(out);
         }
         unreachable!()
     }

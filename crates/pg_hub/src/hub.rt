@@ -73,7 +73,7 @@ pub struct Hub {
     pub notes: Notes,
     pub(crate) brake: Brake,
     /// The last number that an entry may have.
-    last_entry: u32,
+    pub last_entry: u32,
     pub keeping: Keeping,
     pub readers: Readers,
     /// Who has no monitors waits there, with the node's lock, and the others at the node's news.
@@ -132,7 +132,7 @@ impl Hub {
 
     /// Whether the next life is to begin: room in the audit or memory is at its end.
     pub fn is_ending(&self, shared: &Shared) -> bool {
-        self.is_nearly_full(shared.core()) || self.signals.wants_memory(shared)
+        is_nearly_full(self.last_entry, shared.core()) || self.signals.wants_memory(shared)
     }
 
     /// Whether this life is to end, with the program or for the next one.
@@ -161,12 +161,6 @@ impl Hub {
         self.signals.begin_anew();
     }
 
-    /// Whether the audit has come to the last of its numbers, but for those that a life needs to end.
-    pub fn is_nearly_full(&self, core: &NodeCore) -> bool {
-        let spared = (self.last_entry / 16).min(SPARED);
-        core.audit().len() >= self.last_entry.saturating_sub(spared) as usize
-    }
-
     pub fn into_parts(self) -> (Node, House) {
         let Hub { node, house, .. } = self;
         (node, house.into_inner())
@@ -184,4 +178,11 @@ impl Hub {
         self.node.wake(rt);
         self.notices.told.notify_all();
     }
+}
+
+/// Whether an audit has come to the last of its numbers, which is this one, but for those that a
+/// life needs to end.
+pub fn is_nearly_full(last_entry: u32, core: &NodeCore) -> bool {
+    let spared = (last_entry / 16).min(SPARED);
+    core.audit().len() >= last_entry.saturating_sub(spared) as usize
 }

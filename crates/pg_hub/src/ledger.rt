@@ -14,7 +14,6 @@ use std::sync::Wait;
 use std::time::{Clock, Instant};
 
 /// A link that is up.
-#[derive(Drop)]
 pub(crate) struct UpLink {
     /// The number of the entry that opened it.
     pub(crate) number: u32,
@@ -26,6 +25,20 @@ pub(crate) struct UpLink {
     pub(crate) address: Option<SocketAddr>,
     /// When it was seen up first.
     pub(crate) since: Option<Instant>,
+}
+
+impl Drop for UpLink {
+    fn drop(self) {
+        let UpLink {
+            number: _,
+            peer: _,
+            creation: _,
+            is_visible: _,
+            kind: _,
+            address: _,
+            since: _,
+        } = self;
+    }
 }
 
 /// Who looks at the audit, and knows of links what the node doesn't.
@@ -43,7 +56,6 @@ impl<R: Wait + Clock> Look<'_, '_, R> {
 }
 
 /// What the audit of a life has said so far.
-#[derive(Drop)]
 pub(crate) struct Ledger {
     /// In the order in which they came up.
     pub(crate) links: Vec<UpLink>,
@@ -61,6 +73,22 @@ pub(crate) struct Ledger {
     /// How much of the audit was looked at, and of which life.
     entries: usize,
     creation: u32,
+}
+
+impl Drop for Ledger {
+    fn drop(self) {
+        let Ledger {
+            links: _,
+            scopes: _,
+            allowed: _,
+            refusals: _,
+            chronicle: _,
+            census: _,
+            refused: _,
+            entries: _,
+            creation: _,
+        } = self;
+    }
 }
 
 impl Ledger {

@@ -34,7 +34,7 @@ pub use brake::{LetThrough, Promise};
 pub use clients::{Clients, Stream};
 pub use crowd::Crowd;
 pub use host::Host;
-pub use hub::{House, Hub, HubSettings};
+pub use hub::{House, Hub, HubSettings, is_nearly_full};
 pub use keeping::Keeping;
 pub use logging::UntakenPeers;
 pub use memory::Memory;

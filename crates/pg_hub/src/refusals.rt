@@ -15,7 +15,6 @@ const KEPT: usize = 16;
 const LINKS: usize = 64;
 
 /// An event that was refused.
-#[derive(Drop)]
 pub(crate) struct Refusal {
     pub(crate) entry: u32,
     /// The kind of the event, as the audit tells it.
@@ -24,6 +23,18 @@ pub(crate) struct Refusal {
     pub(crate) peer: Option<NodeName>,
     /// Where the other end is.
     pub(crate) address: Option<SocketAddr>,
+}
+
+impl Drop for Refusal {
+    fn drop(self) {
+        let Refusal {
+            entry: _,
+            kind: _,
+            rule: _,
+            peer: _,
+            address: _,
+        } = self;
+    }
 }
 
 impl TryClone for Refusal {

@@ -26,16 +26,7 @@ pub(crate) struct Reporting<'a, R: Wait + Clock> {
 impl<R: Wait + Clock> Surroundings for Reporting<'_, R> {
     fn report(&self, report: Report) -> Result<Vec<u8>, OutOfMemory> {
         let mut out = Vec::new(self.hub.alloc);
-        match report {
-            Report::Own => self.put_own(&mut out)?,
-            Report::Status => self.put_status(&mut out)?,
-            Report::Links => self.put_links(&mut out)?,
-            Report::Dials => self.put_dials(&mut out)?,
-            Report::Scopes => put_scopes(&*self.ledger()?, &mut out)?,
-            Report::Allowed => put_allowed(&*self.ledger()?, &mut out)?,
-            Report::Clients => self.put_clients(&mut out)?,
-            Report::Refusals => put_refusals(self.hub.alloc, &*self.ledger()?, &mut out)?,
-        }
+        self.put(report, &mut out)?;
         put_word("\n", &mut out)?;
         Ok(out)
     }
@@ -51,6 +42,19 @@ impl<R: Wait + Clock> Surroundings for Reporting<'_, R> {
 }
 
 impl<R: Wait + Clock> Reporting<'_, R> {
+    fn put(&self, report: Report, out: &mut Vec<u8>) -> Result<(), OutOfMemory> {
+        match report {
+            Report::Own => self.put_own(out),
+            Report::Status => self.put_status(out),
+            Report::Links => self.put_links(out),
+            Report::Dials => self.put_dials(out),
+            Report::Scopes => put_scopes(&*self.ledger()?, out),
+            Report::Allowed => put_allowed(&*self.ledger()?, out),
+            Report::Clients => self.put_clients(out),
+            Report::Refusals => put_refusals(self.hub.alloc, &*self.ledger()?, out),
+        }
+    }
+
     /// The ledger, as the node stands now. The node's lock is free again.
     pub(crate) fn ledger(&self) -> Result<MutexGuard<'_, Ledger>, OutOfMemory> {
         let look = self.hub.look(self.rt);
@@ -111,21 +115,33 @@ fn put_status(view: &NodeView, out: &mut Vec<u8>) -> Result<(), OutOfMemory> {
     put_number(" creation=", u64::from(view.creation), out)?;
     put_word(" version=", out)?;
     put_word(view.version, out)?;
-    put_number(" seconds=", view.seconds, out)?;
-    put_number(" lives=", view.lives, out)?;
-    put_part(" links=", view.links.len() as u64, view.most_links, out)?;
-    put_number(" otp_links=", view.otp_links, out)?;
-    put_part(" clients=", view.clients, view.most_clients, out)?;
-    put_number(" entries=", view.entries, out)?;
-    put_part(" kept=", view.kept, view.most_kept, out)?;
-    put_number(" lost=", view.lost, out)?;
-    put_number(" archived=", view.archived, out)?;
-    put_number(" refused=", view.refused, out)?;
-    put_number(" told=", view.told, out)?;
+    for (word, number, most) in counts_of(view) {
+        put_number(word, number, out)?;
+        if let Some(most) = most {
+            put_number("/", most, out)?;
+        }
+    }
     match view.bytes {
         Some(bytes) => put_number(" bytes=", bytes, out),
         None => put_word(" bytes=-", out),
     }
+}
+
+/// What is counted of a node, and of how many that there may be, if there is a most.
+fn counts_of(view: &NodeView) -> [(&'static str, u64, Option<u64>); 11] {
+    [
+        (" seconds=", view.seconds, None),
+        (" lives=", view.lives, None),
+        (" links=", view.links.len() as u64, Some(view.most_links)),
+        (" otp_links=", view.otp_links, None),
+        (" clients=", view.clients, Some(view.most_clients)),
+        (" entries=", view.entries, None),
+        (" kept=", view.kept, Some(view.most_kept)),
+        (" lost=", view.lost, None),
+        (" archived=", view.archived, None),
+        (" refused=", view.refused, None),
+        (" told=", view.told, None),
+    ]
 }
 
 /// Adds a link: its number, the peer with its creation, whether it is visible, where it leads to,
@@ -221,10 +237,4 @@ fn put_named(name: &NodeName, out: &mut Vec<u8>) -> Result<(), OutOfMemory> {
 fn put_text(text: &str, out: &mut Vec<u8>) -> Result<(), OutOfMemory> {
     put_word(" ", out)?;
     put_word(text, out)
-}
-
-/// Adds how many there are of so many that there may be.
-fn put_part(word: &str, number: u64, most: u64, out: &mut Vec<u8>) -> Result<(), OutOfMemory> {
-    put_number(word, number, out)?;
-    put_number("/", most, out)
 }

@@ -30,7 +30,6 @@ pub struct EndedLife {
     pub next: Option<Life>,
 }
 
-#[derive(Drop)]
 struct State {
     /// Pages of the life that is written, and of the one behind it.
     pages: PageQueue,
@@ -46,6 +45,22 @@ struct State {
     has_ended: bool,
     /// Why a life wasn't closed.
     fault: Option<CloseRule>,
+}
+
+impl Drop for State {
+    fn drop(self) {
+        let State {
+            pages: _,
+            later: _,
+            creation: _,
+            lost: _,
+            may_write: _,
+            life: _,
+            is_closing: _,
+            has_ended: _,
+            fault: _,
+        } = self;
+    }
 }
 
 impl State {
@@ -75,7 +90,6 @@ enum Task {
 }
 
 /// Closes one life after another, and writes what they keep no more.
-#[derive(Drop)]
 pub struct Closer<'a> {
     alloc: Global,
     state: Mutex<State>,
@@ -84,6 +98,19 @@ pub struct Closer<'a> {
     most: usize,
     archive: Option<Mutex<Recorder<'a>>>,
     pub reserve: Reserve,
+}
+
+impl Drop for Closer<'_> {
+    fn drop(self) {
+        let Closer {
+            alloc: _,
+            state: _,
+            moved: _,
+            most: _,
+            archive: _,
+            reserve: _,
+        } = self;
+    }
 }
 
 impl<'a> Closer<'a> {

@@ -1,11 +1,12 @@
 //! One life after another, until the end of the program.
-use crate::closing::{Closer, not_closed};
+use crate::closing::{Closer, EndedLife, not_closed};
 use crate::life::{Site, live};
 use crate::turn::{LifeMaker, last};
 use anyhow::{Result, bail};
 use node_net::Lane;
 use pg_hub::{Host, Hub};
 use pg_log::{Level, Log, number};
+use std::alloc::Global;
 use std::sync::{Arc, Wait};
 use std::time::{Clock, Instant};
 
@@ -100,18 +101,32 @@ fn check_memory<R: Wait + Clock>(rt: &R, hub: &Hub, closer: &Closer<'_>) -> Resu
     Ok(wants_memory)
 }
 
-/// Closes the last life. An error where that or the life before has failed, or entries aren't in the archive.
+/// Closes the last life, whose lanes have come back. An error where that or the life before has failed,
+/// or entries aren't in the archive.
 pub fn finish<R: Wait + Clock>(
     rt: &R,
     hub: Hub,
     closer: &Closer<'_>,
-    lanes: Vec<Lane>,
+    ended: Result<Vec<Lane>>,
 ) -> Result<()> {
+    let (alloc, seats) = (hub.alloc, hub.seats);
+    let log = Arc::try_clone(&hub.log);
+    let (node, house) = hub.into_parts();
+    let lanes = ended?;
     closer.check(rt)?;
     closer.reserve.release(rt);
-    let (alloc, log) = (hub.alloc, Arc::try_clone(&hub.log)?);
-    let life = last(hub, lanes)?;
-    if let Err(rule) = closer.close(rt, alloc, life, &log) {
+    let life = last(alloc, seats, node, house, lanes)?;
+    close_last(rt, alloc, closer, life, &*log?)
+}
+
+fn close_last<R: Wait + Clock>(
+    rt: &R,
+    alloc: Global,
+    closer: &Closer<'_>,
+    life: EndedLife,
+    log: &Log,
+) -> Result<()> {
+    if let Err(rule) = closer.close(rt, alloc, life, log) {
         return Err(not_closed(rule));
     }
     closer.check_archive(rt)

@@ -17,7 +17,6 @@ use std::time::Clock;
 const GATHERED: usize = 256;
 
 /// Where entries are written, and what was said of that.
-#[derive(Drop)]
 pub struct Recorder<'a> {
     archive: Archive<ArchiveFiles<'a>>,
     path: &'a str,
@@ -25,6 +24,17 @@ pub struct Recorder<'a> {
     reopened: u32,
     /// A write has failed since the last one that didn't, which was said.
     is_failing: bool,
+}
+
+impl Drop for Recorder<'_> {
+    fn drop(self) {
+        let Recorder {
+            archive: _,
+            path: _,
+            reopened: _,
+            is_failing: _,
+        } = self;
+    }
 }
 
 impl<'a> Recorder<'a> {

@@ -9,7 +9,7 @@ use node_core::NodeCore;
 use node_net::Lane;
 use node_threads::{Node, Pass};
 use pg_archive::Life;
-use pg_hub::{House, Hub, HubSettings};
+use pg_hub::{House, Hub, HubSettings, is_nearly_full};
 use pg_session::{Caller, Session};
 use policy_audit::{Event, Opening};
 use rand_chacha::ChaCha20Rng;
@@ -25,10 +25,15 @@ fn passes_for(seats: u32) -> u32 {
 }
 
 /// Makes the lanes of each life. No two of them draw the same challenges.
-#[derive(Drop)]
 struct LaneMaker {
     words: ChaCha20Rng,
     made: u64,
+}
+
+impl Drop for LaneMaker {
+    fn drop(self) {
+        let LaneMaker { words: _, made: _ } = self;
+    }
 }
 
 impl LaneMaker {
@@ -76,11 +81,19 @@ fn next_caller(passes: &mut vec::IntoIter<Pass>) -> Result<Caller> {
 }
 
 /// Makes one life after another.
-#[derive(Drop)]
 pub struct LifeMaker {
     /// That of the last life.
     opening: Opening,
     lanes: LaneMaker,
+}
+
+impl Drop for LifeMaker {
+    fn drop(self) {
+        let LifeMaker {
+            opening: _,
+            lanes: _,
+        } = self;
+    }
 }
 
 impl LifeMaker {
@@ -101,20 +114,25 @@ impl LifeMaker {
         settings: HubSettings,
         told: Vec<Event>,
     ) -> Result<(Hub, Vec<Lane>)> {
-        let seats = settings.seats;
+        let (node, house, lanes) = self.make(rt, alloc, settings.seats, told)?;
+        check_room(rt, settings.last_entry, &node)?;
+        Ok((Hub::new(rt, alloc, node, house, settings), lanes))
+    }
+
+    /// A node, and who has which of its passes.
+    fn make<R: Wait>(
+        &mut self,
+        rt: &R,
+        alloc: Global,
+        seats: u32,
+        told: Vec<Event>,
+    ) -> Result<(Node, House, Vec<Lane>)> {
         let opening = copy(alloc, &self.opening)?;
         let (node, passes) = Node::new(alloc, opening, passes_for(seats))?;
         let mut passes = passes.into_iter();
-        let keeper = new_keeper(rt, &node, &mut passes, told)?;
-        let sessions = new_sessions(alloc, &mut passes, seats)?;
+        let house = new_house(rt, alloc, &node, &mut passes, seats, told)?;
         let lanes = self.lanes.make_all(alloc, &mut passes)?;
-        let house = House {
-            keeper: Mutex::new(keeper),
-            sessions,
-        };
-        let hub = Hub::new(rt, alloc, node, house, settings);
-        check_room(rt, &hub, &hub.node)?;
-        Ok((hub, lanes))
+        Ok((node, house, lanes))
     }
 
     /// Ends a life, whose lanes have come back, and begins the next one with the next creation: the lanes of that, and the life
@@ -145,11 +163,27 @@ impl LifeMaker {
 }
 
 /// An error where what a new node was told first leaves no room.
-fn check_room<R: Wait>(rt: &R, hub: &Hub, node: &Node) -> Result<()> {
-    if hub.is_nearly_full(node.shared.lock(rt).core()) {
+fn check_room<R: Wait>(rt: &R, last_entry: u32, node: &Node) -> Result<()> {
+    if is_nearly_full(last_entry, node.shared.lock(rt).core()) {
         bail!("--last-entry: too few for the cookies, names and scopes that were set");
     }
     Ok(())
+}
+
+/// The house of a new node, which is told these events.
+fn new_house<R: Wait>(
+    rt: &R,
+    alloc: Global,
+    node: &Node,
+    passes: &mut vec::IntoIter<Pass>,
+    seats: u32,
+    told: Vec<Event>,
+) -> Result<House> {
+    let keeper = new_keeper(rt, node, passes, told)?;
+    Ok(House {
+        keeper: Mutex::new(keeper),
+        sessions: new_sessions(alloc, passes, seats)?,
+    })
 }
 
 fn new_keeper<R: Wait>(
@@ -200,7 +234,7 @@ fn exchange<R: Wait>(
     let mut house = hub.house.write(rt);
     let settings = held(hub.alloc, hub.node.shared.lock(rt).core(), begun)?;
     let keeper = new_keeper(rt, node, new, settings)?;
-    check_room(rt, hub, node)?;
+    check_room(rt, hub.last_entry, node)?;
     swap(&mut *hub.node.shared.lock(rt), &mut *node.shared.lock(rt));
     hub.begin_anew();
     old.push(replace(&mut house.keeper, Mutex::new(keeper)).into_inner())?;
@@ -247,10 +281,14 @@ fn passes_of(alloc: Global, seats: u32, lanes: Vec<Lane>) -> Result<Vec<Pass>> {
     Ok(passes)
 }
 
-/// The end of the last life.
-pub fn last(hub: Hub, lanes: Vec<Lane>) -> Result<EndedLife> {
-    let (alloc, seats) = (hub.alloc, hub.seats);
-    let (node, house) = hub.into_parts();
+/// The end of the last life, of a node in this house.
+pub fn last(
+    alloc: Global,
+    seats: u32,
+    node: Node,
+    house: House,
+    lanes: Vec<Lane>,
+) -> Result<EndedLife> {
     let passes = all_passes(alloc, seats, lanes, house)?;
     Ok(EndedLife {
         node,

@@ -1,14 +1,14 @@
 //! The whole run of the program.
 use anyhow::{Result, bail};
 use command_line::VERSION;
-use dist_types::TryClone;
+use dist_types::{NodeName, TryClone};
 use node_net::{Arrivals, Lane, Limits, Notes, Targets, start_taking};
 use pg_control::{Operator, start_control, start_operator};
 use pg_http::start_pages;
 use pg_hub::{Host, Hub, HubSettings, Keeping, Memory, Readers, UntakenPeers};
 use pg_lives::{ArchivePlace, Closer, LifeMaker, Recorder, Site, finish, given, keep_on, live_on};
 use pg_log::{Field, Level, Log, number, text};
-use pg_options::{LogOptions, Options};
+use pg_options::{Faces, LogOptions, Options, OtpOptions};
 use pg_places::{OtpPlace, Places, Queues, open_otp, open_places, start_registering};
 use pg_session::Seen;
 use pg_streams::Streams;
@@ -56,6 +56,15 @@ impl<'a> Program<'a, '_> {
     }
 }
 
+/// Where it can be reached.
+#[derive(Clone, Copy, Drop)]
+struct Outside<'a> {
+    listen: Option<&'a str>,
+    otp: OtpOptions<'a>,
+    faces: Faces<'a>,
+    limits: Limits,
+}
+
 /// Runs a node until the end of standard input, or until `quit`.
 pub fn run<R: Host + Files<File = File>>(
     rt: &R,
@@ -80,31 +89,60 @@ pub fn run<R: Host + Files<File = File>>(
         audit_size,
         log,
     } = options;
-    let log = open_log(alloc, log, queues)?;
-    let name = opening.name.try_clone(alloc)?;
     let (last_entry, in_parts) = (opening.entries, opening.links > 1);
     let mut maker = LifeMaker::new(opening, words);
-    let place = archive_place(audit, audit_size);
-    let closer = open_closer(rt, files, alloc, place, entries, &maker, &log)?;
-    let keeping = Keeping::new(entries, audit.is_some());
-    let hub_settings = hub_settings(files, alloc, clients, keeping, last_entry, targets, &log)?;
     let settings = given(alloc, allowed, cookies)?;
+    let log = open_log(alloc, log, queues)?;
+    let place = archive_place(audit, audit_size);
+    let keeping = Keeping::new(entries, audit.is_some());
+    let closer = open_closer(rt, files, alloc, place, entries, &maker, &log)?;
+    let hub_settings = hub_settings(files, alloc, clients, keeping, last_entry, targets, log)?;
     let (hub, lanes) = maker.begin(rt, alloc, hub_settings, settings)?;
     hub.notes.edges.set_parts(in_parts);
-    let otp_place = open_otp(rt, alloc, otp, &name, queues, &log)?;
-    let places = open_places(rt, files, alloc, listen, faces, queues, &log)?;
-    log_begin(rt, &hub);
-    let program = Program {
-        hub: &hub,
+    let outside = Outside {
+        listen,
+        otp,
+        faces,
         limits,
+    };
+    let ended = live_outside(rt, files, outside, queues, &hub, &closer, &mut maker, lanes);
+    finish(rt, hub, &closer, ended)
+}
+
+/// Lives where it can be reached, until the end. The lanes come back.
+fn live_outside<R: Host + Files<File = File>>(
+    rt: &R,
+    files: &HostRuntime,
+    outside: Outside<'_>,
+    queues: &Queues,
+    hub: &Hub,
+    closer: &Closer<'_>,
+    maker: &mut LifeMaker,
+    lanes: Vec<Lane>,
+) -> Result<Vec<Lane>> {
+    let (alloc, log) = (hub.alloc, &hub.log);
+    let otp_place = open_otp(rt, alloc, outside.otp, &name_of(rt, hub)?, queues, log)?;
+    let Outside { listen, faces, .. } = outside;
+    let places = open_places(rt, files, alloc, listen, faces, queues, log)?;
+    log_begin(rt, hub);
+    let program = Program {
+        hub,
+        limits: outside.limits,
         places: &places,
         otp_place: otp_place.as_ref(),
-        closer: &closer,
+        closer,
         streams: queues.streams(),
     };
-    let ended = serve(rt, program, &mut maker, lanes);
+    let ended = serve(rt, program, maker, lanes);
     places.remove(rt, alloc);
-    finish(rt, hub, &closer, ended?)
+    ended
+}
+
+fn name_of<R: Wait>(rt: &R, hub: &Hub) -> Result<NodeName> {
+    let shared = hub.node.shared.lock(rt);
+    let name = shared.core().name().try_clone(hub.alloc);
+    drop(shared);
+    Ok(name?)
 }
 
 /// What the hub is made of, with a seat for each client and one for standard input.
@@ -115,17 +153,19 @@ fn hub_settings(
     keeping: Keeping,
     last_entry: u32,
     targets: Arc<Targets>,
-    log: &Arc<Log>,
+    log: Arc<Log>,
 ) -> Result<HubSettings> {
     let seats = clients.saturating_add(1);
+    let readers = Readers::new(alloc, seats)?;
+    let notes = Notes::new(alloc)?;
     Ok(HubSettings {
         seats,
         last_entry,
         keeping,
-        readers: Readers::new(alloc, seats)?,
-        notes: Notes::new(alloc)?,
+        readers,
+        notes,
         version: VERSION,
-        log: Arc::try_clone(log)?,
+        log,
         targets,
         memory: Memory::open(files),
     })

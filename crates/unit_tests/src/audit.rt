@@ -1,10 +1,8 @@
 //! How rules are printed, and copies of what an audit keeps.
-use dist_types::{
-    Body, Group, GroupChange, Items, NodeName, OutOfMemory, Pid, Pids, Scope, TryClone,
-};
+use crate::made::{Process, alone, copies, group_of, pids_of, scope_of};
+use dist_types::{Body, Group, GroupChange, Items, Pids};
 use policy_audit::*;
 use std::alloc::Global;
-use std::test::Fail;
 
 /// A rule, as it is printed.
 struct Printed(Rule, &'static str);
@@ -45,186 +43,146 @@ static RULES: [Printed; 33] = [
     Printed(Rule::PartOrder, "33 PartOrder"),
 ];
 
-#[test]
-fn prints_each_rule_by_number_and_name(rt: HostRuntime) -> Result<(), Fail> {
-    print_rules(rt.alloc())
-}
-
-/// Fails at the first rule that is printed as something else.
-fn print_rules(alloc: Global) -> Result<(), Fail> {
-    for Printed(rule, printed) in &RULES {
-        if !is_printed(alloc, *rule, printed)? {
-            return Err(Fail::new(format_args!("{rule:?} is printed otherwise")));
+/// The first rule that is printed otherwise.
+fn first_wrong(alloc: Global) -> Option<&'static str> {
+    for row in &RULES {
+        if !is_printed(alloc, row) {
+            return Some(row.1);
         }
     }
-    Ok(())
+    None
 }
 
-fn is_printed(alloc: Global, rule: Rule, printed: &str) -> Result<bool, Fail> {
-    let text = format!(in alloc; "{rule}")?;
-    let is_same = text.as_str() == printed;
-    drop(text);
-    Ok(is_same)
+#[test]
+fn prints_each_rule_by_number_and_name(rt: HostRuntime) {
+    let wrong = first_wrong(rt.alloc());
+    assert!(rt; wrong.is_none(), "{}", wrong.unwrap_or(""));
 }
 
-// What makes an event or an answer ends it by `drop` or hands it on, and others use it by reference: a check follows the
-// end of a value, variant by variant, along every way out of the function that holds it.
-
-/// Fails with this text where it does not hold.
-fn expect(what: &'static str, holds: bool) -> Result<(), Fail> {
-    if holds { Ok(()) } else { Err(Fail::new(what)) }
+fn is_printed(alloc: Global, row: &Printed) -> bool {
+    match format!(in alloc; "{}", row.0) {
+        Ok(text) => text.as_str() == row.1,
+        Err(_) => false,
+    }
 }
 
 /// One process of a@h.
-fn process(alloc: Global) -> Result<Pids, Fail> {
-    let node = NodeName::parse(alloc, b"a@h")?;
-    let pid = Pid {
-        node,
-        creation: 5,
-        number: 1,
-    };
-    Ok(Items::of(Vec::from_array(alloc, [pid])?))
+fn process(alloc: Global) -> Option<Pids> {
+    pids_of(
+        alloc,
+        &[Process {
+            node: b"a@h",
+            creation: 5,
+            number: 1,
+        }],
+    )
 }
 
-fn copies_event(alloc: Global, event: Event) -> Result<(), Fail> {
-    let is_same = copied_event(alloc, &event);
-    drop(event);
-    expect("the copy of the event", is_same?)
+/// A group, and that process.
+fn placed(alloc: Global) -> Option<(Group, Pids)> {
+    let pids = process(alloc)?;
+    match group_of(alloc, b"g") {
+        Some(group) => Some((group, pids)),
+        None => None,
+    }
 }
 
-fn copied_event(alloc: Global, event: &Event) -> Result<bool, OutOfMemory> {
-    let copy = event.try_clone(alloc)?;
-    let is_same = copy == *event;
-    drop(copy);
-    Ok(is_same)
+fn join(alloc: Global) -> Option<Event> {
+    let (group, pids) = placed(alloc)?;
+    match scope_of(alloc, b"pg") {
+        Some(scope) => Some(Event::Join(scope, group, pids)),
+        None => None,
+    }
 }
 
-fn copies_reply(alloc: Global, reply: Reply) -> Result<(), Fail> {
-    let is_same = copied_reply(alloc, &reply);
-    drop(reply);
-    expect("the copy of the answer", is_same?)
-}
-
-fn copied_reply(alloc: Global, reply: &Reply) -> Result<bool, OutOfMemory> {
-    let copy = reply.try_clone(alloc)?;
-    let is_same = copy == *reply;
-    drop(copy);
-    Ok(is_same)
-}
-
-fn group(alloc: Global) -> Result<Group, Fail> {
-    Ok(Group::parse(alloc, b"g")?)
+fn frame(alloc: Global) -> Option<Event> {
+    let bytes = Vec::from_slice(alloc, b"sok").ok()?;
+    match Body::of(bytes) {
+        Ok(body) => Some(Event::Frame(1, body)),
+        Err(_) => None,
+    }
 }
 
 #[test]
-fn copies_a_join(rt: HostRuntime) -> Result<(), Fail> {
-    copies_event(rt.alloc(), join(rt.alloc())?)
+fn copies_events(rt: HostRuntime) {
+    let alloc: Global = rt.alloc();
+    assert!(rt; copies(alloc, join(alloc)) && copies(alloc, frame(alloc)));
 }
 
-fn join(alloc: Global) -> Result<Event, Fail> {
-    let scope = Scope::parse(alloc, b"pg")?;
-    Ok(Event::Join(scope, group(alloc)?, process(alloc)?))
+fn group_pids(alloc: Global) -> Option<GroupPids> {
+    match placed(alloc) {
+        Some((group, pids)) => Some(GroupPids { group, pids }),
+        None => None,
+    }
 }
 
-#[test]
-fn copies_a_frame(rt: HostRuntime) -> Result<(), Fail> {
-    let body = Body::of(Vec::from_slice(rt.alloc(), b"sok")?)?;
-    copies_event(rt.alloc(), Event::Frame(1, body))
+/// First contents.
+fn scope_ref(alloc: Global) -> Option<Reply> {
+    let groups = alone(alloc, group_pids(alloc))?;
+    match Contents::of(groups) {
+        Ok(groups) => Some(Reply::ScopeRef { number: 9, groups }),
+        Err(_) => None,
+    }
 }
 
-#[test]
-fn copies_first_contents(rt: HostRuntime) -> Result<(), Fail> {
-    copies_reply(rt.alloc(), scope_ref(rt.alloc())?)
+fn update(alloc: Global) -> Option<Update> {
+    match placed(alloc) {
+        Some((group, pids)) => Some(Update {
+            group,
+            leave: true,
+            pids,
+        }),
+        None => None,
+    }
 }
 
-fn scope_ref(alloc: Global) -> Result<Reply, Fail> {
-    let pids = group_pids(alloc)?;
-    let groups = Contents::of(Vec::from_array(alloc, [pids])?)?;
-    Ok(Reply::ScopeRef { number: 9, groups })
-}
-
-fn group_pids(alloc: Global) -> Result<GroupPids, Fail> {
-    Ok(GroupPids {
-        group: group(alloc)?,
-        pids: process(alloc)?,
-    })
-}
-
-#[test]
-fn copies_updates(rt: HostRuntime) -> Result<(), Fail> {
-    copies_reply(rt.alloc(), updates(rt.alloc())?)
-}
-
-fn updates(alloc: Global) -> Result<Reply, Fail> {
-    let update = update(alloc)?;
-    let updates = Vec::from_array(alloc, [update])?;
-    Ok(Reply::Updates(Updates::of(updates)?))
-}
-
-fn update(alloc: Global) -> Result<Update, Fail> {
-    Ok(Update {
-        group: group(alloc)?,
-        leave: true,
-        pids: process(alloc)?,
-    })
+fn updates(alloc: Global) -> Option<Reply> {
+    let updates = alone(alloc, update(alloc))?;
+    match Updates::of(updates) {
+        Ok(updates) => Some(Reply::Updates(updates)),
+        Err(_) => None,
+    }
 }
 
 #[test]
-fn copies_changes(rt: HostRuntime) -> Result<(), Fail> {
-    copies_change(rt.alloc(), change(rt.alloc())?)
+fn copies_replies(rt: HostRuntime) {
+    let alloc: Global = rt.alloc();
+    assert!(rt; copies(alloc, scope_ref(alloc)) && copies(alloc, updates(alloc)));
 }
 
-fn copies_change(alloc: Global, change: Change) -> Result<(), Fail> {
-    let is_same = copied_change(alloc, &change);
-    drop(change);
-    expect("the copy of the change", is_same?)
+fn group_change(alloc: Global) -> Option<GroupChange> {
+    let (group, left) = placed(alloc)?;
+    match process(alloc) {
+        Some(joined) => Some(GroupChange {
+            group,
+            left,
+            joined,
+        }),
+        None => None,
+    }
 }
 
-fn copied_change(alloc: Global, change: &Change) -> Result<bool, OutOfMemory> {
-    let copy = change.try_clone(alloc)?;
-    let is_same = copy == *change;
-    drop(copy);
-    Ok(is_same)
+fn change(alloc: Global) -> Option<Change> {
+    let groups = alone(alloc, group_change(alloc))?;
+    match scope_of(alloc, b"pg") {
+        Some(scope) => Some(Change {
+            scope,
+            groups: Items::of(groups),
+        }),
+        None => None,
+    }
 }
 
-fn change(alloc: Global) -> Result<Change, Fail> {
-    let scope = Scope::parse(alloc, b"pg")?;
-    let groups = group_changes(alloc)?;
-    Ok(Change { scope, groups })
-}
-
-fn group_changes(alloc: Global) -> Result<Items<GroupChange>, Fail> {
-    let change = group_change(alloc)?;
-    Ok(Items::of(Vec::from_array(alloc, [change])?))
-}
-
-fn group_change(alloc: Global) -> Result<GroupChange, Fail> {
-    Ok(GroupChange {
-        group: group(alloc)?,
-        left: process(alloc)?,
-        joined: process(alloc)?,
-    })
-}
-
-#[test]
-fn copies_an_accepted_verdict(rt: HostRuntime) -> Result<(), Fail> {
-    copies_verdict(rt.alloc(), Verdict::Accepted(scope_ref(rt.alloc())?))
+fn accepted(alloc: Global) -> Option<Verdict> {
+    match scope_ref(alloc) {
+        Some(reply) => Some(Verdict::Accepted(reply)),
+        None => None,
+    }
 }
 
 #[test]
-fn copies_a_refusal(rt: HostRuntime) -> Result<(), Fail> {
-    copies_verdict(rt.alloc(), Verdict::Refused(Rule::BadDigest))
-}
-
-fn copies_verdict(alloc: Global, verdict: Verdict) -> Result<(), Fail> {
-    let is_same = copied_verdict(alloc, &verdict);
-    drop(verdict);
-    expect("the copy of the verdict", is_same?)
-}
-
-fn copied_verdict(alloc: Global, verdict: &Verdict) -> Result<bool, OutOfMemory> {
-    let copy = verdict.try_clone(alloc)?;
-    let is_same = copy == *verdict;
-    drop(copy);
-    Ok(is_same)
+fn copies_changes_and_verdicts(rt: HostRuntime) {
+    let alloc: Global = rt.alloc();
+    assert!(rt; copies(alloc, change(alloc)) && copies(alloc, accepted(alloc)));
+    assert!(rt; copies(alloc, Some(Verdict::Refused(Rule::BadDigest))));
 }

@@ -2,12 +2,13 @@
 ghost use Rattle.std.specs.Prelude.{◌≡◌, IfSome};
 ghost use Rattle.link_frames.specs.Parts.{HasParts};
 
-use crate::parts::{body, message_part, pg, rows, says};
-use dist_types::Body;
+use crate::parts::{Numbered, body, message_part, pg, rows, says};
+use dist_types::{Body, Scope};
 use link_frames::*;
 use std::alloc::Global;
 
 /// A part of a longer message.
+#[derive(Clone, Copy)]
 struct Cut {
     /// What stands before the rows.
     head: &'static [u8],
@@ -77,15 +78,6 @@ static CUTS: [Cuts; 4] = [
     },
 ];
 
-fn bodies(alloc: Global, cuts: &[Cut]) -> Option<Vec<Body>> {
-    let mut bodies = Vec::new(alloc);
-    for cut in cuts {
-        let body = body(alloc, cut.head, cut.first, cut.count)?;
-        bodies.push(body).ok()?;
-    }
-    Some(bodies)
-}
-
 /// A Sync of so many rows.
 fn sync(alloc: Global, count: u32) -> Option<Message>
     ensures { IfSome result HasParts }
@@ -97,32 +89,43 @@ fn sync(alloc: Global, count: u32) -> Option<Message>
     }
 }
 
+fn is_body(alloc: Global, part: &Body, cut: &Cut) -> bool {
+    match body(alloc, cut.head, cut.first, cut.count) {
+        Some(body) => body == *part,
+        None => false,
+    }
+}
+
+fn are_bodies(alloc: Global, parts: &[Body], cuts: &[Cut]) -> bool {
+    for (part, cut) in parts.iter().zip(cuts) {
+        if !is_body(alloc, part, cut) {
+            return false;
+        }
+    }
+    parts.len() == cuts.len()
+}
+
 /// Whether the message is said in these bodies.
-fn is_said(alloc: Global, message: &Message, bodies: &[Body]) -> bool
+fn is_said(alloc: Global, message: &Message, cuts: &[Cut]) -> bool
     requires { HasParts message.now }
 {
     match encode_parts(alloc, message) {
-        Ok(parts) => parts.as_slice() == bodies,
+        Ok(parts) => are_bodies(alloc, &parts, cuts),
         Err(_) => false,
     }
 }
 
-fn is_cut(alloc: Global, cuts: &Cuts) -> Option<bool> {
-    let message = sync(alloc, cuts.count)?;
-    match bodies(alloc, cuts.parts) {
-        Some(bodies) => Some(is_said(alloc, &message, &bodies)),
-        None => None,
+fn is_cut(alloc: Global, cuts: &Cuts) -> bool {
+    match sync(alloc, cuts.count) {
+        Some(message) => is_said(alloc, &message, cuts.parts),
+        None => false,
     }
 }
 
 #[test]
 fn cuts_behind_each_4096_rows(rt: HostRuntime) {
     for cuts in &CUTS {
-        assert!(rt;
-            is_cut(rt.alloc(), cuts) == Some(true),
-            "{} rows",
-            cuts.count
-        );
+        assert!(rt; is_cut(rt.alloc(), cuts), "{} rows", cuts.count);
     }
 }
 
@@ -170,44 +173,54 @@ fn message(alloc: Global, kind: u8) -> Option<Message>
 /// What is read of it.
 fn read(alloc: Global, kind: u8) -> Option<Message2> {
     match kind {
-        b'D' => Some(Message2::Discover(pg(alloc)?)),
-        b'J' => message_part(alloc, PartKind::Join, 1, true, 1),
-        b'L' => message_part(alloc, PartKind::Leave, 1, true, 1),
-        _ => Some(Message2::Down(pg(alloc)?)),
+        b'J' => message_part(alloc, &only(PartKind::Join)),
+        b'L' => message_part(alloc, &only(PartKind::Leave)),
+        _ => whole(kind, pg(alloc)),
     }
 }
 
-/// Whether the message is said in this body alone.
-fn is_in(alloc: Global, message: &Message, body: &[u8]) -> bool
-    requires { HasParts message.now }
-{
-    match encode_parts(alloc, message) {
-        Ok(parts) => is_just(&parts, body),
-        Err(_) => false,
+/// A part of one row, the only one.
+fn only(kind: PartKind) -> Numbered {
+    Numbered {
+        kind,
+        number: 1,
+        last: true,
+        count: 1,
     }
 }
 
-fn is_just(parts: &[Body], body: &[u8]) -> bool {
-    match parts {
-        [part] => part.as_slice() == body,
-        _ => false,
+fn whole(kind: u8, scope: Option<Scope>) -> Option<Message2> {
+    let scope = scope?;
+    Some(if kind == b'D' {
+        Message2::Discover(scope)
+    } else {
+        Message2::Down(scope)
+    })
+}
+
+fn is_made(alloc: Global, row: &Alone) -> bool {
+    let whole = Cut {
+        head: row.body,
+        first: 1,
+        count: 0,
+    };
+    match message(alloc, row.kind) {
+        Some(message) => is_said(alloc, &message, &[whole]),
+        None => false,
     }
 }
 
-fn is_made(alloc: Global, row: &Alone) -> Option<bool> {
-    let message = message(alloc, row.kind)?;
-    Some(is_in(alloc, &message, row.body))
-}
-
-fn is_read(alloc: Global, row: &Alone) -> Option<bool> {
-    let read = read(alloc, row.kind)?;
-    Some(says(alloc, row.body, &read))
+fn is_read(alloc: Global, row: &Alone) -> bool {
+    match read(alloc, row.kind) {
+        Some(read) => says(alloc, row.body, &read),
+        None => false,
+    }
 }
 
 #[test]
 fn says_the_other_messages_in_one_body(rt: HostRuntime) {
     for row in &ALONE {
-        assert!(rt; is_made(rt.alloc(), row) == Some(true), "{}", row.kind);
-        assert!(rt; is_read(rt.alloc(), row) == Some(true), "{}", row.kind);
+        let is_shown = is_made(rt.alloc(), row) && is_read(rt.alloc(), row);
+        assert!(rt; is_shown, "{}", row.kind);
     }
 }

@@ -7,9 +7,11 @@ pub fn bytes_of(alloc: Global, digits: &str) -> Option<Vec<u8>> {
 }
 
 /// Whether these bytes are spelled so.
-pub fn is_spelled(alloc: Global, bytes: &[u8], digits: &str) -> Option<bool> {
-    let spelled = bytes_of(alloc, digits)?;
-    Some(spelled.as_slice() == bytes)
+pub fn is_spelled(alloc: Global, bytes: &[u8], digits: &str) -> bool {
+    match bytes_of(alloc, digits) {
+        Some(spelled) => spelled.as_slice() == bytes,
+        None => false,
+    }
 }
 
 /// The first bytes, so many.

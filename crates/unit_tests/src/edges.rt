@@ -1,24 +1,18 @@
-//! The edge of a link: what is handed in and sent. What can't be played for want of memory is None; the assertions stand in
-//! the tests.
+//! The edge of a link: what is handed in and sent. What can't be played for want of memory is None or false; the assertions
+//! stand in the tests.
 use crate::digits::{bytes_of, exchange, front, is_spelled};
+use crate::made::{Process, alone, group_of, name_of, row_of, scope_of};
 use crate::steps::{STEPS, Step};
-use dist_types::{Group, Items, NodeName, Pid, Row, Scope, TryClone};
-use link_frames::{Message, Rows};
+use dist_types::{Items, Row, Scope, TryClone};
+use link_frames::Message;
 use otp_edge::{Dropped, Edge, HearFault, Heard, Life, Run, counts_in};
 use std::alloc::Global;
 
-// What reads a text has no contract, so that a check doesn't compute with the text.
-fn name_of(alloc: Global, text: &[u8]) -> Option<NodeName> {
-    NodeName::parse(alloc, text).ok()
-}
-
-fn group_of(alloc: Global, text: &[u8]) -> Option<Group> {
-    Group::parse(alloc, text).ok()
-}
-
 fn run_of(alloc: Global, name: &[u8], creation: u32) -> Option<Run> {
-    let node = name_of(alloc, name)?;
-    Some(Run { node, creation })
+    match name_of(alloc, name) {
+        Some(node) => Some(Run { node, creation }),
+        None => None,
+    }
 }
 
 fn new_edge(alloc: Global) -> Option<Edge> {
@@ -27,6 +21,13 @@ fn new_edge(alloc: Global) -> Option<Edge> {
         Some(peer) => Some(Edge::new(alloc, own, peer, false)),
         None => None,
     }
+}
+
+/// What a link keeps beside its edge: the life of the node here, and what the peer states.
+#[derive(Drop)]
+struct Kept {
+    life: Life,
+    stated: Vec<Row>,
 }
 
 /// Cuts a leave to the rows that the peer stated.
@@ -39,35 +40,42 @@ fn cut(alloc: Global, heard: &mut Heard, stated: &[Row]) -> Option<()> {
 }
 
 /// Lists what the peer states, as the node here does.
-fn state(alloc: Global, heard: &Heard, stated: &mut Vec<Row>) -> Option<()> {
+fn state(alloc: Global, heard: &Heard, stated: &mut Vec<Row>) -> bool {
     if heard.down.is_some() {
         stated.clear();
     }
     match &heard.message {
         Some(Message::Sync(_, rows)) => {
             stated.clear();
-            list(alloc, rows.as_slice(), stated)?;
+            return list(alloc, rows.as_slice(), stated);
         }
-        Some(Message::Join(_, rows)) => list(alloc, rows.as_slice(), stated)?,
+        Some(Message::Join(_, rows)) => return list(alloc, rows.as_slice(), stated),
         Some(Message::Leave(_, rows)) => take_away(rows.as_slice(), stated),
         Some(Message::Down(_)) => stated.clear(),
         _ => {}
     }
-    Some(())
+    true
 }
 
-fn list(alloc: Global, rows: &[Row], stated: &mut Vec<Row>) -> Option<()> {
+fn list(alloc: Global, rows: &[Row], stated: &mut Vec<Row>) -> bool {
     for row in rows {
-        let row = row.try_clone(alloc).ok()?;
-        stated.push(row).ok()?;
+        if !list_row(alloc, row, stated) {
+            return false;
+        }
     }
-    Some(())
+    true
+}
+
+fn list_row(alloc: Global, row: &Row, stated: &mut Vec<Row>) -> bool {
+    match row.try_clone(alloc) {
+        Ok(row) => stated.push(row).is_ok(),
+        Err(_) => false,
+    }
 }
 
 fn take_away(rows: &[Row], stated: &mut Vec<Row>) {
     for row in rows {
-        let place = stated.iter().position(|listed| listed == row);
-        if let Some(place) = place
+        if let Some(place) = place_of(row, stated)
             && place < stated.len()
         {
             stated.swap_remove(place);
@@ -75,59 +83,56 @@ fn take_away(rows: &[Row], stated: &mut Vec<Row>) {
     }
 }
 
-/// Whether just this is handed in and sent.
-fn is_made(alloc: Global, heard: &Heard, step: &Step) -> Option<bool> {
-    let handed = heard.link_bytes(alloc, false).ok()?;
-    let is_handed = is_spelled(alloc, &handed, step.handed);
-    drop(handed);
-    Some(is_handed? && is_spelled(alloc, &heard.owed, step.owed)?)
+fn place_of(row: &Row, stated: &[Row]) -> Option<usize> {
+    for (place, listed) in stated.iter().enumerate() {
+        if listed == row {
+            return Some(place);
+        }
+    }
+    None
 }
 
-fn takes(alloc: Global, heard: &mut Heard, stated: &mut Vec<Row>, step: &Step) -> Option<bool> {
-    cut(alloc, heard, stated)?;
-    state(alloc, heard, stated)?;
-    is_made(alloc, heard, step)
-}
-
-fn hears(
-    alloc: Global,
-    edge: &mut Edge,
-    body: &[u8],
-    stated: &mut Vec<Row>,
-    step: &Step,
-) -> Option<bool> {
-    match edge.hear(alloc, body) {
-        Ok(mut heard) => takes(alloc, &mut heard, stated, step),
-        Err(_) => None,
+/// Whether just this is handed in.
+fn is_handed(alloc: Global, heard: &Heard, digits: &str) -> bool {
+    match heard.link_bytes(alloc, false) {
+        Ok(handed) => is_spelled(alloc, &handed, digits),
+        Err(_) => false,
     }
 }
 
-fn says(alloc: Global, edge: &mut Edge, body: &[u8], life: &mut Life, step: &Step) -> Option<bool> {
-    let owed = edge.say_body(alloc, body, life).ok()?;
-    Some(step.handed.is_empty() && is_spelled(alloc, &owed, step.owed)?)
+fn takes(alloc: Global, heard: &mut Heard, stated: &mut Vec<Row>, step: &Step) -> bool {
+    cut(alloc, heard, stated).is_some()
+        && state(alloc, heard, stated)
+        && is_handed(alloc, heard, step.handed)
+        && is_spelled(alloc, &heard.owed, step.owed)
 }
 
-fn plays(
-    alloc: Global,
-    edge: &mut Edge,
-    life: &mut Life,
-    stated: &mut Vec<Row>,
-    step: &Step,
-) -> Option<bool> {
-    let body = bytes_of(alloc, step.body)?;
-    if step.is_said {
-        says(alloc, edge, &body, life, step)
-    } else {
-        hears(alloc, edge, &body, stated, step)
+fn hears(alloc: Global, edge: &mut Edge, body: &[u8], kept: &mut Kept, step: &Step) -> bool {
+    match edge.hear(alloc, body) {
+        Ok(mut heard) => takes(alloc, &mut heard, &mut kept.stated, step),
+        Err(_) => false,
+    }
+}
+
+fn says(alloc: Global, edge: &mut Edge, body: &[u8], kept: &mut Kept, step: &Step) -> bool {
+    match edge.say_body(alloc, body, &mut kept.life) {
+        Ok(owed) => step.handed.is_empty() && is_spelled(alloc, &owed, step.owed),
+        Err(_) => false,
+    }
+}
+
+fn plays(alloc: Global, edge: &mut Edge, kept: &mut Kept, step: &Step) -> bool {
+    match bytes_of(alloc, step.body) {
+        Some(body) if step.is_said => says(alloc, edge, &body, kept, step),
+        Some(body) => hears(alloc, edge, &body, kept, step),
+        None => false,
     }
 }
 
 /// The first step of which something else is made.
-fn first_wrong(alloc: Global, edge: &mut Edge) -> Option<&'static str> {
-    let mut life = Life::new(alloc);
-    let mut stated = Vec::new(alloc);
+fn first_wrong(alloc: Global, edge: &mut Edge, kept: &mut Kept) -> Option<&'static str> {
     for step in &STEPS {
-        if plays(alloc, edge, &mut life, &mut stated, step) != Some(true) {
+        if !plays(alloc, edge, kept, step) {
             return Some(step.what);
         }
     }
@@ -135,8 +140,12 @@ fn first_wrong(alloc: Global, edge: &mut Edge) -> Option<&'static str> {
 }
 
 fn wrong_step(alloc: Global) -> Option<&'static str> {
+    let mut kept = Kept {
+        life: Life::new(alloc),
+        stated: Vec::new(alloc),
+    };
     match new_edge(alloc) {
-        Some(mut edge) => first_wrong(alloc, &mut edge),
+        Some(mut edge) => first_wrong(alloc, &mut edge, &mut kept),
         None => Some("no memory"),
     }
 }
@@ -147,12 +156,13 @@ fn translates_as_another_translator_does(rt: HostRuntime) {
     assert!(rt; wrong.is_none(), "{}", wrong.unwrap_or(""));
 }
 
-/// The scope starts here.
-fn start(alloc: Global, edge: &mut Edge) -> Option<()> {
+/// Whether the scope starts here.
+fn starts(alloc: Global, edge: &mut Edge) -> bool {
     let mut life = Life::new(alloc);
-    let body = bytes_of(alloc, "44046a6f6273")?;
-    edge.say_body(alloc, &body, &mut life).ok()?;
-    Some(())
+    match bytes_of(alloc, "44046a6f6273") {
+        Some(body) => edge.say_body(alloc, &body, &mut life).is_ok(),
+        None => false,
+    }
 }
 
 /// Nothing but the end of the link, or what can be said of a link, whatever comes.
@@ -165,7 +175,7 @@ fn stands(alloc: Global, edge: &mut Edge, body: &[u8]) -> bool {
 
 fn lives(alloc: Global, body: &[u8]) -> bool {
     match new_edge(alloc) {
-        Some(mut edge) => start(alloc, &mut edge).is_some() && stands(alloc, &mut edge, body),
+        Some(mut edge) => starts(alloc, &mut edge) && stands(alloc, &mut edge, body),
         None => false,
     }
 }
@@ -179,38 +189,49 @@ fn lives_changed(alloc: Global, body: &mut [u8], at: usize) -> bool {
 }
 
 /// Whether it lives through each beginning, and each change of a byte to the next.
-fn lives_through(alloc: Global, digits: &str) -> Option<bool> {
-    let mut body = bytes_of(alloc, digits)?;
-    let mut lives_on = true;
+fn lives_on(alloc: Global, body: &mut [u8]) -> bool {
     for at in 0..body.len() {
-        lives_on &= lives(alloc, front(&body, at)) && lives_changed(alloc, &mut body, at);
+        if !lives(alloc, front(body, at)) || !lives_changed(alloc, body, at) {
+            return false;
+        }
     }
-    Some(lives_on)
+    true
+}
+
+fn lives_through(alloc: Global, digits: &str) -> bool {
+    match bytes_of(alloc, digits) {
+        Some(mut body) => lives_on(alloc, &mut body),
+        None => false,
+    }
+}
+
+/// The first step near which something doesn't live.
+fn first_end(alloc: Global) -> Option<&'static str> {
+    for step in &STEPS {
+        if !lives_through(alloc, step.body) {
+            return Some(step.what);
+        }
+    }
+    None
 }
 
 #[test]
 fn takes_whatever_comes(rt: HostRuntime) {
-    for step in &STEPS {
-        assert!(rt;
-            lives_through(rt.alloc(), step.body) == Some(true),
-            "{}",
-            step.what
-        );
-    }
+    let end = first_end(rt.alloc());
+    assert!(rt; end.is_none(), "{}", end.unwrap_or(""));
 }
 
-static TEXTS: [&str; 6] = ["g", "a", "g", "#b:g", "z", "a"];
+static TEXTS: [&[u8]; 6] = [b"g", b"a", b"g", b"#b:g", b"z", b"a"];
 
-fn admits(alloc: Global, life: &mut Life, text: &str) -> Option<bool> {
-    let group = group_of(alloc, text.as_bytes())?;
+fn admits(alloc: Global, life: &mut Life, text: &[u8]) -> Option<bool> {
+    let group = group_of(alloc, text)?;
     life.admit(alloc, &group).ok()
 }
 
 /// How many texts are kept, and how many were refused.
-fn kept(alloc: Global) -> Option<(usize, u64)> {
-    let mut life = Life::new(alloc);
+fn kept_texts(alloc: Global, life: &mut Life) -> Option<(usize, u64)> {
     for text in &TEXTS {
-        if admits(alloc, &mut life, text) != Some(true) {
+        if admits(alloc, life, text) != Some(true) {
             return None;
         }
     }
@@ -219,43 +240,29 @@ fn kept(alloc: Global) -> Option<(usize, u64)> {
 
 #[test]
 fn keeps_a_text_once_that_is_told_as_an_atom(rt: HostRuntime) {
-    assert!(rt; kept(rt.alloc()) == Some((3, 0)));
+    let texts = kept_texts(rt.alloc(), &mut Life::new(rt.alloc()));
+    assert!(rt; texts == Some((3, 0)));
 }
 
-/// A process here.
-fn own_pid(alloc: Global) -> Option<Pid> {
-    let node = name_of(alloc, b"w@127.0.0.1")?;
-    Some(Pid {
-        node,
+/// A process here, in the group `g`.
+fn own_row(alloc: Global) -> Option<Row> {
+    let process = Process {
+        node: b"w@127.0.0.1",
         creation: 77,
         number: 1,
-    })
+    };
+    row_of(alloc, b"g", &process)
 }
 
-/// It, in the group `g`.
-fn own_row(alloc: Global) -> Option<Row> {
-    let pid = own_pid(alloc)?;
-    match group_of(alloc, b"g") {
-        Some(group) => Some(Row { group, pid }),
-        None => None,
-    }
-}
-
-fn own_rows(alloc: Global) -> Option<Rows> {
-    let mut rows = Vec::new(alloc);
-    rows.push(own_row(alloc)?).ok()?;
-    Some(Items::of(rows))
-}
-
-fn scope_of(alloc: Global, number: u32) -> Option<Scope> {
+fn numbered_scope(alloc: Global, number: u32) -> Option<Scope> {
     let text = format!(in alloc; "s{number}").ok()?;
-    Scope::parse(alloc, text.as_bytes()).ok()
+    scope_of(alloc, text.as_bytes())
 }
 
 fn join(alloc: Global, number: u32) -> Option<Message> {
-    let rows = own_rows(alloc)?;
-    match scope_of(alloc, number) {
-        Some(scope) => Some(Message::Join(scope, rows)),
+    let rows = alone(alloc, own_row(alloc))?;
+    match numbered_scope(alloc, number) {
+        Some(scope) => Some(Message::Join(scope, Items::of(rows))),
         None => None,
     }
 }
@@ -270,18 +277,17 @@ fn told(alloc: Global, edge: &mut Edge, life: &mut Life, message: Message) -> Op
 
 fn open_scopes(alloc: Global, edge: &mut Edge, life: &mut Life, count: u32) -> Option<()> {
     for number in 0..count {
-        let scope = scope_of(alloc, number)?;
+        let scope = numbered_scope(alloc, number)?;
         told(alloc, edge, life, Message::Discover(scope))?;
     }
     Some(())
 }
 
 /// How many of 65 scopes are open, how many aren't, how many bytes are told of the last, and how often nothing is.
-fn opened(alloc: Global, edge: &mut Edge) -> Option<(usize, u64, usize, u64)> {
-    let mut life = Life::new(alloc);
-    open_scopes(alloc, edge, &mut life, 65)?;
+fn opened(alloc: Global, edge: &mut Edge, life: &mut Life) -> Option<(usize, u64, usize, u64)> {
+    open_scopes(alloc, edge, life, 65)?;
     let refused = edge.drops.of(Dropped::TooManyScopes);
-    let told = told(alloc, edge, &mut life, join(alloc, 64)?)?;
+    let told = told(alloc, edge, life, join(alloc, 64)?)?;
     Some((
         edge.scopes.len(),
         refused,
@@ -291,7 +297,11 @@ fn opened(alloc: Global, edge: &mut Edge) -> Option<(usize, u64, usize, u64)> {
 }
 
 fn opened_in_new(alloc: Global) -> Option<(usize, u64, usize, u64)> {
-    opened(alloc, &mut new_edge(alloc)?)
+    let mut life = Life::new(alloc);
+    match new_edge(alloc) {
+        Some(mut edge) => opened(alloc, &mut edge, &mut life),
+        None => None,
+    }
 }
 
 #[test]

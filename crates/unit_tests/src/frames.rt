@@ -8,53 +8,47 @@ use std::alloc::Global;
 
 const FLAGS: Flags = Flags(0x1_0100_0001);
 
-/// A name frame up to its name: the flags of bits 0, 24 and 32, the creation 5, and `a@h`.
-static NAME: &[u8] = b"N\0\0\0\x01\x01\0\0\x01\0\0\0\x05\0\x03a@h";
-
-/// A challenge frame up to its name: the same flags, the challenge 123, the creation 4, and `b@h`.
-static CHALLENGE: &[u8] = b"N\0\0\0\x01\x01\0\0\x01\0\0\0\x7b\0\0\0\x04\0\x03b@h";
-
-/// The bytes behind a name, and the version that they say.
+/// Two frames, what stands behind the name of each, and the version that this says. The name frame has the flags of bits 0,
+/// 24 and 32, the creation 5, and `a@h`; the challenge frame the same flags, the challenge 123, the creation 4, and `b@h`.
 struct Behind {
     what: &'static str,
-    bytes: &'static [u8],
+    name: &'static [u8],
+    challenge: &'static [u8],
     version: u8,
 }
 
 static BEHIND: [Behind; 5] = [
     Behind {
         what: "nothing",
-        bytes: b"",
+        name: b"N\0\0\0\x01\x01\0\0\x01\0\0\0\x05\0\x03a@h",
+        challenge: b"N\0\0\0\x01\x01\0\0\x01\0\0\0\x7b\0\0\0\x04\0\x03b@h",
         version: 1,
     },
     Behind {
         what: "02",
-        bytes: b"\x02",
+        name: b"N\0\0\0\x01\x01\0\0\x01\0\0\0\x05\0\x03a@h\x02",
+        challenge: b"N\0\0\0\x01\x01\0\0\x01\0\0\0\x7b\0\0\0\x04\0\x03b@h\x02",
         version: 2,
     },
     Behind {
         what: "02 02",
-        bytes: b"\x02\x02",
+        name: b"N\0\0\0\x01\x01\0\0\x01\0\0\0\x05\0\x03a@h\x02\x02",
+        challenge: b"N\0\0\0\x01\x01\0\0\x01\0\0\0\x7b\0\0\0\x04\0\x03b@h\x02\x02",
         version: 1,
     },
     Behind {
         what: "01",
-        bytes: b"\x01",
+        name: b"N\0\0\0\x01\x01\0\0\x01\0\0\0\x05\0\x03a@h\x01",
+        challenge: b"N\0\0\0\x01\x01\0\0\x01\0\0\0\x7b\0\0\0\x04\0\x03b@h\x01",
         version: 1,
     },
     Behind {
         what: "03",
-        bytes: b"\x03",
+        name: b"N\0\0\0\x01\x01\0\0\x01\0\0\0\x05\0\x03a@h\x03",
+        challenge: b"N\0\0\0\x01\x01\0\0\x01\0\0\0\x7b\0\0\0\x04\0\x03b@h\x03",
         version: 1,
     },
 ];
-
-fn with_behind(alloc: Global, head: &[u8], behind: &[u8]) -> Option<Vec<u8>> {
-    let mut body = Vec::new(alloc);
-    body.extend_from_slice(head).ok()?;
-    body.extend_from_slice(behind).ok()?;
-    Some(body)
-}
 
 fn name_of(version: u8) -> NameFrame<'static>
     ensures { IsVersion version → HasSpelling (frames.Name result) }
@@ -79,65 +73,51 @@ fn challenge_of(version: u8) -> ChallengeFrame<'static>
     }
 }
 
-fn reads_name(alloc: Global, row: &Behind) -> Option<bool> {
-    let body = with_behind(alloc, NAME, row.bytes)?;
-    Some(decode_name(&body).ok()? == name_of(row.version))
+fn is_name(body: &[u8], version: u8) -> bool {
+    match decode_name(body) {
+        Ok(frame) => frame == name_of(version),
+        Err(_) => false,
+    }
 }
 
-fn reads_challenge(alloc: Global, row: &Behind) -> Option<bool> {
-    let body = with_behind(alloc, CHALLENGE, row.bytes)?;
-    Some(decode_challenge(&body).ok()? == challenge_of(row.version))
+fn is_challenge(body: &[u8], version: u8) -> bool {
+    match decode_challenge(body) {
+        Ok(frame) => frame == challenge_of(version),
+        Err(_) => false,
+    }
 }
 
 #[test]
 fn reads_the_version_behind_a_name(rt: HostRuntime) {
     for row in &BEHIND {
-        assert!(rt; reads_name(rt.alloc(), row) == Some(true), "{}", row.what);
-        assert!(rt;
-            reads_challenge(rt.alloc(), row) == Some(true),
-            "{}",
-            row.what
-        );
+        let is_read = is_name(row.name, row.version) && is_challenge(row.challenge, row.version);
+        assert!(rt; is_read, "{}", row.what);
     }
 }
 
-/// Whether the frame is written as these bytes with those behind them.
-fn is_written(alloc: Global, frame: &HsFrame<'_>, head: &[u8], behind: &[u8]) -> Option<bool>
+/// Whether the frame is written as these bytes.
+fn is_written(alloc: Global, frame: &HsFrame<'_>, wanted: &[u8]) -> bool
     requires { HasSpelling frame.now }
 {
-    let wanted = with_behind(alloc, head, behind)?;
     let mut body = Vec::new(alloc);
-    encode(frame, &mut body).ok()?;
-    Some(body == wanted)
+    let has_memory = encode(frame, &mut body).is_ok();
+    has_memory && body.as_slice() == wanted
 }
 
-fn writes_name(alloc: Global, version: u8, behind: &[u8]) -> Option<bool>
+/// Whether both frames are written as in this row.
+fn are_written(alloc: Global, version: u8, row: &Behind) -> bool
     requires { IsVersion version }
 {
-    is_written(alloc, &HsFrame::Name(name_of(version)), NAME, behind)
-}
-
-fn writes_challenge(alloc: Global, version: u8, behind: &[u8]) -> Option<bool>
-    requires { IsVersion version }
-{
-    is_written(
-        alloc,
-        &HsFrame::Challenge(challenge_of(version)),
-        CHALLENGE,
-        behind,
-    )
-}
-
-/// Whether that version is written so behind the names of both.
-fn writes(alloc: Global, version: u8, behind: &[u8]) -> bool
-    requires { IsVersion version }
-{
-    writes_name(alloc, version, behind) == Some(true)
-        && writes_challenge(alloc, version, behind) == Some(true)
+    is_written(alloc, &HsFrame::Name(name_of(version)), row.name)
+        && is_written(
+            alloc,
+            &HsFrame::Challenge(challenge_of(version)),
+            row.challenge,
+        )
 }
 
 #[test]
 fn writes_the_version_behind_a_name(rt: HostRuntime) {
-    assert!(rt; writes(rt.alloc(), 1, b""));
-    assert!(rt; writes(rt.alloc(), 2, b"\x02"));
+    assert!(rt; are_written(rt.alloc(), 1, &BEHIND[0]));
+    assert!(rt; are_written(rt.alloc(), 2, &BEHIND[1]));
 }

@@ -1,5 +1,6 @@
 //! The rows that are kept of a message of which parts have come.
-use crate::parts::{pg, rows, scope_of};
+use crate::made::scope_of;
+use crate::parts::{pg, rows};
 use dist_types::Scope;
 use link_frames::*;
 use std::alloc::Global;
@@ -66,13 +67,13 @@ static COME: [Come; 7] = [
     },
 ];
 
-fn gather(parts: &mut Parts, row: &Come, scope: Scope, rows: Rows) -> Option<()> {
+fn gather(parts: &mut Parts, row: &Come, scope: Scope, rows: Rows) -> bool {
     match parts.gather(row.kind, scope, row.number, rows) {
         Ok(undo) => {
             settle(parts, row.may_come, undo);
-            Some(())
+            true
         }
-        Err(_) => None,
+        Err(_) => false,
     }
 }
 
@@ -82,25 +83,20 @@ fn settle(parts: &mut Parts, may_come: bool, undo: Undo) {
     }
 }
 
-/// Whether the part may come, of `pg`.
-fn may_come(alloc: Global, parts: &Parts, row: &Come) -> Option<bool> {
-    let scope = pg(alloc)?;
-    Some(parts.is_next(row.kind, &scope, row.number))
+/// Whether the part of `pg` may come as the row says, and is gathered.
+fn takes(parts: &mut Parts, row: &Come, scope: Scope, rows: Rows) -> bool {
+    parts.is_next(row.kind, &scope, row.number) == row.may_come && gather(parts, row, scope, rows)
 }
 
-fn take(alloc: Global, parts: &mut Parts, row: &Come) -> Option<()> {
-    let rows = rows(alloc, row.count)?;
+/// The same, and whether so many rows are kept then.
+fn keeps(alloc: Global, parts: &mut Parts, row: &Come) -> bool {
+    let Some(rows) = rows(alloc, row.count) else {
+        return false;
+    };
     match pg(alloc) {
-        Some(scope) => gather(parts, row, scope, rows),
-        None => None,
+        Some(scope) => takes(parts, row, scope, rows) && parts.rows().len() == row.kept,
+        None => false,
     }
-}
-
-/// Whether the part may come as the row says, and how many rows are kept then.
-fn keeps(alloc: Global, parts: &mut Parts, row: &Come) -> Option<bool> {
-    let as_said = may_come(alloc, parts, row)? == row.may_come;
-    take(alloc, parts, row)?;
-    Some(as_said && parts.rows().len() == row.kept)
 }
 
 #[test]
@@ -108,7 +104,7 @@ fn keeps_the_rows_of_parts(rt: HostRuntime) {
     let mut parts = Parts::new();
     for row in &COME {
         let keeps = keeps(rt.alloc(), &mut parts, row);
-        assert!(rt; keeps == Some(true), "{:?} {}", row.kind, row.number);
+        assert!(rt; keeps, "{:?} {}", row.kind, row.number);
     }
 }
 
@@ -119,23 +115,25 @@ fn begun_part(parts: &Parts) -> Option<u32> {
     }
 }
 
-fn break_off(alloc: Global, parts: &mut Parts, text: &[u8]) -> Option<()> {
-    let scope = scope_of(alloc, text)?;
-    parts.break_off(&scope);
-    Some(())
+/// Whether that part is kept behind a stop of this scope.
+fn is_kept(alloc: Global, parts: &mut Parts, text: &[u8], number: Option<u32>) -> bool {
+    match scope_of(alloc, text) {
+        Some(scope) => {
+            parts.break_off(&scope);
+            begun_part(parts) == number
+        }
+        None => false,
+    }
 }
 
-/// The first part of `pg` that is kept behind a stop of another scope, and of its own.
-fn kept(alloc: Global, parts: &mut Parts) -> Option<[Option<u32>; 2]> {
-    take(alloc, parts, &COME[1])?;
-    break_off(alloc, parts, b"q")?;
-    let behind_other = begun_part(parts);
-    break_off(alloc, parts, b"pg")?;
-    Some([behind_other, begun_part(parts)])
+/// Whether a part of `pg` is kept behind the stop of another scope, and not behind its own.
+fn keeps_till_its_stop(alloc: Global, parts: &mut Parts) -> bool {
+    keeps(alloc, parts, &COME[1])
+        && is_kept(alloc, parts, b"q", Some(1))
+        && is_kept(alloc, parts, b"pg", None)
 }
 
 #[test]
 fn a_stop_breaks_off_its_scope_alone(rt: HostRuntime) {
-    let kept = kept(rt.alloc(), &mut Parts::new());
-    assert!(rt; kept == Some([Some(1), None]));
+    assert!(rt; keeps_till_its_stop(rt.alloc(), &mut Parts::new()));
 }

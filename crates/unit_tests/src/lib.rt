@@ -19,6 +19,8 @@ mod frames;
 #[cfg(test)]
 mod gathered;
 #[cfg(test)]
+mod made;
+#[cfg(test)]
 mod monitors;
 #[cfg(test)]
 mod parts;

@@ -1,219 +1,283 @@
 //! Monitors that are moved to the end of a short audit, as no program does: those of a node go to the entry that fetched.
-ghost use Rattle.std.specs.Prelude.{◌≡◌, ◌+◌, ◌≤◌, [], ◌∷◌, IfOk, OnOk, IfSome, length, Some, None, codes};
+ghost use Rattle.std.specs.Prelude.{◌≡◌, ◌+◌, ◌≤◌, [], ◌∷◌, IfOk, OnOk, IfSome, OnSome, length, Some, None, codes};
 ghost use Rattle.group_monitors.specs.Monitors.{monitor_of, HasSeen};
 
-use dist_types::{Group, GroupChange, Items, NodeName, Pid, Pids, Scope, TryClone};
+use crate::made::{Process, alone, group_of, pid_of, scope_of};
+use dist_types::{Group, GroupChange, Items, OutOfMemory, Pid, Pids, Scope};
 use group_monitors::*;
-use policy_audit::{Audit, Change, Event, Rule, Update, Verdict};
+use policy_audit::{Audit, Change, Changes, Event, Rule, Update, Verdict};
 use std::alloc::Global;
-use std::fmt::Write;
-use std::test::Fail;
 
-/// Processes of a@h with these numbers.
-fn pids(alloc: Global, numbers: &[u64]) -> Result<Pids, Fail> {
+/// The process of a@h with this number.
+fn process(alloc: Global, number: u64) -> Option<Pid> {
+    pid_of(
+        alloc,
+        &Process {
+            node: b"a@h",
+            creation: 5,
+            number,
+        },
+    )
+}
+
+fn pids(alloc: Global, numbers: &[u64]) -> Option<Pids> {
     let mut pids = Vec::new(alloc);
     for number in numbers {
-        pids.push(Pid {
-            node: NodeName::parse(alloc, b"a@h")?,
-            creation: 5,
-            number: *number,
-        })?;
+        pids.push(process(alloc, *number)?).ok()?;
     }
-    Ok(Items::of(pids))
+    Some(Items::of(pids))
 }
 
 /// What changes in a group: these processes leave, and those join.
-#[derive(Clone, Copy)]
 struct Moves {
     group: &'static [u8],
     left: &'static [u64],
     joined: &'static [u64],
 }
 
-fn group_change(alloc: Global, moves: Moves) -> Result<GroupChange, Fail> {
-    Ok(GroupChange {
-        group: Group::parse(alloc, moves.group)?,
-        left: pids(alloc, moves.left)?,
-        joined: pids(alloc, moves.joined)?,
-    })
+/// What an entry changes in a scope.
+struct Entered {
+    scope: &'static [u8],
+    moves: &'static [Moves],
 }
 
-/// Makes an entry with these changes in a scope.
-fn enter(alloc: Global, audit: &mut Audit, scope: &[u8], moves: &[Moves]) -> Result<(), Fail>
-    ensures count { OnOk result (length audit.new.entries ≡ length audit.old.entries + 1) }
-    ensures kept { OnOk result (audit.new.forgotten ≡ audit.old.forgotten) }
-{
+const SWAP: Moves = Moves {
+    group: b"g",
+    left: &[1, 1],
+    joined: &[3],
+};
+
+const JOIN: Moves = Moves {
+    group: b"g",
+    left: &[],
+    joined: &[1],
+};
+
+const LEAVE: Moves = Moves {
+    group: b"h",
+    left: &[2],
+    joined: &[],
+};
+
+const LAST: Moves = Moves {
+    group: b"g",
+    left: &[3],
+    joined: &[],
+};
+
+/// The first and the fourth change nothing in pg, and the last comes behind an advance.
+static ENTERED: [Entered; 6] = [
+    Entered {
+        scope: b"other",
+        moves: &[JOIN],
+    },
+    Entered {
+        scope: b"pg",
+        moves: &[SWAP],
+    },
+    Entered {
+        scope: b"pg",
+        moves: &[LEAVE],
+    },
+    Entered {
+        scope: b"other",
+        moves: &[LEAVE],
+    },
+    Entered {
+        scope: b"pg",
+        moves: &[JOIN, LEAVE],
+    },
+    Entered {
+        scope: b"pg",
+        moves: &[LAST],
+    },
+];
+
+fn group_change(alloc: Global, moves: &Moves) -> Option<GroupChange> {
+    let left = pids(alloc, moves.left)?;
+    let joined = pids(alloc, moves.joined)?;
+    match group_of(alloc, moves.group) {
+        Some(group) => Some(GroupChange {
+            group,
+            left,
+            joined,
+        }),
+        None => None,
+    }
+}
+
+fn group_changes(alloc: Global, moves: &[Moves]) -> Option<Items<GroupChange>> {
     let mut groups = Vec::new(alloc);
     for moved in moves {
-        groups.push(group_change(alloc, *moved)?)?;
+        groups.push(group_change(alloc, moved)?).ok()?;
     }
-    let mut changes = Vec::new(alloc);
-    changes.push(Change {
-        scope: Scope::parse(alloc, scope)?,
-        groups: Items::of(groups),
-    })?;
-    audit.push(
-        0,
-        Event::Spawn,
-        Verdict::Refused(Rule::PidsFull),
-        Items::of(changes),
-    )?;
-    Ok(())
+    Some(Items::of(groups))
 }
 
-/// Five entries. The first and the fourth change nothing in pg.
-fn entries(alloc: Global) -> Result<Audit, Fail>
-    ensures count { IfOk result (λ audit. length audit.entries ≡ 5) }
-    ensures kept { IfOk result (λ audit. audit.forgotten ≡ 0) }
+fn change(alloc: Global, entered: &Entered) -> Option<Change> {
+    let groups = group_changes(alloc, entered.moves)?;
+    match scope_of(alloc, entered.scope) {
+        Some(scope) => Some(Change { scope, groups }),
+        None => None,
+    }
+}
+
+/// Makes an entry with these changes.
+fn push(audit: &mut Audit, changes: Changes) -> Option<()>
+    ensures count { OnSome result (length audit.new.entries ≡ length audit.old.entries + 1) }
+    ensures kept { OnSome result (audit.new.forgotten ≡ audit.old.forgotten) }
+{
+    let verdict = Verdict::Refused(Rule::PidsFull);
+    match audit.push(0, Event::Spawn, verdict, changes) {
+        Ok(()) => Some(()),
+        Err(_) => None,
+    }
+}
+
+fn enter(alloc: Global, audit: &mut Audit, entered: &Entered) -> Option<()>
+    ensures count { OnSome result (length audit.new.entries ≡ length audit.old.entries + 1) }
+    ensures kept { OnSome result (audit.new.forgotten ≡ audit.old.forgotten) }
+{
+    let changes = alone(alloc, change(alloc, entered))?;
+    push(audit, Items::of(changes))
+}
+
+fn enter_five(alloc: Global, audit: &mut Audit) -> Option<()>
+    ensures count { OnSome result (length audit.new.entries ≡ length audit.old.entries + 5) }
+    ensures kept { OnSome result (audit.new.forgotten ≡ audit.old.forgotten) }
+{
+    enter(alloc, audit, &ENTERED[0])?;
+    enter(alloc, audit, &ENTERED[1])?;
+    enter(alloc, audit, &ENTERED[2])?;
+    enter(alloc, audit, &ENTERED[3])?;
+    enter(alloc, audit, &ENTERED[4])
+}
+
+/// The first five entries.
+fn five(alloc: Global) -> Option<Audit>
+    ensures count { IfSome result (λ audit. length audit.entries ≡ 5) }
+    ensures kept { IfSome result (λ audit. audit.forgotten ≡ 0) }
 {
     let mut audit = Audit::new(alloc, 100);
-    let swap = Moves {
-        group: b"g",
-        left: &[1, 1],
-        joined: &[3],
-    };
-    let join = Moves {
-        group: b"g",
-        left: &[],
-        joined: &[1],
-    };
-    let leave = Moves {
-        group: b"h",
-        left: &[2],
-        joined: &[],
-    };
-    enter(alloc, &mut audit, b"other", &[join])?;
-    enter(alloc, &mut audit, b"pg", &[swap])?;
-    enter(alloc, &mut audit, b"pg", &[leave])?;
-    enter(alloc, &mut audit, b"other", &[leave])?;
-    enter(alloc, &mut audit, b"pg", &[join, leave])?;
-    Ok(audit)
-}
-
-/// Writes `leave g 1 1` or `join g 3`, each with a semicolon behind it.
-fn write_update(text: &mut String, update: &Update) -> Result<(), Fail> {
-    let word = if update.leave { "leave" } else { "join" };
-    let letter = update.group.as_bytes().first().copied().unwrap_or(0);
-    write!(text, "{word} {}", char::from(letter))?;
-    for pid in update.pids.as_slice() {
-        write!(text, " {}", pid.number)?;
+    match enter_five(alloc, &mut audit) {
+        Some(()) => Some(audit),
+        None => None,
     }
-    write!(text, ";")?;
-    Ok(())
 }
 
-/// What the monitor is told, or why nothing is.
-fn told(
-    alloc: Global,
-    monitors: &Monitors,
-    audit: &Audit,
-    seat: u32,
-    number: u32,
-) -> Result<String, Fail>
+/// That processes with these numbers left a group, or joined it.
+struct Told {
+    leave: bool,
+    group: &'static [u8],
+    numbers: &'static [u64],
+}
+
+fn are_numbers(pids: &[Pid], numbers: &[u64]) -> bool {
+    for (pid, number) in pids.iter().zip(numbers) {
+        if pid.number != *number {
+            return false;
+        }
+    }
+    pids.len() == numbers.len()
+}
+
+fn is_update(update: &Update, told: &Told) -> bool {
+    update.leave == told.leave
+        && update.group.as_bytes() == told.group
+        && are_numbers(update.pids.as_slice(), told.numbers)
+}
+
+fn are_updates(updates: &[Update], told: &[Told]) -> bool {
+    for (update, told) in updates.iter().zip(told) {
+        if !is_update(update, told) {
+            return false;
+        }
+    }
+    updates.len() == told.len()
+}
+
+/// Whether the monitor is told just this.
+fn is_told(monitors: &Monitors, audit: &Audit, seat: u32, number: u32, told: &[Told]) -> bool
     requires seen { HasSeen (monitor_of monitors.now seat number) audit.now.entries }
     requires kept { IfSome (monitor_of monitors.now seat number)
         (λ m. audit.now.forgotten ≤ m.place) }
 {
-    let mut text = String::new(alloc);
     match monitors.updates(seat, number, audit) {
-        Ok(updates) => {
-            for update in updates.as_slice() {
-                write_update(&mut text, update)?;
-            }
-        }
-        Err(fault) => write!(text, "{fault}")?,
+        Ok(updates) => are_updates(updates.as_slice(), told),
+        Err(_) => false,
     }
-    Ok(text)
 }
 
 /// Seat 0 watches g of pg behind entry 1, seat 1 behind entry 2, and seat 0 all of pg behind entry 3.
-fn three(alloc: Global) -> Result<Monitors, Fail>
-    ensures { IfOk result (λ monitors. monitors ≡ (1, record { seat = 0; scope = codes "pg"; group = Some (codes "g"); place = 1 }) ∷ (2, record { seat = 1; scope = codes "pg"; group = Some (codes "g"); place = 2 }) ∷ (3, record { seat = 0; scope = codes "pg"; group = None; place = 3 }) ∷ []) }
+fn three(alloc: Global) -> Option<Monitors>
+    ensures { IfSome result (λ monitors. monitors ≡ (1, record { seat = 0; scope = codes "pg"; group = Some (codes "g"); place = 1 }) ∷ (2, record { seat = 1; scope = codes "pg"; group = Some (codes "g"); place = 2 }) ∷ (3, record { seat = 0; scope = codes "pg"; group = None; place = 3 }) ∷ []) }
 {
     let mut monitors = Monitors::new(alloc);
-    add_three(alloc, &mut monitors)?;
-    Ok(monitors)
+    match add_three(alloc, &mut monitors) {
+        Ok(()) => Some(monitors),
+        Err(_) => None,
+    }
 }
 
-fn add_three(alloc: Global, monitors: &mut Monitors) -> Result<(), Fail>
+fn add_three(alloc: Global, monitors: &mut Monitors) -> Result<(), OutOfMemory>
     requires { monitors.old ≡ [] }
     ensures { OnOk result (monitors.new ≡ (1, record { seat = 0; scope = codes "pg"; group = Some (codes "g"); place = 1 }) ∷ (2, record { seat = 1; scope = codes "pg"; group = Some (codes "g"); place = 2 }) ∷ (3, record { seat = 0; scope = codes "pg"; group = None; place = 3 }) ∷ []) }
 {
     monitors.add_group(0, 1, scope(alloc)?, group(alloc)?)?;
     monitors.add_group(1, 2, scope(alloc)?, group(alloc)?)?;
-    monitors.add_scope(0, 3, scope(alloc)?)?;
-    Ok(())
+    monitors.add_scope(0, 3, scope(alloc)?)
 }
 
-fn scope(alloc: Global) -> Result<Scope, Fail>
+fn scope(alloc: Global) -> Result<Scope, OutOfMemory>
     ensures { IfOk result (λ scope. scope ≡ codes "pg") }
 {
-    Ok(Scope::parse(alloc, b"pg")?)
+    match Scope::parse(alloc, b"pg") {
+        Ok(scope) => Ok(scope),
+        Err(_) => Err(OutOfMemory),
+    }
 }
 
-fn group(alloc: Global) -> Result<Group, Fail>
+fn group(alloc: Global) -> Result<Group, OutOfMemory>
     ensures { IfOk result (λ group. group ≡ codes "g") }
 {
-    Ok(Group::parse(alloc, b"g")?)
+    match Group::parse(alloc, b"g") {
+        Ok(group) => Ok(group),
+        Err(_) => Err(OutOfMemory),
+    }
 }
 
-/// What two monitors are told, each by its seat and number.
-fn told_both(
-    alloc: Global,
-    monitors: &Monitors,
-    audit: &Audit,
-    first: (u32, u32),
-    second: (u32, u32),
-) -> Result<(String, String), Fail>
-    requires first { HasSeen (monitor_of monitors.now first.0 first.1) audit.now.entries }
-    requires second { HasSeen (monitor_of monitors.now second.0 second.1) audit.now.entries }
-    requires first_kept { IfSome (monitor_of monitors.now first.0 first.1)
-        (λ m. audit.now.forgotten ≤ m.place) }
-    requires second_kept { IfSome (monitor_of monitors.now second.0 second.1)
-        (λ m. audit.now.forgotten ≤ m.place) }
-{
-    Ok((
-        told(alloc, monitors, audit, first.0, first.1)?,
-        told(alloc, monitors, audit, second.0, second.1)?,
-    ))
-}
-
-// Monitors and entries are held by functions with few ways out, since a check follows their end along each.
-
-#[test]
-fn advances_one_monitor_alone(rt: HostRuntime) -> Result<(), Fail> {
-    let (advanced, other) = told_after_advance(rt.alloc())?;
-    assert_eq!(rt;
-        (advanced.as_str(), other.as_str()),
-        ("", "join g 1;leave h 2;")
-    );
-    Ok(())
-}
-
-/// What the monitor of seat 1 is told after an advance, and what that of all of pg.
-fn told_after_advance(alloc: Global) -> Result<(String, String), Fail> {
-    let audit = entries(alloc)?;
-    let mut monitors = three(alloc)?;
-    monitors.advance(1, 2, &audit)?;
-    told_both(alloc, &monitors, &audit, (1, 2), (0, 3))
-}
-
-#[test]
-fn tells_what_comes_after_an_advance(rt: HostRuntime) -> Result<(), Fail> {
-    let text = told_after_an_entry(rt.alloc())?;
-    assert_eq!(rt; text.as_str(), "leave g 3;");
-    Ok(())
-}
-
-fn told_after_an_entry(alloc: Global) -> Result<String, Fail> {
-    let mut audit = entries(alloc)?;
-    let mut monitors = three(alloc)?;
-    monitors.advance(1, 2, &audit)?;
-    let leave = Moves {
+/// What the monitor of all of pg is told behind entry 3.
+static ALL: [Told; 2] = [
+    Told {
+        leave: false,
         group: b"g",
-        left: &[3],
-        joined: &[],
-    };
-    enter(alloc, &mut audit, b"pg", &[leave])?;
-    told(alloc, &monitors, &audit, 1, 2)
+        numbers: &[1],
+    },
+    Told {
+        leave: true,
+        group: b"h",
+        numbers: &[2],
+    },
+];
+
+static LEFT: [Told; 1] = [Told {
+    leave: true,
+    group: b"g",
+    numbers: &[3],
+}];
+
+/// Whether the monitor of seat 1 is told nothing after an advance, that of all of pg what it was, and the first what comes then.
+fn is_told_after_advance(alloc: Global) -> Option<bool> {
+    let mut audit = five(alloc)?;
+    let mut monitors = three(alloc)?;
+    monitors.advance(1, 2, &audit).ok()?;
+    let advances_alone = is_told(&monitors, &audit, 1, 2, &[])
+        && is_told(&monitors, &audit, 0, 3, &ALL);
+    enter(alloc, &mut audit, &ENTERED[5])?;
+    Some(advances_alone && is_told(&monitors, &audit, 1, 2, &LEFT))
+}
+
+#[test]
+fn advances_one_monitor_alone_and_tells_what_comes_then(rt: HostRuntime) {
+    assert!(rt; is_told_after_advance(rt.alloc()) == Some(true));
 }

@@ -3,18 +3,25 @@
 ghost use Rattle.std.specs.Prelude.{◌≡◌, IfSome, length};
 ghost use Rattle.link_frames.specs.Parts.{HasSpelling2};
 
-use dist_types::{Body, Group, NodeName, Pid, Row, Scope};
+use crate::digits::{changes_of, exchange, front};
+use crate::made::{Process, row_of, scope_of};
+use dist_types::{Body, Row, Scope};
 use link_frames::*;
 use std::alloc::Global;
 
-/// A part of a message of `pg`.
+/// A part of a message of `pg`: its kind, its number, whether it is the last, and how many rows it has.
+#[derive(Clone, Copy)]
+pub struct Numbered {
+    pub kind: PartKind,
+    pub number: u32,
+    pub last: bool,
+    pub count: u32,
+}
+
+/// The body of a part.
 struct Part {
     body: &'static [u8],
-    kind: PartKind,
-    number: u32,
-    last: bool,
-    /// How many rows it has.
-    count: u32,
+    part: Numbered,
     /// How many bodies that differ from it in one byte, to 00, ff or a neighbour, are parts: counted by the reader of
     /// tests/model (`changed_parts`).
     changed: u32,
@@ -23,42 +30,52 @@ struct Part {
 static PARTS: [Part; 5] = [
     Part {
         body: b"S\x02pg\0\0\0\x01\x01\0\0\0\0",
-        kind: PartKind::Sync,
-        number: 1,
-        last: true,
-        count: 0,
+        part: Numbered {
+            kind: PartKind::Sync,
+            number: 1,
+            last: true,
+            count: 0,
+        },
         changed: 13,
     },
     Part {
         body: b"S\x02pg\0\0\0\x02\0\0\0\0\0",
-        kind: PartKind::Sync,
-        number: 2,
-        last: false,
-        count: 0,
+        part: Numbered {
+            kind: PartKind::Sync,
+            number: 2,
+            last: false,
+            count: 0,
+        },
         changed: 14,
     },
     Part {
         body: b"S\x02pg\0\0\x01\0\x01\0\0\0\x01\x01g\0\x03a@h\0\0\0\x05\0\0\0\0\0\0\0\x01",
-        kind: PartKind::Sync,
-        number: 256,
-        last: true,
-        count: 1,
+        part: Numbered {
+            kind: PartKind::Sync,
+            number: 256,
+            last: true,
+            count: 1,
+        },
         changed: 46,
     },
     Part {
         body: b"J\x02pg\0\0\0\x01\0\0\0\0\x02\x01g\0\x03a@h\0\0\0\x05\0\0\0\0\0\0\0\x01\x01g\0\x03a@h\0\0\0\x05\0\0\0\0\0\0\0\x02",
-        kind: PartKind::Join,
-        number: 1,
-        last: false,
-        count: 2,
+        part: Numbered {
+            kind: PartKind::Join,
+            number: 1,
+            last: false,
+            count: 2,
+        },
         changed: 80,
     },
     Part {
         body: b"L\x02pg\xff\xff\xff\xff\x01\0\0\0\x01\x01g\0\x03a@h\0\0\0\x05\0\0\0\0\0\0\0\x01",
-        kind: PartKind::Leave,
-        number: 4_294_967_295,
-        last: true,
-        count: 1,
+        part: Numbered {
+            kind: PartKind::Leave,
+            number: 4_294_967_295,
+            last: true,
+            count: 1,
+        },
         changed: 46,
     },
 ];
@@ -108,40 +125,18 @@ static NO_PARTS: [NoPart; 9] = [
     },
 ];
 
-// What reads a text has no contract, so that a check doesn't compute with the text.
-pub fn scope_of(alloc: Global, text: &[u8]) -> Option<Scope> {
-    Scope::parse(alloc, text).ok()
-}
-
-fn name_of(alloc: Global, text: &[u8]) -> Option<NodeName> {
-    NodeName::parse(alloc, text).ok()
-}
-
-fn group_of(alloc: Global, text: &[u8]) -> Option<Group> {
-    Group::parse(alloc, text).ok()
-}
-
 pub fn pg(alloc: Global) -> Option<Scope> {
     scope_of(alloc, b"pg")
 }
 
-/// The process of that number of `a@h` in its creation 5.
-fn pid(alloc: Global, number: u64) -> Option<Pid> {
-    let node = name_of(alloc, b"a@h")?;
-    Some(Pid {
-        node,
+/// A row of the group `g`, with the process of that number of `a@h` in its creation 5.
+fn row(alloc: Global, number: u64) -> Option<Row> {
+    let process = Process {
+        node: b"a@h",
         creation: 5,
         number,
-    })
-}
-
-/// A row of the group `g`.
-fn row(alloc: Global, number: u64) -> Option<Row> {
-    let pid = pid(alloc, number)?;
-    match group_of(alloc, b"g") {
-        Some(group) => Some(Row { group, pid }),
-        None => None,
-    }
+    };
+    row_of(alloc, b"g", &process)
 }
 
 /// So many such rows: those of the first processes.
@@ -156,21 +151,15 @@ pub fn rows(alloc: Global, count: u32) -> Option<Rows>
     Some(Rows::of(rows))
 }
 
-/// A part of a message of `pg`, with so many of these rows.
-pub fn message_part(
-    alloc: Global,
-    kind: PartKind,
-    number: u32,
-    last: bool,
-    count: u32,
-) -> Option<Message2> {
-    let rows = rows(alloc, count)?;
+/// The part, with the first of these rows.
+pub fn message_part(alloc: Global, part: &Numbered) -> Option<Message2> {
+    let rows = rows(alloc, part.count)?;
     match pg(alloc) {
         Some(scope) => Some(Message2::Part {
-            kind,
+            kind: part.kind,
             scope,
-            number,
-            last,
+            number: part.number,
+            last: part.last,
             rows,
         }),
         None => None,
@@ -209,62 +198,46 @@ pub fn says(alloc: Global, body: &[u8], said: &Message2) -> bool {
     }
 }
 
-fn is_part(alloc: Global, row: &Part) -> Option<bool> {
-    let said = message_part(alloc, row.kind, row.number, row.last, row.count)?;
-    Some(says(alloc, row.body, &said))
-}
-
-#[test]
-fn reads_and_writes_parts(rt: HostRuntime) {
-    for row in &PARTS {
-        assert!(rt; is_part(rt.alloc(), row) == Some(true), "{}", row.number);
+fn is_part(alloc: Global, row: &Part) -> bool {
+    match message_part(alloc, &row.part) {
+        Some(said) => says(alloc, row.body, &said),
+        None => false,
     }
 }
 
-fn is_read(alloc: Global, body: &[u8]) -> bool {
-    decode_v2(alloc, body).is_ok()
+/// Why the body isn't read, if it isn't.
+fn fault_of(alloc: Global, body: &[u8]) -> Option<MessageFault> {
+    decode_v2(alloc, body).err()
 }
 
 fn is_refused(alloc: Global, body: &[u8]) -> bool {
-    decode_v2(alloc, body).err() == Some(MessageFault::BadFrame)
+    fault_of(alloc, body) == Some(MessageFault::BadFrame)
 }
 
-/// How many of the beginnings are refused.
-fn refused_fronts(alloc: Global, body: &[u8]) -> usize {
-    let mut count = 0_usize;
+fn are_fronts_refused(alloc: Global, body: &[u8]) -> bool {
     for len in 0..body.len() {
-        count = count.wrapping_add(usize::from(is_refused(alloc, &body[..len])));
+        if !is_refused(alloc, front(body, len)) {
+            return false;
+        }
     }
-    count
-}
-
-#[test]
-fn refuses_the_beginnings_of_parts(rt: HostRuntime) {
-    for row in &PARTS {
-        let refused = refused_fronts(rt.alloc(), row.body);
-        assert!(rt; refused == row.body.len(), "{}", row.number);
-    }
+    true
 }
 
 fn is_tried(old: u8, new: u8) -> bool {
-    new != old && [0, 255, old.wrapping_add(1), old.wrapping_sub(1)].contains(&new)
-}
-
-/// Puts a byte in that place.
-fn put_at(body: &mut [u8], place: usize, new: u8) {
-    if let Some(byte) = body.get_mut(place) {
-        *byte = new;
-    }
+    new != old && changes_of(old).contains(&new)
 }
 
 /// How many of the bodies with another byte at that place are parts.
-fn parts_at(alloc: Global, body: &mut [u8], place: usize, old: u8) -> u32 {
+fn parts_at(alloc: Global, body: &mut [u8], place: usize) -> u32 {
+    let old = exchange(body, place, 0);
     let mut count = 0_u32;
     for new in 0..=255_u8 {
-        put_at(body, place, new);
-        count = count.wrapping_add(u32::from(is_tried(old, new) && is_read(alloc, body)));
+        exchange(body, place, new);
+        if is_tried(old, new) && fault_of(alloc, body).is_none() {
+            count = count.wrapping_add(1);
+        }
     }
-    put_at(body, place, old);
+    exchange(body, place, old);
     count
 }
 
@@ -272,17 +245,23 @@ fn parts_at(alloc: Global, body: &mut [u8], place: usize, old: u8) -> u32 {
 fn changed_parts(alloc: Global, body: &[u8]) -> Option<u32> {
     let mut changed = Vec::from_slice(alloc, body).ok()?;
     let mut count = 0_u32;
-    for (place, old) in body.iter().enumerate() {
-        count = count.wrapping_add(parts_at(alloc, &mut changed, place, *old));
+    for place in 0..body.len() {
+        count = count.wrapping_add(parts_at(alloc, &mut changed, place));
     }
     Some(count)
 }
 
+/// Whether it is read and written, its beginnings are not, and of those with another byte so many.
+fn stands(alloc: Global, row: &Part) -> bool {
+    is_part(alloc, row)
+        && are_fronts_refused(alloc, row.body)
+        && changed_parts(alloc, row.body) == Some(row.changed)
+}
+
 #[test]
-fn reads_no_more_with_a_changed_byte(rt: HostRuntime) {
+fn reads_and_writes_parts_and_nothing_near_them(rt: HostRuntime) {
     for row in &PARTS {
-        let changed = changed_parts(rt.alloc(), row.body);
-        assert!(rt; changed == Some(row.changed), "{}", row.number);
+        assert!(rt; stands(rt.alloc(), row), "{}", row.part.number);
     }
 }
 
@@ -293,32 +272,56 @@ fn refuses_what_is_no_part(rt: HostRuntime) {
     }
 }
 
-/// The first part of that kind, the last one, too, with so many rows. All are there, and each is well spelled.
-fn long_part(alloc: Global, kind: u8, count: u32) -> Option<Body> {
-    let mut head = Vec::new(alloc);
-    head.push(kind).ok()?;
-    head.extend_from_slice(b"\x02pg\0\0\0\x01\x01").ok()?;
-    head.extend_from_slice(&count.to_be_bytes()).ok()?;
-    body(alloc, &head, 1, count)
+/// The beginning of a part with so many rows. All of them are there, and each is well spelled.
+struct Long {
+    head: &'static [u8],
+    count: u32,
+    fault: Option<MessageFault>,
 }
 
-fn reads_long(alloc: Global, kind: u8, count: u32) -> Option<bool> {
-    let body = long_part(alloc, kind, count)?;
-    Some(is_read(alloc, body.as_slice()))
-}
+static LONG: [Long; 6] = [
+    Long {
+        head: b"S\x02pg\0\0\0\x01\x01\0\0\x10\0",
+        count: 4096,
+        fault: None,
+    },
+    Long {
+        head: b"S\x02pg\0\0\0\x01\x01\0\0\x10\x01",
+        count: 4097,
+        fault: Some(MessageFault::BadFrame),
+    },
+    Long {
+        head: b"J\x02pg\0\0\0\x01\x01\0\0\x10\0",
+        count: 4096,
+        fault: None,
+    },
+    Long {
+        head: b"J\x02pg\0\0\0\x01\x01\0\0\x10\x01",
+        count: 4097,
+        fault: Some(MessageFault::BadFrame),
+    },
+    Long {
+        head: b"L\x02pg\0\0\0\x01\x01\0\0\x10\0",
+        count: 4096,
+        fault: None,
+    },
+    Long {
+        head: b"L\x02pg\0\0\0\x01\x01\0\0\x10\x01",
+        count: 4097,
+        fault: Some(MessageFault::BadFrame),
+    },
+];
 
-fn refuses_long(alloc: Global, kind: u8, count: u32) -> Option<bool> {
-    let body = long_part(alloc, kind, count)?;
-    Some(is_refused(alloc, body.as_slice()))
+fn is_judged(alloc: Global, row: &Long) -> bool {
+    match body(alloc, row.head, 1, row.count) {
+        Some(body) => fault_of(alloc, body.as_slice()) == row.fault,
+        None => false,
+    }
 }
 
 #[test]
 fn takes_4096_rows_in_a_part_and_no_more(rt: HostRuntime) {
-    for kind in [b'S', b'J', b'L'] {
-        assert!(rt; reads_long(rt.alloc(), kind, 4096) == Some(true), "{kind}");
-        assert!(rt;
-            refuses_long(rt.alloc(), kind, 4097) == Some(true),
-            "{kind}"
-        );
+    for row in &LONG {
+        assert!(rt; is_judged(rt.alloc(), row), "{} rows", row.count);
     }
 }

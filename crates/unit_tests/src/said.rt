@@ -1,6 +1,7 @@
 //! What the processes of a scope of a running node of Erlang/OTP 25.2.3 said.
 use crate::digits::{bytes_of, front};
-use dist_types::{Group, Items, NodeName, Pid, Row};
+use crate::made::{Process, pid_of, row_of};
+use dist_types::{Items, Pid, Row};
 use otp_edge::{HearFault, Said, hear};
 use std::alloc::Global;
 
@@ -99,52 +100,37 @@ static HEARD: [Heard; 10] = [
     },
 ];
 
-// What reads a text has no contract, so that a check doesn't compute with the text.
-fn name_of(alloc: Global, text: &[u8]) -> Option<NodeName> {
-    NodeName::parse(alloc, text).ok()
-}
-
-fn group_of(alloc: Global, text: &[u8]) -> Option<Group> {
-    Group::parse(alloc, text).ok()
-}
-
-fn pid_of(alloc: Global, number: u64) -> Option<Pid> {
-    let node = name_of(alloc, b"a@127.0.0.1")?;
-    Some(Pid {
-        node,
+/// The process of that id.
+fn process(id: u64) -> Process {
+    Process {
+        node: b"a@127.0.0.1",
         creation: 0x6b08_41b0,
-        number,
-    })
-}
-
-fn row_of(alloc: Global, listed: &Listed) -> Option<Row> {
-    let pid = pid_of(alloc, listed.1)?;
-    match group_of(alloc, listed.0.as_bytes()) {
-        Some(group) => Some(Row { group, pid }),
-        None => None,
+        number: id,
     }
 }
 
 fn rows_of(alloc: Global, listed: &[Listed]) -> Option<Vec<Row>> {
     let mut rows = Vec::new(alloc);
     for row in listed {
-        rows.push(row_of(alloc, row)?).ok()?;
+        rows.push(row_of(alloc, row.0.as_bytes(), &process(row.1))?)
+            .ok()?;
     }
     Some(rows)
 }
 
 fn said_by(kind: u8, scope: Pid, rows: Vec<Row>) -> Said {
+    let rows = Items::of(rows);
     match kind {
         b'D' => Said::Discover(scope),
-        b'S' => Said::Sync(scope, Items::of(rows)),
-        b'J' => Said::Join(scope, Items::of(rows)),
-        _ => Said::Leave(scope, Items::of(rows)),
+        b'S' => Said::Sync(scope, rows),
+        b'J' => Said::Join(scope, rows),
+        _ => Said::Leave(scope, rows),
     }
 }
 
 fn meaning(alloc: Global, heard: &Heard) -> Option<Said> {
     let rows = rows_of(alloc, heard.rows)?;
-    match pid_of(alloc, 0x57) {
+    match pid_of(alloc, &process(0x57)) {
         Some(scope) => Some(said_by(heard.kind, scope, rows)),
         None => None,
     }
@@ -158,47 +144,55 @@ fn says(alloc: Global, term: &[u8], meant: &Said) -> bool {
     }
 }
 
+fn is_meant(alloc: Global, term: &[u8], row: &Heard) -> bool {
+    match meaning(alloc, row) {
+        Some(meant) => says(alloc, term, &meant),
+        None => false,
+    }
+}
+
 fn is_nothing(alloc: Global, bytes: &[u8]) -> bool {
     hear(alloc, bytes).err() == Some(HearFault::NoMessage)
 }
 
-/// Whether each beginning of what was said, and what was said with a byte behind it, is no message.
-fn is_alone(alloc: Global, longer: &[u8], len: usize) -> bool {
-    for end in 0..len {
-        if !is_nothing(alloc, front(longer, end)) {
+/// Whether each beginning of what was said is no message.
+fn are_fronts_nothing(alloc: Global, term: &[u8]) -> bool {
+    for end in 0..term.len() {
+        if !is_nothing(alloc, front(term, end)) {
             return false;
         }
     }
-    is_nothing(alloc, longer)
+    true
 }
 
-fn is_heard(alloc: Global, row: &Heard) -> Option<bool> {
-    let term = bytes_of(alloc, row.term)?;
-    let meant = meaning(alloc, row)?;
-    Some(says(alloc, &term, &meant))
+/// Whether what was said is no message with a byte behind it.
+fn is_nothing_longer(alloc: Global, term: &mut Vec<u8>) -> bool {
+    term.push(0x6a).is_ok() && is_nothing(alloc, term)
 }
 
-fn is_heard_alone(alloc: Global, digits: &str) -> Option<bool> {
-    let mut term = bytes_of(alloc, digits)?;
-    let len = term.len();
-    term.push(0x6a).ok()?;
-    Some(is_alone(alloc, &term, len))
-}
-
-#[test]
-fn hears_what_a_node_said(rt: HostRuntime) {
-    for row in &HEARD {
-        assert!(rt; is_heard(rt.alloc(), row) == Some(true), "{}", row.call);
+fn is_heard(alloc: Global, row: &Heard) -> bool {
+    match bytes_of(alloc, row.term) {
+        Some(mut term) => {
+            is_meant(alloc, &term, row)
+                && are_fronts_nothing(alloc, &term)
+                && is_nothing_longer(alloc, &mut term)
+        }
+        None => false,
     }
 }
 
-#[test]
-fn hears_nothing_else(rt: HostRuntime) {
+/// The call behind the first term that is heard otherwise, or near which something is heard.
+fn first_wrong(alloc: Global) -> Option<&'static str> {
     for row in &HEARD {
-        assert!(rt;
-            is_heard_alone(rt.alloc(), row.term) == Some(true),
-            "{}",
-            row.call
-        );
+        if !is_heard(alloc, row) {
+            return Some(row.call);
+        }
     }
+    None
+}
+
+#[test]
+fn hears_what_a_node_said_and_nothing_else(rt: HostRuntime) {
+    let wrong = first_wrong(rt.alloc());
+    assert!(rt; wrong.is_none(), "{}", wrong.unwrap_or(""));
 }

@@ -1,5 +1,7 @@
 //! Callers on threads of their own, and the workers of links. What can't be played for want of memory is None; the assertions
 //! stand in the tests.
+ghost use Rattle.std.specs.Prelude.{◌≤◌, length};
+
 mod accepting;
 mod challenges;
 mod close;
@@ -11,42 +13,28 @@ mod read_back;
 mod retreat;
 mod worker;
 
-use dist_types::{Cookie, Group, Items, NodeName, OutOfMemory, Pid, Pids, Scope, TryClone};
+use crate::made::{Process, alone, cookie_of, group_of, name_of, pid_of, scope_of};
+use dist_types::{Group, Items, Pid, Pids, Scope, TryClone};
 use node_core::CoreFault;
 use node_threads::*;
 use policy_audit::{Event, Opening, Reply, Rule};
 use std::alloc::Global;
 use std::sync::Wait;
 
-// What reads a text has no contract, so that a check doesn't compute with the text.
-pub(super) fn name_of(alloc: Global, text: &[u8]) -> Option<NodeName> {
-    NodeName::parse(alloc, text).ok()
-}
-
-pub(super) fn cookie_of(alloc: Global, text: &[u8]) -> Option<Cookie> {
-    Cookie::parse(alloc, text).ok()
-}
-
-pub(super) fn scope_of(alloc: Global, text: &[u8]) -> Option<Scope> {
-    Scope::parse(alloc, text).ok()
-}
-
-pub(super) fn group_of(alloc: Global, text: &[u8]) -> Option<Group> {
-    Group::parse(alloc, text).ok()
-}
-
 /// A node of that name, which isn't hidden.
 pub(super) fn opening(alloc: Global, name: &[u8], creation: u32, entries: u32) -> Option<Opening> {
     let name = name_of(alloc, name)?;
-    let cookie = cookie_of(alloc, b"password")?;
-    Some(Opening {
-        name,
-        cookie,
-        hidden: false,
-        creation,
-        entries,
-        links: 1,
-    })
+    match cookie_of(alloc, b"password") {
+        Some(cookie) => Some(Opening {
+            name,
+            cookie,
+            hidden: false,
+            creation,
+            entries,
+            links: 1,
+        }),
+        None => None,
+    }
 }
 
 pub(super) fn new_node(alloc: Global, entries: u32, seats: u32) -> Option<(Node, Vec<Pass>)> {
@@ -79,42 +67,59 @@ pub(super) fn fault_of<R: Wait>(
     pass.call(node, rt, event).err()
 }
 
-/// A process of the node, and the group that it joins.
+/// Puts a pair back behind the passes.
+pub(super) fn put_back(passes: &mut Vec<Pass>, pair: Pair) -> Option<()> {
+    let Pair { reader, writer } = pair;
+    passes.push(reader).ok()?;
+    passes.push(writer).ok()
+}
+
+/// Takes a pair from the end of the passes.
+pub(super) fn next_pair(passes: &mut Vec<Pass>) -> Option<Pair> {
+    let reader = passes.pop()?;
+    match passes.pop() {
+        Some(writer) => Some(Pair { reader, writer }),
+        None => None,
+    }
+}
+
+pub(super) fn paired(alloc: Global, passes: &mut Vec<Pass>, count: u32) -> Option<Vec<Pair>> {
+    let mut pairs = Vec::new(alloc);
+    for _ in 0..count {
+        pairs.push(next_pair(passes)?).ok()?;
+    }
+    Some(pairs)
+}
+
+/// Gives the first of the bytes that are left: how many.
+pub(super) fn give(left: &[u8], buf: &mut [u8]) -> usize
+    ensures { result ≤ length buf.new }
+{
+    let count = left.len().min(buf.len());
+    for place in 0..count {
+        buf[place] = left[place];
+    }
+    count
+}
+
+/// A process of the node. It joins the group `g` of the scope `pg`.
 #[derive(Drop)]
 pub(super) struct Member {
     alloc: Global,
-    scope: Scope,
-    group: Group,
     pid: Pid,
 }
 
-fn pid_of(alloc: Global, number: u64) -> Option<Pid> {
-    let node = name_of(alloc, b"a@h")?;
-    Some(Pid {
-        node,
+/// The process of that number.
+pub(super) fn member_of(alloc: Global, number: u64) -> Option<Member> {
+    let process = Process {
+        node: b"a@h",
         creation: 1,
         number,
-    })
-}
-
-/// This process alone.
-pub(super) fn pids_of(alloc: Global, pid: Pid) -> Result<Pids, OutOfMemory> {
-    let mut pids = Vec::new(alloc);
-    pids.push(pid)?;
-    Ok(Items::of(pids))
-}
-
-/// The process of that number, and the group `g` of the scope `pg`.
-pub(super) fn member_of(alloc: Global, number: u64) -> Option<Member> {
-    let scope = scope_of(alloc, b"pg")?;
-    let group = group_of(alloc, b"g")?;
-    let pid = pid_of(alloc, number)?;
-    Some(Member {
-        alloc,
-        scope,
-        group,
-        pid,
-    })
+    };
+    match pid_of(alloc, &process) {
+        Some(pid) => Some(Member { alloc, pid }),
+        None => None,
+    }
 }
 
 /// What a member asks for.
@@ -136,15 +141,17 @@ struct Place {
 }
 
 impl Member {
-    fn place(&self) -> Result<Place, OutOfMemory> {
-        let scope = self.scope.try_clone(self.alloc)?;
-        let group = self.group.try_clone(self.alloc)?;
-        let pids = pids_of(self.alloc, self.pid.try_clone(self.alloc)?)?;
-        Ok(Place { scope, group, pids })
-    }
-
-    fn event(&self, ask: Ask) -> Result<Event, OutOfMemory> {
-        Ok(asked(ask, self.place()?))
+    fn place(&self) -> Option<Place> {
+        let pids = alone(self.alloc, self.pid.try_clone(self.alloc).ok())?;
+        let scope = scope_of(self.alloc, b"pg")?;
+        match group_of(self.alloc, b"g") {
+            Some(group) => Some(Place {
+                scope,
+                group,
+                pids: Items::of(pids),
+            }),
+            None => None,
+        }
     }
 
     /// What the answer says to this process.
@@ -174,7 +181,7 @@ fn asked(ask: Ask, place: Place) -> Event {
     }
 }
 
-#[derive(Clone, Copy, Debug, PartialEq, Eq)]
+#[derive(Clone, Copy, PartialEq, Eq)]
 pub(super) enum Told {
     Done,
     Member,
@@ -209,22 +216,25 @@ pub(super) fn ask_for<R: Wait>(
     way: Way,
     what: Ask,
 ) -> Told {
-    let Ok(event) = member.event(what) else {
-        return Told::NoMemory;
-    };
-    match way {
-        Way::Call => member.told(pass.call(node, rt, event)),
-        Way::Lock => member.told(apply(rt, node, pass, event)),
+    match member.place() {
+        Some(place) => member.told(answer(rt, node, pass, way, asked(what, place))),
+        None => Told::NoMemory,
     }
 }
 
-/// Takes the lock, and gives it back before the reply is looked at.
-fn apply<'a, R: Wait>(
+/// With a lock, it is given back before the reply is looked at.
+fn answer<'a, R: Wait>(
     rt: &R,
     node: &Node,
     pass: &'a mut Pass,
+    way: Way,
     event: Event,
 ) -> Result<&'a Reply, CallFault> {
-    let mut shared = node.shared.lock(rt);
-    pass.apply(&mut shared, event)
+    match way {
+        Way::Call => pass.call(node, rt, event),
+        Way::Lock => {
+            let mut shared = node.shared.lock(rt);
+            pass.apply(&mut shared, event)
+        }
+    }
 }

@@ -1,107 +1,118 @@
 //! The faults of each text, copies of each type, and what is printed. What can't be made for want of memory is None; the
 //! assertions stand in the tests.
+use crate::made::{Process, alone, cookie_of, copies, group_of, pids_of, row_of, scope_of};
 use dist_types::*;
 use std::alloc::Global;
 
-/// Bytes that are no text of any kind, and their fault.
-struct Faulty {
+/// Bytes, and their faults as a name, and as a scope, a group or a cookie.
+struct Text {
     what: &'static str,
     bytes: &'static [u8],
-    fault: TextFault,
-}
-
-static FAULTY: [Faulty; 5] = [
-    Faulty {
-        what: "no byte",
-        bytes: b"",
-        fault: TextFault::Empty,
-    },
-    Faulty {
-        what: "256 letters",
-        bytes: &[b'a'; 256],
-        fault: TextFault::TooLong,
-    },
-    Faulty {
-        what: "256 spaces",
-        bytes: &[b' '; 256],
-        fault: TextFault::TooLong,
-    },
-    Faulty {
-        what: "a space inside",
-        bytes: b"a b",
-        fault: TextFault::BadByte,
-    },
-    Faulty {
-        what: "a byte of 7f",
-        bytes: b"a@\x7f",
-        fault: TextFault::BadByte,
-    },
-];
-
-/// Each byte sequence that is a text but no name.
-static NO_NAMES: [&str; 4] = ["ab", "@h", "a@", "a@b@c"];
-
-/// The shortest name, and one of 255 bytes.
-static NAMES: [&str; 2] = [
-    "!@~",
-    "~@~~~~~~~~~~~~~~~~~~~~~~~~~~~~~~~~~~~~~~~~~~~~~~~~~~~~~~~~~~~~~~~~~~~~~~~~~~~~~~\
-      ~~~~~~~~~~~~~~~~~~~~~~~~~~~~~~~~~~~~~~~~~~~~~~~~~~~~~~~~~~~~~~~~~~~~~~~~~~~~~~~~\
-      ~~~~~~~~~~~~~~~~~~~~~~~~~~~~~~~~~~~~~~~~~~~~~~~~~~~~~~~~~~~~~~~~~~~~~~~~~~~~~~~~\
-      ~~~~~~~~~~~~~~~",
-];
-
-/// Whether the bytes have this fault as a name, and that as a scope, a group and a cookie.
-fn are_faults(
-    alloc: Global,
-    bytes: &[u8],
     of_name: Option<TextFault>,
     of_others: Option<TextFault>,
-) -> bool {
-    NodeName::parse(alloc, bytes).err() == of_name
-        && Scope::parse(alloc, bytes).err() == of_others
-        && Group::parse(alloc, bytes).err() == of_others
-        && Cookie::parse(alloc, bytes).err() == of_others
+}
+
+const EMPTY: Option<TextFault> = Some(TextFault::Empty);
+
+const TOO_LONG: Option<TextFault> = Some(TextFault::TooLong);
+
+const BAD_BYTE: Option<TextFault> = Some(TextFault::BadByte);
+
+const BAD_AT: Option<TextFault> = Some(TextFault::BadAt);
+
+/// A name of 255 bytes.
+const LONGEST: &[u8] = b"\
+      ~@~~~~~~~~~~~~~~~~~~~~~~~~~~~~~~~~~~~~~~~~~~~~~~~~~~~~~~~~~~~~~~~~~~~~~~~~~~~~~~\
+      ~~~~~~~~~~~~~~~~~~~~~~~~~~~~~~~~~~~~~~~~~~~~~~~~~~~~~~~~~~~~~~~~~~~~~~~~~~~~~~~~\
+      ~~~~~~~~~~~~~~~~~~~~~~~~~~~~~~~~~~~~~~~~~~~~~~~~~~~~~~~~~~~~~~~~~~~~~~~~~~~~~~~~\
+      ~~~~~~~~~~~~~~~";
+
+static TEXTS: [Text; 11] = [
+    Text {
+        what: "no byte",
+        bytes: b"",
+        of_name: EMPTY,
+        of_others: EMPTY,
+    },
+    Text {
+        what: "256 letters",
+        bytes: &[b'a'; 256],
+        of_name: TOO_LONG,
+        of_others: TOO_LONG,
+    },
+    Text {
+        what: "256 spaces",
+        bytes: &[b' '; 256],
+        of_name: TOO_LONG,
+        of_others: TOO_LONG,
+    },
+    Text {
+        what: "a space inside",
+        bytes: b"a b",
+        of_name: BAD_BYTE,
+        of_others: BAD_BYTE,
+    },
+    Text {
+        what: "a byte of 7f",
+        bytes: b"a@\x7f",
+        of_name: BAD_BYTE,
+        of_others: BAD_BYTE,
+    },
+    Text {
+        what: "no at",
+        bytes: b"ab",
+        of_name: BAD_AT,
+        of_others: None,
+    },
+    Text {
+        what: "an at in front",
+        bytes: b"@h",
+        of_name: BAD_AT,
+        of_others: None,
+    },
+    Text {
+        what: "an at behind",
+        bytes: b"a@",
+        of_name: BAD_AT,
+        of_others: None,
+    },
+    Text {
+        what: "two",
+        bytes: b"a@b@c",
+        of_name: BAD_AT,
+        of_others: None,
+    },
+    Text {
+        what: "the shortest name",
+        bytes: b"!@~",
+        of_name: None,
+        of_others: None,
+    },
+    Text {
+        what: "a name of 255 bytes",
+        bytes: LONGEST,
+        of_name: None,
+        of_others: None,
+    },
+];
+
+fn has_fault<T: Drop>(parsed: Result<T, TextFault>, fault: Option<TextFault>) -> bool {
+    parsed.err() == fault
+}
+
+fn has_faults(alloc: Global, text: &Text) -> bool {
+    has_fault(NodeName::parse(alloc, text.bytes), text.of_name)
+        && has_fault(Scope::parse(alloc, text.bytes), text.of_others)
+        && has_fault(Group::parse(alloc, text.bytes), text.of_others)
+        && has_fault(Cookie::parse(alloc, text.bytes), text.of_others)
 }
 
 #[test]
-fn names_the_fault_of_a_text(rt: HostRuntime) {
-    for row in &FAULTY {
-        let fault = Some(row.fault);
-        assert!(rt;
-            are_faults(rt.alloc(), row.bytes, fault, fault),
-            "{}",
-            row.what
-        );
+fn names_the_faults_of_a_text(rt: HostRuntime) {
+    for text in &TEXTS {
+        assert!(rt; has_faults(rt.alloc(), text), "{}", text.what);
     }
-}
-
-#[test]
-fn names_need_an_at_inside(rt: HostRuntime) {
-    let bad = Some(TextFault::BadAt);
-    for text in &NO_NAMES {
-        assert!(rt;
-            are_faults(rt.alloc(), text.as_bytes(), bad, None),
-            "{text}"
-        );
-    }
-}
-
-#[test]
-fn parses_up_to_the_limits(rt: HostRuntime) {
-    for text in &NAMES {
-        assert!(rt;
-            are_faults(rt.alloc(), text.as_bytes(), None, None),
-            "{text}"
-        );
-    }
-    assert!(rt; NAMES[1].len() == 255);
-}
-
-/// A process.
-struct Process {
-    node: &'static [u8],
-    creation: u32,
-    number: u64,
+    assert!(rt; LONGEST.len() == 255);
 }
 
 /// Each is below the next.
@@ -133,70 +144,40 @@ static ASCENDING: [Process; 5] = [
     },
 ];
 
-// What reads a text has no contract, so that a check doesn't compute with the text.
-fn name_of(alloc: Global, text: &[u8]) -> Option<NodeName> {
-    NodeName::parse(alloc, text).ok()
-}
-
-fn scope_of(alloc: Global, text: &[u8]) -> Option<Scope> {
-    Scope::parse(alloc, text).ok()
-}
-
-fn group_of(alloc: Global, text: &[u8]) -> Option<Group> {
-    Group::parse(alloc, text).ok()
-}
-
-fn cookie_of(alloc: Global, text: &[u8]) -> Option<Cookie> {
-    Cookie::parse(alloc, text).ok()
-}
-
-fn pid_of(alloc: Global, process: &Process) -> Option<Pid> {
-    let node = name_of(alloc, process.node)?;
-    Some(Pid {
-        node,
-        creation: process.creation,
-        number: process.number,
-    })
-}
-
-fn pids_of(alloc: Global, processes: &[Process]) -> Option<Vec<Pid>> {
-    let mut pids = Vec::new(alloc);
-    for process in processes {
-        pids.push(pid_of(alloc, process)?).ok()?;
-    }
-    Some(pids)
-}
-
-/// Whether each is below those behind it, itself, and above those before it.
-fn ascend(pids: &[Pid]) -> bool {
-    for (i, pid) in pids.iter().enumerate() {
-        for (j, other) in pids.iter().enumerate() {
-            if pid.cmp(other) != i.cmp(&j) {
-                return false;
-            }
+/// Whether the process is below those behind its place, itself, and above those before it.
+fn is_at(place: usize, pid: &Pid, pids: &[Pid]) -> bool {
+    for (other_place, other) in pids.iter().enumerate() {
+        if pid.cmp(other) != place.cmp(&other_place) {
+            return false;
         }
     }
     true
 }
 
-fn is_ascending(alloc: Global) -> Option<bool> {
-    let pids = pids_of(alloc, &ASCENDING)?;
-    Some(pids.len() == 5 && ascend(&pids))
+fn ascend(pids: &[Pid]) -> bool {
+    for (place, pid) in pids.iter().enumerate() {
+        if !is_at(place, pid, pids) {
+            return false;
+        }
+    }
+    pids.len() == 5
+}
+
+fn is_ascending(alloc: Global) -> bool {
+    match pids_of(alloc, &ASCENDING) {
+        Some(pids) => ascend(pids.as_slice()),
+        None => false,
+    }
 }
 
 #[test]
 fn orders_processes(rt: HostRuntime) {
-    assert!(rt; is_ascending(rt.alloc()) == Some(true));
-}
-
-fn is_copied<T: TryClone + PartialEq + Drop>(alloc: Global, value: &T) -> Option<bool> {
-    let copy = value.try_clone(alloc).ok()?;
-    Some(copy == *value)
+    assert!(rt; is_ascending(rt.alloc()));
 }
 
 /// Two processes.
 fn two_pids(alloc: Global) -> Option<Pids> {
-    Some(Items::of(pids_of(alloc, &ASCENDING[..2])?))
+    pids_of(alloc, &ASCENDING[..2])
 }
 
 /// That two processes left a group, and none joined it.
@@ -212,61 +193,57 @@ fn change(alloc: Global) -> Option<GroupChange> {
     }
 }
 
-fn row_of(alloc: Global, process: &Process) -> Option<Row> {
-    let pid = pid_of(alloc, process)?;
-    match group_of(alloc, b"g") {
-        Some(group) => Some(Row { group, pid }),
-        None => None,
+fn shared_scopes(alloc: Global) -> Option<Shared<Scope>> {
+    let scopes = alone(alloc, scope_of(alloc, b"pg"))?;
+    match Shared::of(scopes) {
+        Ok(list) if list.as_slice().len() == 1 => Some(list),
+        _ => None,
     }
 }
 
-fn shared_scopes(alloc: Global) -> Option<Shared<Scope>> {
-    let scope = scope_of(alloc, b"pg")?;
-    Shared::of(Vec::from_array(alloc, [scope]).ok()?).ok()
+fn copies_texts(alloc: Global) -> bool {
+    copies(alloc, scope_of(alloc, b"pg"))
+        && copies(alloc, group_of(alloc, b"g"))
+        && copies(alloc, cookie_of(alloc, b"password"))
 }
 
-fn copies_texts(alloc: Global) -> Option<bool> {
-    let scope = is_copied(alloc, &scope_of(alloc, b"pg")?)?;
-    let group = is_copied(alloc, &group_of(alloc, b"g")?)?;
-    let cookie = is_copied(alloc, &cookie_of(alloc, b"password")?)?;
-    Some(scope && group && cookie)
-}
-
-fn copies_lists(alloc: Global) -> Option<bool> {
-    let pids = is_copied(alloc, &two_pids(alloc)?)?;
-    let change = is_copied(alloc, &change(alloc)?)?;
-    Some(pids && change)
-}
-
-fn copies_rows(alloc: Global) -> Option<bool> {
+fn copies_rows(alloc: Global) -> bool {
     for process in &ASCENDING {
-        if !is_copied(alloc, &row_of(alloc, process)?)? {
-            return Some(false);
+        if !copies(alloc, row_of(alloc, b"g", process)) {
+            return false;
         }
     }
-    Some(true)
+    true
 }
 
-fn copies_shared(alloc: Global) -> Option<bool> {
-    let list = shared_scopes(alloc)?;
-    Some(is_copied(alloc, &list)? && list.as_slice().len() == 1)
+fn copies_lists(alloc: Global) -> bool {
+    copies(alloc, two_pids(alloc))
+        && copies(alloc, change(alloc))
+        && copies(alloc, shared_scopes(alloc))
 }
 
 #[test]
 fn copies_equal_their_originals(rt: HostRuntime) {
-    assert!(rt; copies_texts(rt.alloc()) == Some(true));
-    assert!(rt; copies_lists(rt.alloc()) == Some(true));
-    assert!(rt; copies_rows(rt.alloc()) == Some(true));
-    assert!(rt; copies_shared(rt.alloc()) == Some(true));
+    assert!(rt; copies_texts(rt.alloc()));
+    assert!(rt; copies_rows(rt.alloc()));
+    assert!(rt; copies_lists(rt.alloc()));
 }
 
-fn is_hidden(alloc: Global) -> Option<bool> {
-    let cookie = cookie_of(alloc, b"password")?;
-    let text = format!(in alloc; "{cookie:?}").ok()?;
-    Some(text.as_str() == "Cookie(..)")
+fn is_hidden(alloc: Global, cookie: &Cookie) -> bool {
+    match format!(in alloc; "{cookie:?}") {
+        Ok(text) => text.as_str() == "Cookie(..)",
+        Err(_) => false,
+    }
+}
+
+fn hides_cookies(alloc: Global) -> bool {
+    match cookie_of(alloc, b"password") {
+        Some(cookie) => is_hidden(alloc, &cookie),
+        None => false,
+    }
 }
 
 #[test]
 fn prints_no_byte_of_a_cookie(rt: HostRuntime) {
-    assert!(rt; is_hidden(rt.alloc()) == Some(true));
+    assert!(rt; hides_cookies(rt.alloc()));
 }

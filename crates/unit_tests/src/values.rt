@@ -12,107 +12,121 @@ static MONITOR: &str = "\
 /// `{leave, [7]}`, `[jobs]` and `<<"g">>`.
 static GROUPS: &str = "680277056c656176656b0001076c0000000177046a6f62736a6d0000000167";
 
-static WATCHES: PidTerm<'static> = PidTerm {
+const WATCHES: PidTerm<'static> = PidTerm {
     node: b"a@127.0.0.1",
     id: 0x57,
     serial: 0,
     creation: 0x6b08_41b0,
 };
 
-static WATCHED: PidTerm<'static> = PidTerm {
+const WATCHED: PidTerm<'static> = PidTerm {
     node: b"w@127.0.0.1",
     id: 1,
     serial: 0,
     creation: 0x4d,
 };
 
-static REFERENCE: ReferenceTerm<'static> = ReferenceTerm {
+const REFERENCE: ReferenceTerm<'static> = ReferenceTerm {
     count: 3,
     node: b"a@127.0.0.1",
     creation: 0x6b08_41b0,
     words: b"\0\x01\x67\x12\xe0\x58\0\x03\x82\x41\xa5\xb9",
 };
 
-/// What stands behind this process.
-fn after_pid<'a>(wanted: &PidTerm<'_>, bytes: &'a [u8]) -> Option<&'a [u8]> {
-    let (pid, rest) = pid_at(bytes)?;
-    if pid == *wanted { Some(rest) } else { None }
+/// A value.
+enum Value {
+    Tuple(u8),
+    List(u32),
+    Nil,
+    Integer(u8),
+    Atom(&'static [u8]),
+    /// Numbers, which are no binary.
+    Numbers(&'static [u8]),
+    /// A binary, which is no numbers.
+    Binary(&'static [u8]),
+    Pid(PidTerm<'static>),
+    Reference(ReferenceTerm<'static>),
 }
 
-fn is_reference(wanted: &ReferenceTerm<'_>, bytes: &[u8]) -> Option<bool> {
-    let (reference, rest) = reference_at(bytes)?;
-    Some(reference == *wanted && rest.is_empty())
-}
+/// The operation 19, two processes and a reference.
+static MONITORS: [Value; 5] = [
+    Value::Tuple(4),
+    Value::Integer(19),
+    Value::Pid(WATCHES),
+    Value::Pid(WATCHED),
+    Value::Reference(REFERENCE),
+];
 
-/// Whether it is a tuple of 4, with the operation 19, the two processes and the reference.
-fn is_monitor(term: &[u8]) -> Option<bool> {
-    let (arity, rest) = tuple_at(term)?;
-    let (operation, rest) = small_integer_at(rest)?;
-    let rest = after_pid(&WATCHES, rest)?;
-    let rest = after_pid(&WATCHED, rest)?;
-    Some(arity == 4 && operation == 19 && is_reference(&REFERENCE, rest)?)
-}
+/// `{leave, [7]}` as a node says it, `[jobs]` and `<<"g">>`.
+static LEAVES: [Value; 7] = [
+    Value::Tuple(2),
+    Value::Atom(b"leave"),
+    Value::Numbers(b"\x07"),
+    Value::List(1),
+    Value::Atom(b"jobs"),
+    Value::Nil,
+    Value::Binary(b"g"),
+];
 
-fn reads_monitor(alloc: Global) -> Option<bool> {
-    is_monitor(&bytes_of(alloc, MONITOR)?)
-}
-
-#[test]
-fn reads_a_monitor(rt: HostRuntime) {
-    assert!(rt; reads_monitor(rt.alloc()) == Some(true));
-}
-
-/// What stands behind this atom.
-fn after_atom<'a>(wanted: &[u8], bytes: &'a [u8]) -> Option<&'a [u8]> {
-    let (text, rest) = atom_at(bytes)?;
-    if text == wanted { Some(rest) } else { None }
-}
-
-/// What stands behind these numbers, which are no binary.
-fn after_numbers<'a>(wanted: &[u8], bytes: &'a [u8]) -> Option<&'a [u8]> {
-    let (numbers, rest) = numbers_at(bytes)?;
-    if numbers == wanted && binary_at(bytes).is_none() {
-        Some(rest)
-    } else {
-        None
+/// What stands behind the value, where it was read as wanted.
+fn behind<'a, T: Copy + PartialEq>(wanted: &T, read: Option<(T, &'a [u8])>) -> Option<&'a [u8]> {
+    match read {
+        Some((value, rest)) if value == *wanted => Some(rest),
+        _ => None,
     }
 }
 
-/// Whether this binary, which is no numbers, is all that there is.
-fn is_binary(wanted: &[u8], bytes: &[u8]) -> Option<bool> {
-    let (binary, rest) = binary_at(bytes)?;
-    Some(binary == wanted && rest.is_empty() && numbers_at(bytes).is_none())
+fn after<'a>(wanted: &Value, bytes: &'a [u8]) -> Option<&'a [u8]> {
+    match wanted {
+        Value::Tuple(arity) => behind(arity, tuple_at(bytes)),
+        Value::List(count) => behind(count, list_at(bytes)),
+        Value::Nil => after_nil(bytes),
+        Value::Integer(number) => behind(number, small_integer_at(bytes)),
+        Value::Atom(text) => behind(text, atom_at(bytes)),
+        Value::Numbers(numbers) if binary_at(bytes).is_none() => behind(numbers, numbers_at(bytes)),
+        Value::Binary(binary) if numbers_at(bytes).is_none() => behind(binary, binary_at(bytes)),
+        Value::Pid(pid) => behind(pid, pid_at(bytes)),
+        Value::Reference(reference) => behind(reference, reference_at(bytes)),
+        _ => None,
+    }
 }
 
-/// Whether it is `{leave, [7]}` as a node says it, `[jobs]` and `<<"g">>`.
-fn are_groups(terms: &[u8]) -> Option<bool> {
-    let (arity, rest) = tuple_at(terms)?;
-    let rest = after_atom(b"leave", rest)?;
-    let rest = after_numbers(b"\x07", rest)?;
-    let (count, rest) = list_at(rest)?;
-    let rest = after_atom(b"jobs", rest)?;
-    let rest = after_nil(rest)?;
-    Some(arity == 2 && count == 1 && is_binary(b"g", rest)?)
+/// Whether these values are all that there is.
+fn are_values(bytes: &[u8], values: &[Value]) -> bool {
+    let mut rest = bytes;
+    for value in values {
+        match after(value, rest) {
+            Some(behind) => rest = behind,
+            None => return false,
+        }
+    }
+    rest.is_empty()
 }
 
-fn reads_words(alloc: Global) -> Option<bool> {
-    are_groups(&bytes_of(alloc, GROUPS)?)
+fn reads(alloc: Global, digits: &str, values: &[Value]) -> bool {
+    match bytes_of(alloc, digits) {
+        Some(bytes) => are_values(&bytes, values),
+        None => false,
+    }
 }
 
 #[test]
-fn reads_groups(rt: HostRuntime) {
-    assert!(rt; reads_words(rt.alloc()) == Some(true));
+fn reads_values_behind_each_other(rt: HostRuntime) {
+    assert!(rt; reads(rt.alloc(), MONITOR, &MONITORS));
+    assert!(rt; reads(rt.alloc(), GROUPS, &LEAVES));
 }
 
 /// Whether the bytes are numbers, and these are written so. The other writers are called by what is sent in `edges`.
-fn are_written_so(alloc: Global, bytes: &[u8]) -> Option<bool> {
-    let (numbers, _) = numbers_at(bytes)?;
+fn are_written_so(alloc: Global, bytes: &[u8]) -> bool {
     let mut out = Vec::new(alloc);
-    put_numbers(numbers, &mut out).ok()?;
-    Some(out.as_slice() == bytes)
+    let is_written = match numbers_at(bytes) {
+        Some((numbers, _)) => put_numbers(numbers, &mut out).is_ok(),
+        None => false,
+    };
+    is_written && out.as_slice() == bytes
 }
 
 #[test]
 fn writes_numbers(rt: HostRuntime) {
-    assert!(rt; are_written_so(rt.alloc(), b"\x6b\0\x01\x07") == Some(true));
+    assert!(rt; are_written_so(rt.alloc(), b"\x6b\0\x01\x07"));
 }

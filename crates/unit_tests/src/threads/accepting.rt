@@ -1,5 +1,5 @@
 //! Connections of a door in memory.
-use super::{closed, is_done, opening};
+use super::{closed, give, is_done, opening, paired, put_back};
 use cookie_digest::ChallengeSource;
 use node_threads::*;
 use policy_audit::Event;
@@ -34,6 +34,12 @@ impl Heard {
             missed: AtomicU64::new(0),
             hung_up: AtomicU64::new(0),
         }
+    }
+
+    /// Whether so many waited in vain, and so many hung up.
+    fn has(&self, missed: u64, hung_up: u64) -> bool {
+        self.missed.load(Ordering::SeqCst) == missed
+            && self.hung_up.load(Ordering::SeqCst) == hung_up
     }
 
     /// Waits until a frame of a later link was answered, for a while.
@@ -71,11 +77,7 @@ impl Read for Peer<'_> {
         if self.waits {
             self.heard.wait();
         }
-        let left = NAME.get(self.sent..).unwrap_or(&[]);
-        let count = left.len().min(buf.len());
-        for place in 0..count {
-            buf[place] = left[place];
-        }
+        let count = give(NAME.get(self.sent..).unwrap_or(&[]), buf);
         self.sent = self.sent.saturating_add(count);
         Ok(count)
     }
@@ -137,7 +139,6 @@ impl<'a> Door for Callers<'a> {
 }
 
 /// What is tried: a node of so many entries and pairs of passes, and the links that a caller of its own has opened before.
-#[derive(Clone, Copy)]
 struct Plan {
     entries: u32,
     pairs: u32,
@@ -148,30 +149,15 @@ struct Plan {
 }
 
 /// The node b@h, and two passes for each pair and one more.
-fn new_node(alloc: Global, plan: Plan) -> Option<(Node, Vec<Pass>)> {
+fn new_node(alloc: Global, plan: &Plan) -> Option<(Node, Vec<Pass>)> {
     let seats = plan.pairs.saturating_mul(2).saturating_add(1);
     Node::new(alloc, opening(alloc, b"b@h", 4, plan.entries)?, seats).ok()
-}
-
-fn next_pair(passes: &mut Vec<Pass>) -> Option<Pair> {
-    let reader = passes.pop()?;
-    let writer = passes.pop()?;
-    Some(Pair { reader, writer })
-}
-
-fn paired(alloc: Global, passes: &mut Vec<Pass>, count: u32) -> Option<Vec<Pair>> {
-    let mut pairs = Vec::new(alloc);
-    for _ in 0..count {
-        pairs.push(next_pair(passes)?).ok()?;
-    }
-    Some(pairs)
 }
 
 /// Puts the pairs back behind the passes.
 fn unpair(passes: &mut Vec<Pass>, pairs: Vec<Pair>) -> Option<()> {
     for pair in pairs {
-        passes.push(pair.reader).ok()?;
-        passes.push(pair.writer).ok()?;
+        put_back(passes, pair)?;
     }
     Some(())
 }
@@ -186,20 +172,13 @@ fn open_idle<R: Wait>(rt: &R, node: &Node, pass: &mut Pass, links: u32) -> Optio
     Some(())
 }
 
-/// What `accept_links` tells.
-#[derive(Clone, Copy, Debug, PartialEq, Eq)]
-struct Seen {
-    served: usize,
-    end: AcceptEnd,
-}
-
 /// Serves the connections of the plan.
 fn accept<R: Threads + Wait + Sync>(
     rt: &R,
     alloc: Global,
     node: &Node,
     pairs: Vec<Pair>,
-    plan: Plan,
+    plan: &Plan,
     heard: &Heard,
 ) -> Accepted {
     let mut door = Callers {
@@ -212,17 +191,19 @@ fn accept<R: Threads + Wait + Sync>(
     accept_links(rt, alloc, node, pairs, &mut door, &mut source, heard)
 }
 
-/// The same on a new node, which then closes with all passes.
+/// The same on a new node, which then closes with all passes: how many links were served, and why no more are.
 fn serve<R: Threads + Wait + Sync>(
     rt: &R,
     alloc: Global,
-    plan: Plan,
+    plan: &Plan,
     heard: &Heard,
-) -> Option<Seen> {
+) -> Option<(usize, AcceptEnd)> {
     let (node, mut passes) = new_node(alloc, plan)?;
     let seen = serve_on(rt, alloc, &node, &mut passes, plan, heard);
-    closed(node, passes)?;
-    seen
+    match closed(node, passes) {
+        Some(_) => seen,
+        None => None,
+    }
 }
 
 /// The same on this node, whose passes are all there again in the end.
@@ -231,14 +212,16 @@ fn serve_on<R: Threads + Wait + Sync>(
     alloc: Global,
     node: &Node,
     passes: &mut Vec<Pass>,
-    plan: Plan,
+    plan: &Plan,
     heard: &Heard,
-) -> Option<Seen> {
+) -> Option<(usize, AcceptEnd)> {
     open_idle(rt, node, passes.first_mut()?, plan.opened)?;
     let pairs = paired(alloc, passes, plan.pairs)?;
     let Accepted { pairs, served, end } = accept(rt, alloc, node, pairs, plan, heard);
-    unpair(passes, pairs)?;
-    Some(Seen { served, end })
+    match unpair(passes, pairs) {
+        Some(()) => Some((served, end)),
+        None => None,
+    }
 }
 
 const TWO: Plan = Plan {
@@ -250,33 +233,67 @@ const TWO: Plan = Plan {
     fails: false,
 };
 
+/// The first of two readers waits until the second was answered.
+static WAITING: Plan = Plan { waits: true, ..TWO };
+
 #[test]
 fn readers_run_at_once(rt: HostRuntime) {
     let heard = Heard::new();
-    let plan = Plan { waits: true, ..TWO };
-    let wanted = Seen {
-        served: 2,
-        end: AcceptEnd::NoMore,
-    };
-    assert_eq!(rt; serve(&rt, rt.alloc(), plan, &heard), Some(wanted));
-    assert_eq!(rt; heard.missed.load(Ordering::SeqCst), 0);
-    assert_eq!(rt; heard.hung_up.load(Ordering::SeqCst), 2);
+    let wanted = Some((2, AcceptEnd::NoMore));
+    assert!(rt; serve(&rt, rt.alloc(), &WAITING, &heard) == wanted);
+    assert!(rt; heard.has(0, 2));
+}
+
+/// A plan, how many links are served, and why no more are.
+struct Planned(&'static str, Plan, usize, AcceptEnd);
+
+static PLANNED: [Planned; 7] = [
+    Planned("two", TWO, 2, AcceptEnd::NoMore),
+    Planned(
+        "a fault",
+        Plan { fails: true, ..TWO },
+        2,
+        AcceptEnd::DoorFault,
+    ),
+    Planned(
+        "one pair",
+        Plan { pairs: 1, ..TWO },
+        1,
+        AcceptEnd::PassesUsed,
+    ),
+    Planned(
+        "two pairs",
+        Plan { pairs: 2, ..TWO },
+        2,
+        AcceptEnd::PassesUsed,
+    ),
+    Planned(
+        "no pair",
+        Plan { pairs: 0, ..TWO },
+        0,
+        AcceptEnd::PassesUsed,
+    ),
+    Planned(
+        "one entry",
+        Plan { entries: 1, ..TWO },
+        1,
+        AcceptEnd::EntriesFull,
+    ),
+    Planned(
+        "no link left",
+        Plan { opened: 64, ..TWO },
+        0,
+        AcceptEnd::NoMore,
+    ),
+];
+
+fn is_served<R: Threads + Wait + Sync>(rt: &R, alloc: Global, row: &Planned) -> bool {
+    serve(rt, alloc, &row.1, &Heard::new()) == Some((row.2, row.3))
 }
 
 #[test]
 fn ends_where_no_more_are_taken(rt: HostRuntime) {
-    let plans = [
-        (TWO, 2, AcceptEnd::NoMore),
-        (Plan { fails: true, ..TWO }, 2, AcceptEnd::DoorFault),
-        (Plan { pairs: 1, ..TWO }, 1, AcceptEnd::PassesUsed),
-        (Plan { pairs: 2, ..TWO }, 2, AcceptEnd::PassesUsed),
-        (Plan { pairs: 0, ..TWO }, 0, AcceptEnd::PassesUsed),
-        (Plan { entries: 1, ..TWO }, 1, AcceptEnd::EntriesFull),
-        (Plan { opened: 64, ..TWO }, 0, AcceptEnd::NoMore),
-    ];
-    for (plan, served, end) in plans {
-        let heard = Heard::new();
-        let wanted = Seen { served, end };
-        assert_eq!(rt; serve(&rt, rt.alloc(), plan, &heard), Some(wanted));
+    for row in &PLANNED {
+        assert!(rt; is_served(&rt, rt.alloc(), row), "{}", row.0);
     }
 }

@@ -1,6 +1,6 @@
 //! What the peers of a door are asked. The words are the first of the key stream of RFC 8439, A.1, test vector 1.
 use super::accepting::NAME;
-use super::opening;
+use super::{give, opening, paired};
 use cookie_digest::ChallengeSource;
 use node_threads::*;
 use rand_chacha::ChaCha20Rng;
@@ -44,6 +44,10 @@ impl Asked {
             .store(place.saturating_add(1), Ordering::SeqCst);
     }
 
+    fn was(&self, challenge: u64) -> bool {
+        self.challenge.load(Ordering::SeqCst) == challenge
+    }
+
     /// Waits for the whole challenge, for a while.
     fn wait(&self) {
         for _ in 0..1_000_000u32 {
@@ -64,11 +68,7 @@ struct Peer<'a> {
 
 impl Read for Peer<'_> {
     fn read(&mut self, buf: &mut [u8]) -> io::Result<usize> {
-        let left = NAME.get(self.sent..).unwrap_or(&[]);
-        let count = left.len().min(buf.len());
-        for place in 0..count {
-            buf[place] = left[place];
-        }
+        let count = give(NAME.get(self.sent..).unwrap_or(&[]), buf);
         if count == 0 {
             self.asked.wait();
         }
@@ -123,31 +123,24 @@ impl<'a> Door for Callers<'a> {
 /// The node b@h and two pairs of its passes.
 fn two_pairs(alloc: Global) -> Option<(Node, Vec<Pair>)> {
     let (node, mut passes) = Node::new(alloc, opening(alloc, b"b@h", 4, 1000)?, 4).ok()?;
-    let mut pairs = Vec::new(alloc);
-    for _ in 0..2 {
-        let reader = passes.pop()?;
-        let writer = passes.pop()?;
-        pairs.push(Pair { reader, writer }).ok()?;
+    match paired(alloc, &mut passes, 2) {
+        Some(pairs) => Some((node, pairs)),
+        None => None,
     }
-    Some((node, pairs))
 }
 
-/// Serves two peers: how many links there were, and what each peer was asked.
-fn serve_two<R: Threads + Wait + Sync>(rt: &R, alloc: Global) -> Option<(usize, [u64; 2])> {
-    let (node, pairs) = two_pairs(alloc)?;
-    let asked = [Asked::new(), Asked::new()];
-    let mut door = Callers { left: &asked };
+/// Serves a peer for each: how many links there were.
+fn serve_two<R: Threads + Wait + Sync>(rt: &R, alloc: Global, asked: &[Asked]) -> Option<usize> {
+    let mut door = Callers { left: asked };
     let mut source = ChallengeSource::new(ChaCha20Rng::from_seed([0; 32]));
+    let (node, pairs) = two_pairs(alloc)?;
     let accepted = accept_links(rt, alloc, &node, pairs, &mut door, &mut source, &OpenGate);
-    let challenges = [
-        asked[0].challenge.load(Ordering::SeqCst),
-        asked[1].challenge.load(Ordering::SeqCst),
-    ];
-    Some((accepted.served, challenges))
+    Some(accepted.served)
 }
 
 #[test]
 fn asks_each_peer_the_next_word(rt: HostRuntime) {
-    let words = [0xade0_b876, 0x903d_f1a0];
-    assert_eq!(rt; serve_two(&rt, rt.alloc()), Some((2, words)));
+    let asked = [Asked::new(), Asked::new()];
+    assert!(rt; serve_two(&rt, rt.alloc(), &asked) == Some(2));
+    assert!(rt; asked[0].was(0xade0_b876) && asked[1].was(0x903d_f1a0));
 }

@@ -5,13 +5,6 @@ use policy_audit::Event;
 use std::alloc::Global;
 use std::sync::Wait;
 
-/// Two seats: the pass of seat 0 alone, and then both.
-fn lacks_a_pass(alloc: Global) -> Option<CloseRule> {
-    let (node, mut passes) = new_node(alloc, 100, 2)?;
-    let second = passes.pop()?;
-    closed_with(node.close(passes).err()?, second)
-}
-
 /// Why a node wasn't closed; with one pass more it is.
 fn closed_with(fault: CloseFault, pass: Pass) -> Option<CloseRule> {
     let CloseFault {
@@ -20,38 +13,10 @@ fn closed_with(fault: CloseFault, pass: Pass) -> Option<CloseRule> {
         mut passes,
     } = fault;
     passes.push(pass).ok()?;
-    closed(node, passes)?;
-    Some(rule)
-}
-
-/// A pass that has spawned a process on a node of its own.
-fn stranger<R: Wait>(rt: &R, alloc: Global) -> Option<Pass> {
-    let (node, mut passes) = new_node(alloc, 100, 1)?;
-    used(rt, &node, passes.pop()?, Event::Spawn)
-}
-
-/// The pass, once the node has answered its call.
-fn used<R: Wait>(rt: &R, node: &Node, mut pass: Pass, event: Event) -> Option<Pass> {
-    if is_done(rt, node, &mut pass, event) {
-        Some(pass)
-    } else {
-        None
+    match closed(node, passes) {
+        Some(_) => Some(rule),
+        None => None,
     }
-}
-
-/// What a strange pass is told by a new node, and why the node isn't closed with both passes, nor with the strange one.
-#[derive(Clone, Copy, Debug, PartialEq, Eq)]
-struct Meeting {
-    told: Option<CallFault>,
-    both: CloseRule,
-    strange: CloseRule,
-}
-
-fn meets_a_stranger<R: Wait>(rt: &R, alloc: Global) -> Option<Meeting> {
-    let mut strange = stranger(rt, alloc)?;
-    let (node, passes) = new_node(alloc, 100, 1)?;
-    let told = fault_of(rt, &node, &mut strange, Event::Spawn);
-    met(told, unclosed(node, passes, strange)?)
 }
 
 /// The fault of a close with one pass more.
@@ -60,14 +25,37 @@ fn unclosed(node: Node, mut passes: Vec<Pass>, pass: Pass) -> Option<CloseFault>
     node.close(passes).err()
 }
 
-fn met(told: Option<CallFault>, fault: CloseFault) -> Option<Meeting> {
-    let both = fault.rule;
-    let strange = strange_alone(fault)?;
-    Some(Meeting {
-        told,
-        both,
-        strange,
-    })
+/// Two seats: the pass of seat 0 alone, and then both.
+fn lacks_a_pass(alloc: Global) -> Option<CloseRule> {
+    let (node, mut passes) = new_node(alloc, 100, 2)?;
+    let second = passes.pop()?;
+    match node.close(passes) {
+        Ok(_) => None,
+        Err(fault) => closed_with(fault, second),
+    }
+}
+
+/// A pass that has spawned a process on a node of its own.
+fn stranger<R: Wait>(rt: &R, alloc: Global) -> Option<Pass> {
+    let (node, mut passes) = new_node(alloc, 100, 1)?;
+    let has_spawned = match passes.first_mut() {
+        Some(pass) => is_done(rt, &node, pass, Event::Spawn),
+        None => false,
+    };
+    if has_spawned { passes.pop() } else { None }
+}
+
+/// What a strange pass is told by a new node, and why the node isn't closed with both passes, nor with the strange one.
+type Meeting = (Option<CallFault>, CloseRule, CloseRule);
+
+fn meets_a_stranger<R: Wait>(rt: &R, alloc: Global) -> Option<Meeting> {
+    let mut strange = stranger(rt, alloc)?;
+    let (node, passes) = new_node(alloc, 100, 1)?;
+    let told = fault_of(rt, &node, &mut strange, Event::Spawn);
+    match unclosed(node, passes, strange) {
+        Some(fault) => Some((told, fault.rule, strange_alone(fault)?)),
+        None => None,
+    }
 }
 
 /// Why the node isn't closed with the strange pass, its last; with its own pass it is.
@@ -78,38 +66,34 @@ fn strange_alone(fault: CloseFault) -> Option<CloseRule> {
         mut passes,
     } = fault;
     let own = take_own(&mut passes)?;
-    alone(node.close(passes).err()?, own)
+    match node.close(passes) {
+        Ok(_) => None,
+        Err(fault) => alone(fault, own),
+    }
 }
 
-/// Takes away the pass before the last.
+/// Takes away the first of two passes.
 fn take_own(passes: &mut Vec<Pass>) -> Option<Pass> {
-    let strange = passes.pop()?;
-    let own = passes.pop()?;
-    passes.push(strange).ok()?;
-    Some(own)
+    if passes.len() == 2 {
+        Some(passes.swap_remove(0))
+    } else {
+        None
+    }
 }
 
 /// Why a node wasn't closed; with this pass alone it is.
-fn alone(fault: CloseFault, pass: Pass) -> Option<CloseRule> {
-    let CloseFault {
-        rule,
-        node,
-        mut passes,
-    } = fault;
-    passes.clear();
-    passes.push(pass).ok()?;
-    closed(node, passes)?;
-    Some(rule)
+fn alone(mut fault: CloseFault, pass: Pass) -> Option<CloseRule> {
+    fault.passes.clear();
+    closed_with(fault, pass)
 }
 
 #[test]
 fn close_refusals(rt: HostRuntime) {
-    let alloc: Global = rt.alloc();
-    assert_eq!(rt; lacks_a_pass(alloc), Some(CloseRule::MissingPass));
-    let wanted = Meeting {
-        told: Some(CallFault::StrangePass),
-        both: CloseRule::DoublePass,
-        strange: CloseRule::Mismatch,
-    };
-    assert_eq!(rt; meets_a_stranger(&rt, alloc), Some(wanted));
+    assert!(rt; lacks_a_pass(rt.alloc()) == Some(CloseRule::MissingPass));
+    let wanted = (
+        Some(CallFault::StrangePass),
+        CloseRule::DoublePass,
+        CloseRule::Mismatch,
+    );
+    assert!(rt; meets_a_stranger(&rt, rt.alloc()) == Some(wanted));
 }

@@ -4,7 +4,7 @@ use node_threads::*;
 use std::alloc::Global;
 use std::sync::Wait;
 
-const ASKS: [Ask; 7] = [
+static ASKS: [Ask; 7] = [
     Ask::Start,
     Ask::Spawn,
     Ask::Members,
@@ -25,14 +25,17 @@ fn news_of<R: Wait>(rt: &R, node: &Node, pass: &mut Pass, member: &Member) -> [u
 }
 
 fn played<R: Wait>(rt: &R, alloc: Global) -> Option<[u32; 7]> {
-    let (node, mut passes) = new_node(alloc, 100, 1)?;
     let member = member_of(alloc, 1)?;
-    Some(news_of(rt, &node, passes.first_mut()?, &member))
+    let (node, mut passes) = new_node(alloc, 100, 1)?;
+    match passes.first_mut() {
+        Some(pass) => Some(news_of(rt, &node, pass, &member)),
+        None => None,
+    }
 }
 
 /// A join and a leave are news, and a start, with which links of slow peers may end. Queries, a new
 /// process, and a leave that is refused, are none.
 #[test]
 fn changes_alone_are_news(rt: HostRuntime) {
-    assert_eq!(rt; played(&rt, rt.alloc()), Some([1, 1, 1, 4, 4, 6, 6]));
+    assert!(rt; played(&rt, rt.alloc()) == Some([1, 1, 1, 4, 4, 6, 6]));
 }

@@ -56,41 +56,41 @@ fn caller<R: Wait>(
 }
 
 /// Starts the scope, and two processes.
-fn begin<R: Wait>(rt: &R, alloc: Global, node: &Node, pass: &mut Pass) -> bool {
-    let Some(member) = member_of(alloc, 1) else {
-        return false;
-    };
-    for what in [Ask::Start, Ask::Spawn, Ask::Spawn] {
-        if ask_for(rt, node, pass, &member, Way::Call, what) != Told::Done {
+fn begin<R: Wait>(rt: &R, node: &Node, pass: &mut Pass, member: &Member) -> bool {
+    for what in &[Ask::Start, Ask::Spawn, Ask::Spawn] {
+        if ask_for(rt, node, pass, member, Way::Call, *what) != Told::Done {
             return false;
         }
     }
     true
 }
 
-/// What both callers were told in the end, and how many entries the node has.
-#[derive(Clone, Copy, Debug, PartialEq, Eq)]
-struct ReadBack {
-    members: u64,
-    full: u64,
-    entries: usize,
+fn begins<R: Wait>(rt: &R, alloc: Global, node: &Node, passes: &mut [Pass]) -> bool {
+    let Some(first) = passes.first_mut() else {
+        return false;
+    };
+    match member_of(alloc, 1) {
+        Some(member) => begin(rt, node, first, &member),
+        None => false,
+    }
 }
 
+/// How many callers are members in the end, how many found the audit full, and how many entries the node has.
 fn read_back<R: Threads + Wait + Sync>(
     rt: &R,
     alloc: Global,
     entries: u32,
     way: Way,
-) -> Option<ReadBack> {
+) -> Option<(u64, u64, usize)> {
     let (node, mut passes) = new_node(alloc, entries, 2)?;
     let tally = Tally::new();
     both(rt, alloc, &node, passes.as_mut_slice(), way, &tally);
     let entries = closed(node, passes)?;
-    Some(ReadBack {
-        members: tally.members.load(Ordering::SeqCst),
-        full: tally.full.load(Ordering::SeqCst),
+    Some((
+        tally.members.load(Ordering::SeqCst),
+        tally.full.load(Ordering::SeqCst),
         entries,
-    })
+    ))
 }
 
 /// Each caller on a thread of its own.
@@ -102,10 +102,7 @@ fn both<R: Threads + Wait + Sync>(
     way: Way,
     tally: &Tally,
 ) {
-    let Some(first) = passes.first_mut() else {
-        return;
-    };
-    if begin(rt, alloc, node, first) {
+    if begins(rt, alloc, node, passes) {
         thread::for_each_mut(
             rt,
             passes,
@@ -115,21 +112,13 @@ fn both<R: Threads + Wait + Sync>(
     }
 }
 
+fn reads_back<R: Threads + Wait + Sync>(rt: &R, alloc: Global, way: Way) -> bool {
+    read_back(rt, alloc, 100, way) == Some((2, 0, 7))
+        && read_back(rt, alloc, 6, way) == Some((1, 1, 6))
+}
+
 #[test]
 fn two_threads_read_back(rt: HostRuntime) {
-    let alloc: Global = rt.alloc();
-    for way in [Way::Call, Way::Lock] {
-        let all = ReadBack {
-            members: 2,
-            full: 0,
-            entries: 7,
-        };
-        assert_eq!(rt; read_back(&rt, alloc, 100, way), Some(all));
-        let one = ReadBack {
-            members: 1,
-            full: 1,
-            entries: 6,
-        };
-        assert_eq!(rt; read_back(&rt, alloc, 6, way), Some(one));
-    }
+    assert!(rt; reads_back(&rt, rt.alloc(), Way::Call));
+    assert!(rt; reads_back(&rt, rt.alloc(), Way::Lock));
 }

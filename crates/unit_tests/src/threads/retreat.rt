@@ -9,14 +9,13 @@ fn next(retreat: &mut Retreat, answer: Result<&Reply, CallFault>) -> RetreatStep
 }
 
 /// An answer to a Lost, and what follows on it.
-#[derive(Clone, Copy)]
 struct Answer {
     fault: CallFault,
     step: RetreatStep,
 }
 
 /// The answers behind 63 wants of memory.
-const ANSWERS: [Answer; 5] = [
+static ANSWERS: [Answer; 5] = [
     Answer {
         fault: CallFault::Core(CoreFault::Refused(Rule::EntriesFull)),
         step: RetreatStep::Full,
@@ -39,15 +38,22 @@ const ANSWERS: [Answer; 5] = [
     },
 ];
 
+/// Whether each of so many wants is tried again.
+fn are_tried_again(retreat: &mut Retreat, wants: u32) -> bool {
+    for _ in 0..wants {
+        if next(retreat, Err(CallFault::Core(CoreFault::OutOfMemory))) != RetreatStep::Again {
+            return false;
+        }
+    }
+    true
+}
+
 #[test]
 fn a_retreat_ends_at_the_64th_want(rt: HostRuntime) {
     let mut retreat = Retreat::new();
-    for want in 1..64u32 {
-        let step = next(&mut retreat, Err(CallFault::Core(CoreFault::OutOfMemory)));
-        assert_eq!(rt; step, RetreatStep::Again, "want {want}");
-    }
-    assert_eq!(rt; next(&mut retreat, Ok(&Reply::Done)), RetreatStep::Settled);
-    for answer in ANSWERS {
-        assert_eq!(rt; next(&mut retreat, Err(answer.fault)), answer.step);
+    let are_tried = are_tried_again(&mut retreat, 63);
+    assert!(rt; are_tried && next(&mut retreat, Ok(&Reply::Done)) == RetreatStep::Settled);
+    for answer in &ANSWERS {
+        assert!(rt; next(&mut retreat, Err(answer.fault)) == answer.step);
     }
 }

@@ -1,5 +1,6 @@
 //! The workers of a link over bytes in memory: the name frame and the reply of a@h, and what b@h owes to them.
-use super::{closed, opening};
+use super::{closed, give, opening, put_back};
+use crate::digits::front;
 use node_threads::*;
 use policy_audit::{Event, Reply};
 use std::alloc::Global;
@@ -34,11 +35,11 @@ struct Sent {
 }
 
 impl Sent {
-    fn by(step: usize) -> Sent {
+    fn by(step: usize, interrupts: bool) -> Sent {
         Sent {
             at: 0,
             step,
-            interrupts: false,
+            interrupts,
             interrupted: false,
         }
     }
@@ -52,10 +53,7 @@ impl Read for Sent {
         }
         self.interrupted = false;
         let left = SENT.get(self.at..).unwrap_or(&[]);
-        let count = left.len().min(self.step).min(buf.len());
-        for place in 0..count {
-            buf[place] = left[place];
-        }
+        let count = give(front(left, self.step), buf);
         self.at = self.at.saturating_add(count);
         Ok(count)
     }
@@ -86,23 +84,19 @@ impl Told {
         }
     }
 
+    /// Counts what was written so far, where it is as it should be.
+    fn hear(&self, taken: &[u8]) {
+        if OWED.starts_with(taken) {
+            self.right.store(taken.len() as u64, Ordering::SeqCst);
+        }
+    }
+
     fn has_all(&self) -> bool {
         self.right.load(Ordering::SeqCst) == OWED.len() as u64
     }
 
     fn is_hung_up(&self) -> bool {
         self.hung_up.load(Ordering::SeqCst) > 0
-    }
-}
-
-impl<'a> Wire<'a> {
-    fn by(alloc: Global, step: usize, told: &'a Told) -> Wire<'a> {
-        Wire {
-            taken: Vec::new(alloc),
-            step,
-            most: OWED.len(),
-            told,
-        }
     }
 }
 
@@ -116,11 +110,7 @@ impl Write for Wire<'_> {
         if self.taken.extend_from_slice(&buf[..count]).is_err() {
             return Err(io::Error::from(ErrorKind::OutOfMemory));
         }
-        if OWED.get(..self.taken.len()) == Some(self.taken.as_slice()) {
-            self.told
-                .right
-                .store(self.taken.len() as u64, Ordering::SeqCst);
-        }
+        self.told.hear(&self.taken);
         Ok(count)
     }
 
@@ -160,7 +150,7 @@ impl Gate for Holding<'_> {
 /// The node b@h with link 1 open, the pass of its reader, and that of its writer.
 fn with_link<R: Wait>(rt: &R, alloc: Global, entries: u32) -> Option<(Node, Vec<Pass>)> {
     let (node, mut passes) = Node::new(alloc, opening(alloc, b"b@h", 4, entries)?, 2).ok()?;
-    if opens_link(rt, &node, passes.as_mut_slice(), Event::Opened(123)) {
+    if opens_link(rt, &node, passes.as_mut_slice()) {
         Some((node, passes))
     } else {
         None
@@ -168,9 +158,9 @@ fn with_link<R: Wait>(rt: &R, alloc: Global, entries: u32) -> Option<(Node, Vec<
 }
 
 /// Whether the first pass opens link 1.
-fn opens_link<R: Wait>(rt: &R, node: &Node, passes: &mut [Pass], event: Event) -> bool {
+fn opens_link<R: Wait>(rt: &R, node: &Node, passes: &mut [Pass]) -> bool {
     match passes.first_mut() {
-        Some(reader) => is_link_1_made(rt, node, reader, event),
+        Some(reader) => is_link_1_made(rt, node, reader, Event::Opened(123)),
         None => false,
     }
 }
@@ -190,110 +180,123 @@ fn is_link_1(reply: &Reply) -> bool {
     }
 }
 
-/// How many frames and how many losses a pass has called behind its first entry, if it has called nothing else.
-fn calls_of(pass: &Pass) -> Option<(usize, usize)> {
-    let mut frames = 0usize;
-    let mut lost = 0usize;
-    for call in pass.calls().get(1..)? {
-        if lost == 0 && is_frame(&call.event) {
-            frames = frames.saturating_add(1);
-        } else if is_loss(&call.event) {
-            lost = lost.saturating_add(1);
-        } else {
-            return None;
+/// The kind of an event of link 1.
+fn kind(event: &Event) -> u8 {
+    match event {
+        Event::Frame(1, _) => b'F',
+        Event::Lost(1) => b'L',
+        _ => b'?',
+    }
+}
+
+/// Whether these calls are of these kinds.
+fn are_of(calls: &[Call], kinds: &[u8]) -> bool {
+    for (call, wanted) in calls.iter().zip(kinds) {
+        if kind(&call.event) != *wanted {
+            return false;
         }
     }
-    Some((frames, lost))
+    calls.len() == kinds.len()
 }
 
-fn is_frame(event: &Event) -> bool {
-    matches!(event, Event::Frame(1, _))
+/// Whether a pass has called just these behind its first entry.
+fn has_called(pass: &Pass, kinds: &[u8]) -> bool {
+    match pass.calls().split_first() {
+        Some((_, calls)) => are_of(calls, kinds),
+        None => false,
+    }
 }
 
-fn is_loss(event: &Event) -> bool {
-    matches!(event, Event::Lost(1))
-}
-
-/// Why a reader stopped, and what its pass has called.
-#[derive(Clone, Copy, Debug, PartialEq, Eq)]
-struct Seen {
+/// How many entries an audit may have, why a reader stops then, and what its pass has called.
+struct Stopped {
+    entries: u32,
     end: ReadEnd,
-    frames: usize,
-    lost: usize,
+    kinds: &'static [u8],
 }
 
-/// Reads what was sent.
-fn read<R: Wait>(rt: &R, alloc: Global, entries: u32, sent: &mut Sent) -> Option<Seen> {
-    let (node, mut passes) = with_link(rt, alloc, entries)?;
-    let seen = read_by(rt, alloc, &node, passes.as_mut_slice(), sent);
-    closed(node, passes)?;
-    seen
+static CLOSED: Stopped = Stopped {
+    entries: 100,
+    end: ReadEnd::Closed,
+    kinds: b"FFL",
+};
+
+static FULL: [Stopped; 3] = [
+    Stopped {
+        entries: 1,
+        end: ReadEnd::EntriesFull,
+        kinds: b"",
+    },
+    Stopped {
+        entries: 2,
+        end: ReadEnd::EntriesFull,
+        kinds: b"F",
+    },
+    Stopped {
+        entries: 3,
+        end: ReadEnd::EntriesFull,
+        kinds: b"FF",
+    },
+];
+
+/// Whether a reader of what was sent, at most so many bytes a read, stops so, and the node closes.
+fn stops<R: Wait>(rt: &R, alloc: Global, row: &Stopped, step: usize, interrupts: bool) -> bool {
+    let Some((node, mut passes)) = with_link(rt, alloc, row.entries) else {
+        return false;
+    };
+    let mut sent = Sent::by(step, interrupts);
+    let is_read = reads(rt, alloc, &node, passes.as_mut_slice(), &mut sent, row);
+    closed(node, passes).is_some() && is_read
 }
 
 /// Reads by the first pass.
-fn read_by<R: Wait>(
+fn reads<R: Wait>(
     rt: &R,
     alloc: Global,
     node: &Node,
     passes: &mut [Pass],
     sent: &mut Sent,
-) -> Option<Seen> {
-    let reader = passes.first_mut()?;
-    let end = read_link(rt, alloc, node, reader, 1, sent, &OpenGate);
-    let (frames, lost) = calls_of(reader)?;
-    Some(Seen { end, frames, lost })
+    row: &Stopped,
+) -> bool {
+    match passes.first_mut() {
+        Some(reader) => {
+            let end = read_link(rt, alloc, node, reader, 1, sent, &OpenGate);
+            end == row.end && has_called(reader, row.kinds)
+        }
+        None => false,
+    }
 }
 
 #[test]
 fn reads_however_the_bytes_come(rt: HostRuntime) {
-    let wanted = Seen {
-        end: ReadEnd::Closed,
-        frames: 2,
-        lost: 1,
-    };
-    for step in [4096, 20, 7, 1] {
-        for interrupts in [false, true] {
-            let mut sent = Sent::by(step);
-            sent.interrupts = interrupts;
-            assert_eq!(rt; read(&rt, rt.alloc(), 100, &mut sent), Some(wanted));
-        }
+    for step in &[4096, 20, 7, 1] {
+        assert!(rt; stops(&rt, rt.alloc(), &CLOSED, *step, false), "{step}");
+        assert!(rt; stops(&rt, rt.alloc(), &CLOSED, *step, true), "{step}");
     }
 }
 
 #[test]
 fn a_full_audit_ends_a_reader(rt: HostRuntime) {
-    for entries in [1u32, 2, 3] {
-        let wanted = Seen {
-            end: ReadEnd::EntriesFull,
-            frames: entries.saturating_sub(1) as usize,
-            lost: 0,
-        };
-        assert_eq!(rt;
-            read(&rt, rt.alloc(), entries, &mut Sent::by(4096)),
-            Some(wanted)
-        );
+    for row in &FULL {
+        assert!(rt; stops(&rt, rt.alloc(), row, 4096, false), "{}", row.entries);
     }
 }
 
-/// Why both workers stopped.
-#[derive(Clone, Copy, Debug, PartialEq, Eq)]
-struct Ends {
-    read: ReadEnd,
-    written: WriteEnd,
-}
-
-/// Serves the link with both workers, over these ends.
+/// Serves the link with both workers, over these ends: why both stop, where the node closes.
 fn serve<R: Threads + Wait + Sync>(
     rt: &R,
     alloc: Global,
     sent: Sent,
     wire: Wire<'_>,
-) -> Option<Ends> {
+) -> Option<(ReadEnd, WriteEnd)> {
     let (node, mut passes) = with_link(rt, alloc, 100)?;
     let writer = passes.pop()?;
-    let reader = passes.pop()?;
-    let served = serve_with(rt, alloc, &node, Pair { reader, writer }, sent, wire);
-    ended(node, served, passes)
+    match passes.pop() {
+        Some(reader) => {
+            let served = serve_with(rt, alloc, &node, Pair { reader, writer }, sent, wire);
+            ended(node, served, passes)
+        }
+        None => None,
+    }
 }
 
 fn serve_with<R: Threads + Wait + Sync>(
@@ -317,46 +320,55 @@ fn serve_with<R: Threads + Wait + Sync>(
 }
 
 /// Closes the node with the passes of both workers.
-fn ended(node: Node, served: ServedLink, mut passes: Vec<Pass>) -> Option<Ends> {
+fn ended(node: Node, served: ServedLink, mut passes: Vec<Pass>) -> Option<(ReadEnd, WriteEnd)> {
     let ServedLink {
         pair,
         read,
         written,
     } = served;
-    passes.push(pair.reader).ok()?;
-    passes.push(pair.writer).ok()?;
-    closed(node, passes)?;
-    Some(Ends { read, written })
+    put_back(&mut passes, pair)?;
+    match closed(node, passes) {
+        Some(_) => Some((read, written)),
+        None => None,
+    }
+}
+
+/// Whether both workers stop so, with a writer that takes so many bytes a write, and ever, and a reader that gives so many.
+fn is_served<R: Threads + Wait + Sync>(
+    rt: &R,
+    alloc: Global,
+    step: usize,
+    most: usize,
+    given: usize,
+    ends: (ReadEnd, WriteEnd),
+) -> bool {
+    let told = Told::new();
+    let wire = Wire {
+        taken: Vec::new(alloc),
+        step,
+        most,
+        told: &told,
+    };
+    serve(rt, alloc, Sent::by(given, false), wire) == Some(ends)
+        && told.has_all() == (most == OWED.len())
+        && told.is_hung_up()
 }
 
 #[test]
 fn both_workers_serve_a_link(rt: HostRuntime) {
-    let wanted = Ends {
-        read: ReadEnd::Closed,
-        written: WriteEnd::Gone,
-    };
-    for step in [4096, 7, 1] {
-        let told = Told::new();
-        let wire = Wire::by(rt.alloc(), step, &told);
-        assert_eq!(rt; serve(&rt, rt.alloc(), Sent::by(4096), wire), Some(wanted));
-        assert!(rt; told.has_all());
-        assert!(rt; told.is_hung_up());
+    let ends = (ReadEnd::Closed, WriteEnd::Gone);
+    for step in &[4096, 7, 1] {
+        let is_served = is_served(&rt, rt.alloc(), *step, OWED.len(), 4096, ends);
+        assert!(rt; is_served, "{step}");
     }
 }
 
 /// The writer fails while the reader waits for the reply: it gives the link up and hangs up, and the reply meets no link.
 #[test]
 fn a_failed_write_ends_both_workers(rt: HostRuntime) {
-    let wanted = Ends {
-        read: ReadEnd::Gone,
-        written: WriteEnd::WriteFault,
-    };
-    for most in [0usize, 1, 5, 28] {
-        let told = Told::new();
-        let mut wire = Wire::by(rt.alloc(), 4096, &told);
-        wire.most = most;
-        assert_eq!(rt; serve(&rt, rt.alloc(), Sent::by(20), wire), Some(wanted));
-        assert!(rt; !told.has_all());
-        assert!(rt; told.is_hung_up());
+    let ends = (ReadEnd::Gone, WriteEnd::WriteFault);
+    for most in &[0, 1, 5, 28] {
+        let is_served = is_served(&rt, rt.alloc(), 4096, *most, 20, ends);
+        assert!(rt; is_served, "{most}");
     }
 }
