@@ -1,4 +1,5 @@
-//! Two nodes in one process, linked over the loopback: each has a process in one group, and lists that of the other.
+//! Two nodes in one process, linked over the loopback: each has a process in one group, and lists
+//! that of the other.
 use crate::sockets::{connected, second_of};
 use anyhow::{Error, Result, bail};
 use dist_types::{Cookie, NodeName, OutOfMemory, TextFault};
@@ -19,7 +20,8 @@ const TRIES: u32 = 10_000;
 /// The milliseconds between two questions.
 const PAUSE: u64 = 1;
 
-/// What opens the link at the end that dials. The challenges are the same in each run: nobody else speaks on this link.
+/// What opens the link at the end that dials. The challenges are the same in each run: nobody else
+/// speaks on this link.
 const DIAL: &str = "dial b@h 7";
 
 /// What opens it at the other end.
@@ -87,9 +89,9 @@ struct Wire {
     hook: TcpStream,
 }
 
-/// Links the nodes a@h and b@h over 127.0.0.1, until each lists the process of the other, and parts and closes them. It writes
-/// a line for whom each node has seen and one for each that is closed, or the line `late`: whether each has listed both
-/// processes in time.
+/// Links the nodes a@h and b@h over 127.0.0.1, until each lists the process of the other, and parts
+/// and closes them. It writes a line for whom each node has seen and one for each that is closed,
+/// or the line `late`: whether each has listed both processes in time.
 pub fn pair<R, W>(rt: &R, alloc: Global, writer: &mut W) -> Result<bool>
 where
     R: Net<Listener = TcpListener, Stream = TcpStream> + Threads + Wait + Clock + Sync,
@@ -291,7 +293,8 @@ fn serve_both<R: Threads + Wait + Sync>(
     )
 }
 
-/// Asks each node until it lists two processes, which it adds, and parts them: whether both came in time.
+/// Asks each node until it lists two processes, which it adds, and parts them: whether both came in
+/// time.
 fn watch<R: Wait + Clock + Sync>(
     rt: &R,
     alloc: Global,

@@ -56,13 +56,26 @@ impl<'a> Program<'a, '_> {
     }
 }
 
-/// Where it can be reached.
+/// Where it can be reached, within which limits, and its standard streams.
 #[derive(Clone, Copy, Drop)]
 struct Outside<'a> {
     listen: Option<&'a str>,
     otp: OtpOptions<'a>,
     faces: Faces<'a>,
     limits: Limits,
+    queues: &'a Queues,
+}
+
+impl<'a> Outside<'a> {
+    fn of(options: &Options<'a>, queues: &'a Queues) -> Outside<'a> {
+        Outside {
+            listen: options.listen,
+            otp: options.otp,
+            faces: options.faces,
+            limits: options.limits,
+            queues,
+        }
+    }
 }
 
 /// Runs a node until the end of standard input, or until `quit`.
@@ -74,20 +87,18 @@ pub fn run<R: Host + Files<File = File>>(
     words: ChaCha20Rng,
     queues: &Queues,
 ) -> Result<()> {
+    let outside = Outside::of(&options, queues);
     let Options {
         opening,
-        listen,
-        otp,
         targets,
-        limits,
         allowed,
         cookies,
-        faces,
         clients,
         entries,
         audit,
         audit_size,
         log,
+        ..
     } = options;
     let (last_entry, in_parts) = (opening.entries, opening.links > 1);
     let mut maker = LifeMaker::new(opening, words);
@@ -99,13 +110,7 @@ pub fn run<R: Host + Files<File = File>>(
     let hub_settings = hub_settings(files, alloc, clients, keeping, last_entry, targets, log)?;
     let (hub, lanes) = maker.begin(rt, alloc, hub_settings, settings)?;
     hub.notes.edges.set_parts(in_parts);
-    let outside = Outside {
-        listen,
-        otp,
-        faces,
-        limits,
-    };
-    let ended = live_outside(rt, files, outside, queues, &hub, &closer, &mut maker, lanes);
+    let ended = live_outside(rt, files, outside, &hub, &closer, &mut maker, lanes);
     finish(rt, hub, &closer, ended)
 }
 
@@ -114,20 +119,25 @@ fn live_outside<R: Host + Files<File = File>>(
     rt: &R,
     files: &HostRuntime,
     outside: Outside<'_>,
-    queues: &Queues,
     hub: &Hub,
     closer: &Closer<'_>,
     maker: &mut LifeMaker,
     lanes: Vec<Lane>,
 ) -> Result<Vec<Lane>> {
     let (alloc, log) = (hub.alloc, &hub.log);
-    let otp_place = open_otp(rt, alloc, outside.otp, &name_of(rt, hub)?, queues, log)?;
-    let Outside { listen, faces, .. } = outside;
+    let Outside {
+        listen,
+        otp,
+        faces,
+        limits,
+        queues,
+    } = outside;
+    let otp_place = open_otp(rt, alloc, otp, &name_of(rt, hub)?, queues, log)?;
     let places = open_places(rt, files, alloc, listen, faces, queues, log)?;
     log_begin(rt, hub);
     let program = Program {
         hub,
-        limits: outside.limits,
+        limits,
         places: &places,
         otp_place: otp_place.as_ref(),
         closer,

@@ -8,8 +8,9 @@ use std::alloc::Global;
 
 const FLAGS: Flags = Flags(0x1_0100_0001);
 
-/// Two frames, what stands behind the name of each, and the version that this says. The name frame has the flags of bits 0,
-/// 24 and 32, the creation 5, and `a@h`; the challenge frame the same flags, the challenge 123, the creation 4, and `b@h`.
+/// Two frames, what stands behind the name of each, and the version that this says. The name frame
+/// has the flags of bits 0, 24 and 32, the creation 5, and `a@h`; the challenge frame the same
+/// flags, the challenge 123, the creation 4, and `b@h`.
 struct Behind {
     what: &'static str,
     name: &'static [u8],

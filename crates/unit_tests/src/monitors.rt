@@ -1,4 +1,5 @@
-//! Monitors that are moved to the end of a short audit, as no program does: those of a node go to the entry that fetched.
+//! Monitors that are moved to the end of a short audit, as no program does: those of a node go to
+//! the entry that fetched.
 ghost use Rattle.std.specs.Prelude.{◌≡◌, ◌+◌, ◌≤◌, [], ◌∷◌, IfOk, OnOk, IfSome, OnSome, length, Some, None, codes};
 ghost use Rattle.group_monitors.specs.Monitors.{monitor_of, HasSeen};
 
@@ -208,7 +209,8 @@ fn is_told(monitors: &Monitors, audit: &Audit, seat: u32, number: u32, told: &[T
     }
 }
 
-/// Seat 0 watches g of pg behind entry 1, seat 1 behind entry 2, and seat 0 all of pg behind entry 3.
+/// Seat 0 watches g of pg behind entry 1, seat 1 behind entry 2, and seat 0 all of pg behind
+/// entry 3.
 fn three(alloc: Global) -> Option<Monitors>
     ensures { IfSome result (λ monitors. monitors ≡ (1, record { seat = 0; scope = codes "pg"; group = Some (codes "g"); place = 1 }) ∷ (2, record { seat = 1; scope = codes "pg"; group = Some (codes "g"); place = 2 }) ∷ (3, record { seat = 0; scope = codes "pg"; group = None; place = 3 }) ∷ []) }
 {
@@ -266,7 +268,8 @@ static LEFT: [Told; 1] = [Told {
     numbers: &[3],
 }];
 
-/// Whether the monitor of seat 1 is told nothing after an advance, that of all of pg what it was, and the first what comes then.
+/// Whether the monitor of seat 1 is told nothing after an advance, that of all of pg what it was,
+/// and the first what comes then.
 fn is_told_after_advance(alloc: Global) -> Option<bool> {
     let mut audit = five(alloc)?;
     let mut monitors = three(alloc)?;

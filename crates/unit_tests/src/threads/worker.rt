@@ -1,4 +1,5 @@
-//! The workers of a link over bytes in memory: the name frame and the reply of a@h, and what b@h owes to them.
+//! The workers of a link over bytes in memory: the name frame and the reply of a@h, and what b@h
+//! owes to them.
 use super::{closed, give, opening, put_back};
 use crate::digits::front;
 use node_threads::*;
@@ -25,7 +26,8 @@ const OWED: [u8; 48] = [
     0x4c,
 ];
 
-/// Gives the bytes of the peer, at most so many a read; where it interrupts, each read is interrupted once before it gives any.
+/// Gives the bytes of the peer, at most so many a read; where it interrupts, each read is
+/// interrupted once before it gives any.
 #[derive(Drop)]
 struct Sent {
     at: usize,
@@ -165,7 +167,8 @@ fn opens_link<R: Wait>(rt: &R, node: &Node, passes: &mut [Pass]) -> bool {
     }
 }
 
-// What calls has no contract and is given the event, so that a check doesn't compute the policy's verdict on it.
+// What calls has no contract and is given the event, so that a check doesn't compute the policy's
+// verdict on it.
 fn is_link_1_made<R: Wait>(rt: &R, node: &Node, reader: &mut Pass, event: Event) -> bool {
     match reader.call(node, rt, event) {
         Ok(reply) => is_link_1(reply),
@@ -333,7 +336,8 @@ fn ended(node: Node, served: ServedLink, mut passes: Vec<Pass>) -> Option<(ReadE
     }
 }
 
-/// Whether both workers stop so, with a writer that takes so many bytes a write, and ever, and a reader that gives so many.
+/// Whether both workers stop so, with a writer that takes so many bytes a write, and ever, and a
+/// reader that gives so many.
 fn is_served<R: Threads + Wait + Sync>(
     rt: &R,
     alloc: Global,
@@ -363,7 +367,8 @@ fn both_workers_serve_a_link(rt: HostRuntime) {
     }
 }
 
-/// The writer fails while the reader waits for the reply: it gives the link up and hangs up, and the reply meets no link.
+/// The writer fails while the reader waits for the reply: it gives the link up and hangs up, and
+/// the reply meets no link.
 #[test]
 fn a_failed_write_ends_both_workers(rt: HostRuntime) {
     let ends = (ReadEnd::Gone, WriteEnd::WriteFault);
