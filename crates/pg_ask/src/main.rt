@@ -54,12 +54,10 @@ fn main(rt: HostRuntime) -> ExitCode {
         Some(bell) => thread::spawn(&rt, move || end_with_input(&reader, &bell)).is_ok(),
         None => true,
     };
-    let ended = if is_read {
-        bell.wait_for_end(&rt)
-    } else {
-        Err(no_thread())
-    };
-    end(&rt, ended)
+    if !is_read {
+        return end(&rt, Err(no_thread()));
+    }
+    end(&rt, bell.wait_for_end(&rt))
 }
 
 /// What the program runs with.
