@@ -10,6 +10,7 @@ from concurrent.futures import ThreadPoolExecutor
 from checks import COMPILE, PROVED, REFUSED, UNKNOWN, UNSURE, Crate, check, end_all, refused_functions
 from functions import changed_functions
 from rows import ROOT, rows, text_of
+from word import all_taken, proved
 
 # How many rows are made at once.
 TOGETHER = 24
@@ -46,7 +47,9 @@ def made_together(crate, group):
                 before = {**{file: text_of(os.path.join(crate.folder, file)) for file in texts}, **before}
                 write(crate, texts)
                 made.append((row, names))
-        kind, _, lines = check(crate, dict.fromkeys(name for _, names in made for name in names))
+        every = list(dict.fromkeys(name for _, names in made for name in names))
+        with proved(crate, every) as flags:
+            kind, _, lines = check(crate, every, flags)
         return made, kind, lines
     finally:
         write(crate, before)
@@ -97,14 +100,15 @@ def verdicts(crate, rows_left):
     """What each of these rows comes to, by which function, and the line that says so, as soon as that is known. A function that isn't refused for what
     it is itself may rest on another one that was made at once, so what is left is made together again, as long as that finds any."""
     left, found = list(rows_left), True
-    while found and len(left) > 1:
-        found = {}
-        for group in groups(crate, left):
-            refused = tried_together(crate, group)
-            for row in [row for row, _ in group if row.name in refused]:
-                yield row, REFUSED, *refused[row.name]
-            found |= refused
-        left = [row for row in left if row.name not in found]
+    with all_taken(crate):
+        while found and left:
+            found = {}
+            for group in groups(crate, left):
+                refused = tried_together(crate, group)
+                for row in [row for row, _ in group if row.name in refused]:
+                    yield row, REFUSED, *refused[row.name]
+                found |= refused
+            left = [row for row in left if row.name not in found]
     for row in left:
         yield row, *tried(crate, row)
 

@@ -77,10 +77,10 @@ def command(crate):
     return [*words, '--antt-project', f'{kit}/rattle/logic/antt-project.json', '--logic-built', f'{kit}/logic_built', '--incremental', kept, '--jobs', '1']
 
 
-def check(crate, functions=()):
+def check(crate, functions=(), flags=()):
     """What a check of a crate comes to, or of some functions of it; the line that says so, and all lines."""
     only = [word for name in functions for word in ('--only', f'{crate.name}::{name}')]
-    status, lines = output([*command(crate), *only], crate.folder)
+    status, lines = output([*command(crate), *only, *flags], crate.folder)
     return *judged(status, lines), lines
 
 
@@ -143,7 +143,7 @@ def refused_functions(name, lines):
     found = {}
     faults = [line for line in lines if re.match(r'(?:\./)?proofs/\S+:\d+:\d+: error', line) and not RESTS.search(line)]
     for line in lines:
-        told = re.match(rf'fn {name}::(\S+): (no proof|not proved)(?:: (?!it calls ).*)?$', line)
+        told = re.match(rf'fn {name}::(\S+): (no proof|not proved)(?:: (?!it calls ).*|; it stands on .*)?$', line)
         if told and (told[2] == 'no proof' or any(f'proofs/{told[1].replace("::", "/")}/' in fault for fault in faults)):
             found[re.sub(r'\bfn::(\w+)::.*', r'\1', told[1])] = line[:160]
     return found
