@@ -27,10 +27,10 @@ def can_take(crate):
 
 @contextmanager
 def all_taken(crate):
-    """Takes all functions of a crate at their word but closures, and what a macro makes of a type; behind it all are proved again."""
+    """Takes the functions of a crate at their word; behind it all are proved again."""
     if can_take(crate):
         write_anything(crate)
-        take(crate, names(crate))
+        take(crate, functions(crate))
     yield
     if can_take(crate):
         proofs = os.path.join(crate.folder, 'proofs')
@@ -52,8 +52,8 @@ def proved(crate, names):
         take(crate, names)
 
 
-def names(crate):
-    """The names of a crate's functions but those, as `rt ci` wrote them down for the crates above."""
+def functions(crate):
+    """The names of a crate's functions but closures, and what a macro makes of a type, as `rt ci` wrote them down for the crates above."""
     with open(os.path.join(library(crate.name), 'lang/antt/made.json'), encoding='utf-8') as lines:
         stated = [json.loads(line)['Statement'] for line in lines if line.startswith('{"Statement":')]
     return [each['symbol'].removeprefix(f'{crate.name}::') for each in stated if not each.get('is_paired') and not each['symbol'].endswith('TheImpl')]
