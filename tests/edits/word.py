@@ -53,10 +53,12 @@ def proved(crate, names):
 
 
 def functions(crate):
-    """The names of a crate's functions but closures, and what a macro makes of a type, as `rt ci` wrote them down for the crates above."""
+    """The names of a crate's functions but closures and those that are proved by hand, as `rt ci` wrote them down for the crates above."""
     with open(os.path.join(library(crate.name), 'lang/antt/made.json'), encoding='utf-8') as lines:
-        stated = [json.loads(line)['Statement'] for line in lines if line.startswith('{"Statement":')]
-    return [each['symbol'].removeprefix(f'{crate.name}::') for each in stated if not each.get('is_paired') and not each['symbol'].endswith('TheImpl')]
+        written = [json.loads(line) for line in lines if line.startswith(('{"Statement":', '{"MadeProof":'))]
+    made = {each['MadeProof']['symbol'] for each in written if 'MadeProof' in each}
+    stated = [each['Statement'] for each in written if 'Statement' in each]
+    return [each['symbol'].removeprefix(f'{crate.name}::') for each in stated if each['symbol'] in made and not each.get('is_paired')]
 
 
 def write_anything(crate):
