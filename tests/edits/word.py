@@ -33,9 +33,10 @@ def all_taken(crate):
         take(crate, functions(crate))
     yield
     if can_take(crate):
-        proofs = os.path.join(crate.folder, 'proofs')
+        there, proofs = (os.path.join(folder, 'proofs') for folder in (os.path.join(ROOT, 'crates', crate.name), crate.folder))
         shutil.rmtree(proofs)
-        shutil.copytree(os.path.join(ROOT, 'crates', crate.name, 'proofs'), proofs)
+        if os.path.isdir(there):
+            shutil.copytree(there, proofs)
 
 
 @contextmanager
