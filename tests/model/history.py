@@ -65,15 +65,20 @@ class History:
         self.memo = {}
 
 
+UNSAID = object()
+
+
 def looks_back(definition):
     """A definition over a history, which may ask for itself one entry earlier. What it says of each is kept, from the oldest on."""
     def says(model, history, *args):
         key = (definition, args)
-        if key in history.memo:
-            return history.memo[key]
-        unsaid = [history]
-        while (earlier := unsaid[-1].past) is not None and key not in earlier.memo:
+        said = history.memo.get(key, UNSAID)
+        if said is not UNSAID:
+            return said
+        unsaid, earlier = [history], history.past
+        while earlier is not None and key not in earlier.memo:
             unsaid.append(earlier)
+            earlier = earlier.past
         for earlier in reversed(unsaid):
             said = earlier.memo[key] = definition(model, earlier, *args)
         return said
