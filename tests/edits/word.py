@@ -45,12 +45,13 @@ def proved(crate, names):
     if not can_take(crate):
         yield []
         return
-    for name in names:
+    taken = [name for name in names if os.path.exists(os.path.join(folder_of(crate.folder, name), FILES[0]))]
+    for name in taken:
         put(crate, name, FILES)
     try:
         yield ['--allow-holes']
     finally:
-        take(crate, names)
+        take(crate, taken)
 
 
 def functions(crate):
