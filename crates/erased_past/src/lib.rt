@@ -9,7 +9,8 @@ use std::marker::{Model, PhantomData};
 /// A list that only contracts read, as `items`, the newest first. It has no bytes.
 #[derive(Drop)]
 pub struct Past<T> {
-    of: PhantomData<T>,
+    // A pointer, since it holds no item: what is made of a type is made for each place that owns one.
+    of: PhantomData<*const T>,
     pub ghost items: { List T },
 }
 
