@@ -104,11 +104,11 @@ numbers_first bytes ns rest fits begins reads = record {
 }
 
 -- what follows where no numbers stand in front
-pub groups_lack : (bytes : List ℕ) (Lack : Type 0) → ((ns rest : List ℕ) → length ns < 2 ^ 16
-    → bytes ≡ numbers_bytes ns ++ rest → ⊥)
+pub groups_lack : (bytes : List ℕ) (Lack : Groups → Type 0)
+    → ((ns rest : List ℕ) → length ns < 2 ^ 16 → bytes ≡ numbers_bytes ns ++ rest → ⊥)
     → ((gs : List (List ℕ)) (rest : List ℕ) → IsList SpellsTerm gs
-    → bytes ≡ listed (λ g. g) gs ++ rest → Lack) → (os : Groups) (rest : List ℕ) → AreGroups os
-    → bytes ≡ groups_bytes os ++ rest → Lack
+    → bytes ≡ listed (λ g. g) gs ++ rest → Lack (terms gs)) → (os : Groups) (rest : List ℕ)
+    → AreGroups os → bytes ≡ groups_bytes os ++ rest → Lack os
 groups_lack bytes Lack strings lists (terms gs) rest are whole = lists gs rest are whole
 groups_lack bytes Lack strings lists (numbers ns) rest are whole =
     absurd (strings ns rest are whole)

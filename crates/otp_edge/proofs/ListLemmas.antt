@@ -3,12 +3,12 @@ use Rattle.std.specs.Prelude.{All, length, List, [], ◌∷◌}
 use Rattle.std.proofs.Common.{ap, append-nil, append_assoc, arith, drop, refl, subst, suc, sym}
 use Rattle.std.proofs.Common.{zero, ℕ, ◌++◌, ◌+◌, ◌<◌, ◌^◌, ◌∙◌, ◌≡◌}
 use Rattle.std.specs.List.{flat_map}
-use Rattle.otp_edge.proofs.Words.{Bool, Decides-eqb, nil_from_length, true, ◌==◌}
+use Rattle.otp_edge.proofs.Words.{Bool, Decides-eqb, nil_from_length, true, ◌==◌, ◌≤◌}
 use Rattle.external_terms.specs.Terms.{SpellsTerm}
 use Rattle.otp_edge.specs.Lists.{Front, IsList, list_front, listed, StandsFirst}
 use Rattle.external_terms.specs.Values.{nil_bytes}
 use Rattle.std.proofs.lemmas.Grind.{flat_map-append}
-use Rattle.std.proofs.lemmas.List.{length_push}
+use Rattle.std.proofs.lemmas.List.{length-append, length_push}
 use Rattle.std.proofs.lemmas.List.Elements.{All-head, All-nil, All-push, All-tail}
 
 -- nothing is read yet
@@ -35,17 +35,32 @@ pub left_bytes : {A : Type 0} (spell : A → List ℕ) (Within : A → Type 0) (
     (items : List A) (rest : List ℕ) → Front spell Within bytes items rest → (xs : List A)
     (later : List ℕ) → length items < length xs → All Within xs
     → bytes ≡ flat_map spell xs ++ later
-    → (x : A) × Within x × ((more : List ℕ) × (rest ≡ spell x ++ more))
+    → (x : A) × Within x × ((more : List ℕ) × (rest ≡ spell x ++ more)
+    × (xs ≡ items ++ x ∷ drop (length items + 1) xs))
 left_bytes spell Within bytes items rest read xs later some each whole =
     let next = next_left Within (length items) xs some each in
-    let left = (read.only xs later (omega arith) each whole).1 in (
+    let so_far = read.only xs later (omega arith) each whole in (
       next.0,
       next.1,
       (
         flat_map spell (drop (length items + 1) xs) ++ later,
-        left ∙ ap (λ ys. flat_map spell ys ++ later) next.2
+        so_far.1 ∙ ap (λ ys. flat_map spell ys ++ later) next.2
             ∙ append_assoc (spell next.0) (flat_map spell (drop (length items + 1) xs)) later,
+        so_far.0 ∙ ap (λ ys. items ++ ys) next.2,
       ),
+    )
+
+-- what comes of elements is no less with what comes of those behind them
+pub no_less : {A B : Type 0} (f : A → List B) (items tail xs : List A) (x : A)
+    → xs ≡ items ++ x ∷ tail → length (flat_map f items ++ f x) ≤ length (flat_map f xs)
+no_less f items tail xs x is =
+    let all = ap (λ l. length (flat_map f l)) is ∙ ap length (flat_map-append f items (x ∷ tail)) in
+    omega (
+      arith,
+      all,
+      length-append (flat_map f items) (f x ++ flat_map f tail),
+      length-append (f x) (flat_map f tail),
+      length-append (flat_map f items) (f x),
     )
 
 -- no other list can have been read

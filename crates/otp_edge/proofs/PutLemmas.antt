@@ -1,11 +1,12 @@
 -- Elements that are written one behind the other.
 use Rattle.otp_edge.proofs
-use proofs.Words.{ap, append-nil, append_assoc, flat_map, length, List, list_front, listed, map}
-use proofs.Words.{take, ℕ, [], ◌++◌, ◌+◌, ◌<◌, ◌∙◌, ◌≡◌}
+use proofs.Words.{ap, append-nil, append_assoc, arith, drop, flat_map, length, List, list_front}
+use proofs.Words.{listed, map, sym, take, ℕ, [], ◌++◌, ◌+◌, ◌<◌, ◌∙◌, ◌≡◌, ◌≤◌}
 use Rattle.std.specs.Prelude.{get_or}
 use Rattle.std.proofs.lemmas.Grind.{flat_map-append}
 use Rattle.std.proofs.Math.Seq.{take-length}
-use Rattle.std.proofs.lemmas.List.{length-map, map_more}
+use Rattle.std.proofs.lemmas.List.{length-append, length-map, map-append, map_more}
+use Rattle.std.proofs.lemmas.List.{take-append-drop}
 use Rattle.external_terms.specs.Values.{nil_bytes}
 
 -- one element more
@@ -18,6 +19,17 @@ more_put spell view xs n x old before after front inside is were put =
     put ∙ ap (λ l. l ++ spell (view x)) were
     ∙ ap (λ y. (old ++ (front ++ flat_map spell (map view (take n xs)))) ++ spell (view y)) is
     ∙ simp (map_more view xs n x inside, flat_map-append, append-nil, append_assoc)
+
+-- what comes of some elements is no more than what comes of all
+pub taken_less : {A B C : Type 0} (spell : B → List C) (view : A → B) (xs : List A) (n : ℕ)
+    → length (flat_map spell (map view (take n xs))) ≤ length (flat_map spell (map view xs))
+taken_less spell view xs n =
+    let some = flat_map spell (map view (take n xs)) in
+    let rest = flat_map spell (map view (drop n xs)) in
+    let parts : flat_map spell (map view (take n xs ++ drop n xs)) ≡ some ++ rest =
+    simp (map-append, flat_map-append) in
+    let all = ap (λ l. length (flat_map spell (map view l))) (sym (take-append-drop n xs)) in
+    omega (arith, all, ap length parts, length-append some rest)
 
 -- a whole list
 pub all_put : {A B : Type 0} (spell : B → List ℕ) (view : A → B) (xs : List A) (n : ℕ)

@@ -1,11 +1,11 @@
 -- Rows of processes in the group of a term.
 use Rattle.otp_edge.proofs
 use Rattle.otp_edge.specs
-use proofs.Words.{ap, append-nil, append_assoc, length, List, None, Pid, Row, Some, sym, take, ℕ}
-use proofs.Words.{[], ◌++◌, ◌+◌, ◌<◌, ◌∙◌, ◌∷◌, ◌≡◌, ◌≤◌}
+use proofs.Words.{ap, append-nil, append_assoc, arith, length, List, None, Pid, Row, Some, sym}
+use proofs.Words.{take, ℕ, [], ◌++◌, ◌+◌, ◌<◌, ◌∙◌, ◌∷◌, ◌≡◌, ◌≤◌}
 use Rattle.std.specs.Prelude.{get_or}
 use Rattle.std.specs.Option.{option_map_or}
-use Rattle.std.proofs.lemmas.List.{map_more, take_all}
+use Rattle.std.proofs.lemmas.List.{length-append, length-map, map_more, take_all}
 use specs.Groups.{group_text}
 use specs.PgMessages.{rows_in, rows_of_text}
 
@@ -21,6 +21,20 @@ pub rows_some : (term : List ℕ) (ps : List Pid) (group : List ℕ) → group_t
     → rows_in term ps ≡ rows_of_text ps group
 unfolding rows_in
 rows_some term ps group some = ap (λ o. option_map_or (rows_of_text ps) o []) some
+
+-- the rows before, and one for each process, are too many together
+pub too_many_rows : (term : List ℕ) (ps : List Pid) (group : List ℕ) (rows : List Row)
+    → group_text term ≡ Some group → 65536 < length rows + length ps
+    → 65536 < length (rows ++ rows_in term ps)
+too_many_rows term ps group rows some many =
+    let row : Pid → Row = λ p. record { group = group; pid = p } in
+    omega (
+      arith,
+      many,
+      length-append rows (rows_in term ps),
+      ap length (rows_some term ps group some),
+      length-map ps row,
+    )
 
 -- a row for each
 pub all_rows : (term : List ℕ) (ps : List Pid) (n : ℕ) (group : List ℕ) (old after : List Row)

@@ -116,3 +116,10 @@ rows_stated ss = flat_map (λ s. rows_in s.group s.pids) ss
 
 abbrev pub rows_left : List Pid → List (List ℕ) → List Row
 rows_left ps gs = flat_map (λ g. rows_in g ps) gs
+
+-- the rows that a message speaks of
+abbrev pub rows_meant : PgMessage → List Row
+rows_meant (discover p) = []
+rows_meant (sync p ss) = rows_stated ss
+rows_meant (join p g ms) = rows_in g (members_of ms)
+rows_meant (leave p ms gs) = rows_left (members_of ms) (groups_of gs)

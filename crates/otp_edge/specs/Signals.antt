@@ -1,11 +1,11 @@
 -- The signals of a node (Distribution Protocol, "Protocol messages"), as far as they are answered.
-use Rattle.std.specs.Prelude.{◌≡◌, ⊤, ℕ, List, [], ◌∷◌}
+use Rattle.std.specs.Prelude.{◌≡◌, ◌<◌, ⊤, ℕ, List, [], ◌∷◌, length}
 use Rattle.dist_types.specs.declared.pid.Pid.{Pid}
 use Rattle.external_terms.specs.Terms.{SpellsTerm}
 use Rattle.external_terms.specs.Values.{atom_bytes}
 use Rattle.otp_edge.specs.Bodies.{IsBody, IsControl, version}
 use Rattle.otp_edge.specs.Meaning.{meant}
-use Rattle.otp_edge.specs.PgMessages.{PgMessage, SpellsPg}
+use Rattle.otp_edge.specs.PgMessages.{PgMessage, SpellsPg, rows_meant}
 use Rattle.otp_edge.specs.Processes.{IsPid, pid_bytes}
 use Rattle.otp_edge.specs.declared.meaning.Said.{Said}
 use Rattle.otp_edge.specs.declared.signal.Signal.{Signal}
@@ -29,6 +29,16 @@ pub record Says (said : Said) (behind : List ℕ) : Type 0 where
   pub has : HasMessage term behind
   pub spells : SpellsPg term message
   pub means : said ≡ meant message
+
+-- a message stands there, and where it is one of a scope's process, it has more than 65,536 rows
+pub record HasTooMany (behind : List ℕ) : Type 0 where
+  pub term : List ℕ
+  pub has : HasMessage term behind
+  pub rows : (m : PgMessage) → SpellsPg term m → 65536 < length (rows_meant m)
+
+-- such a message stands behind the control message of a body
+abbrev pub SaysTooMany : List ℕ → Type 0
+SaysTooMany body = (control behind : List ℕ) → IsBody control behind body → HasTooMany behind
 
 -- SEND: `{2, Cookie, To}` and a message
 abbrev pub IsSent : Pid → Said → List ℕ → Type 0

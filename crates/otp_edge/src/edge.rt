@@ -1,5 +1,5 @@
 //! What the peer of a link sends, as what is handed in to the node here and what it is sent back.
-ghost use Rattle.std.specs.Prelude.{◌≡◌, ◌<◌, ◌≢◌, ◌⊎◌, ℕ, List, IfOk, IfErr, OnErr, vec_len};
+ghost use Rattle.std.specs.Prelude.{◌≡◌, ◌<◌, ◌⊎◌, ℕ, List, IfOk, IfErr, OnErr, vec_len};
 ghost use Rattle.std.specs.Prelude.{get_or};
 ghost use Rattle.dist_types.specs.declared.pid.Pid.{Pid};
 ghost use Rattle.otp_edge.specs.Bodies.{IsBody};
@@ -7,6 +7,7 @@ ghost use Rattle.otp_edge.specs.Edges.{IsHeard, IsSentTo, IsAskedBy, IsDiscoverB
 ghost use Rattle.otp_edge.specs.Edges.{Ends, Hears, HearsNothing, Stays, Takes};
 ghost use Rattle.otp_edge.specs.Opens.{IsNothing, RunsNowhere};
 ghost use Rattle.otp_edge.specs.Said.{KnowsTheSame};
+ghost use Rattle.otp_edge.specs.Signals.{SaysTooMany};
 ghost use Rattle.otp_edge.specs.declared.fault.HearFault.TheVariants as faults;
 ghost use Rattle.otp_edge.specs.declared.open_scope.OpenScope.{OpenScope};
 
@@ -30,6 +31,8 @@ impl Edge {
         ensures hears { IfOk result (Hears self.old self.new body.now) }
         ensures refused { IfErr result (λ fault. fault ≡ faults.NoMessage →
             (control behind : List ℕ) → IsBody control behind body.now → ⊥) }
+        ensures too_many { IfErr result (λ fault. fault ≡ faults.TooManyRows →
+            SaysTooMany body.now) }
         ensures stays { Stays self.old self.new }
         ensures memory { OnErr result (KnowsTheSame self.old self.new) }
     {
@@ -141,7 +144,7 @@ impl Edge {
     fn hear_end(&mut self, alloc: Global, from: &[u8], to: &[u8]) -> Result<Heard, HearFault>
         ensures heard { IfOk result (λ heard. HearsNothing self.old self.new heard ⊎
             IsEnded self.old self.new from.now to.now heard) }
-        ensures refused { IfErr result (λ fault. fault ≢ faults.NoMessage) }
+        ensures refused { IfErr result (λ fault. fault ≡ faults.OutOfMemory) }
         ensures stays { Stays self.old self.new }
         ensures memory { OnErr result (KnowsTheSame self.old self.new) }
     {

@@ -4,6 +4,7 @@ ghost use Rattle.std.specs.Prelude.{OnOk};
 ghost use Rattle.std.specs.List.{flat_map};
 ghost use Rattle.external_terms.specs.Terms.{SpellsTerm};
 ghost use Rattle.external_terms.specs.Values.{small_integer_bytes};
+ghost use Rattle.otp_edge.specs.Fault.{IsFaultOf};
 ghost use Rattle.otp_edge.specs.Lists.{listed, IsList, StandsFirst, Front};
 ghost use Rattle.otp_edge.specs.PgMessages.{Groups, AreGroups, groups_bytes, groups_of, rows_left};
 ghost use Rattle.otp_edge.specs.declared.fault.HearFault.TheVariants as faults;
@@ -25,7 +26,8 @@ pub fn left_at<'a>(
         (read.0.items ≡ rows_left pids.now (groups_of gs)) ×
         StandsFirst groups_bytes AreGroups bytes.now gs read.1.now) }
     ensures only { (gs : Groups) (rest : List ℕ) → AreGroups gs →
-        bytes.now ≡ groups_bytes gs ++ rest → IfErr result (λ fault. fault ≢ faults.NoMessage) }
+        bytes.now ≡ groups_bytes gs ++ rest →
+        IfErr result (IsFaultOf (rows_left pids.now (groups_of gs))) }
 {
     match numbers_at(bytes) {
         Some((numbers, rest)) => Ok((rows_of_numbers(alloc, numbers, pids)?, rest)),
@@ -43,7 +45,7 @@ fn terms_at<'a>(
         (read.0.items ≡ rows_left pids.now gs) ×
         StandsFirst (listed (λ g. g)) (IsList SpellsTerm) bytes.now gs read.1.now) }
     ensures only { (gs : List (List ℕ)) (rest : List ℕ) → IsList SpellsTerm gs →
-        bytes.now ≡ listed (λ g. g) gs ++ rest → IfErr result (λ fault. fault ≢ faults.NoMessage) }
+        bytes.now ≡ listed (λ g. g) gs ++ rest → IfErr result (IsFaultOf (rows_left pids.now gs)) }
 {
     let Some((count, rest)) = front_at(bytes) else {
         return Err(HearFault::NoMessage);
@@ -60,7 +62,8 @@ fn terms_at<'a>(
 fn rows_of_numbers(alloc: Global, numbers: &[u8], pids: &[Pid]) -> Result<Vec<Row>, HearFault>
     ensures ok { IfOk result (λ rows. rows.items ≡ rows_left pids.now
         (map small_integer_bytes numbers.now)) }
-    ensures refused { IfErr result (λ fault. fault ≢ faults.NoMessage) }
+    ensures refused { IfErr result (IsFaultOf (rows_left pids.now
+        (map small_integer_bytes numbers.now))) }
 {
     let mut rows = Vec::new(alloc);
     for number in numbers {
@@ -81,7 +84,7 @@ fn rows_at<'a>(
         Front (λ g. g) SpellsTerm bytes.now gs read.1.now) }
     ensures only { (gs : List (List ℕ)) (later : List ℕ) → length gs ≡ count → All SpellsTerm gs →
         bytes.now ≡ flat_map (λ g. g) gs ++ later →
-        IfErr result (λ fault. fault ≢ faults.NoMessage) }
+        IfErr result (IsFaultOf (rows_left pids.now gs)) }
 {
     let mut rest = bytes;
     let mut rows = Vec::new(alloc);
@@ -99,6 +102,7 @@ pub fn term_at(bytes: &[u8]) -> Result<(&[u8], &[u8]), HearFault>
         read.1.now) }
     ensures only { (term rest : List ℕ) → SpellsTerm term → bytes.now ≡ term ++ rest →
         IfErr result (λ fault. fault ≢ faults.NoMessage) }
+    ensures refused { IfErr result (λ fault. fault ≢ faults.TooManyRows) }
 {
     skip(bytes).map_err(|_| HearFault::NoMessage)
 }

@@ -1,16 +1,16 @@
 //! What the processes of a scope say to each other (Kernel manual, `pg`).
-ghost use Rattle.std.specs.Prelude.{◌≡◌, ◌≢◌, ◌++◌, ℕ, List, IfOk, MatchResult};
+ghost use Rattle.std.specs.Prelude.{◌≡◌, ◌++◌, [], ℕ, List, IfOk, MatchResult};
 ghost use Rattle.external_terms.specs.Terms.{SpellsTerm};
 ghost use Rattle.dist_types.specs.declared.pid.Pid.{Pid};
+ghost use Rattle.otp_edge.specs.Fault.{IsFaultOf};
 ghost use Rattle.otp_edge.specs.Lists.{IsList, listed};
 ghost use Rattle.otp_edge.specs.Processes.{IsPid, pid_bytes};
 ghost use Rattle.otp_edge.specs.PgMessages.{PgMessage, SpellsPg, Stated, IsStated, stated_bytes};
 ghost use Rattle.otp_edge.specs.PgMessages.{Members, AreMembers, members_bytes, members_of};
 ghost use Rattle.otp_edge.specs.PgMessages.{Groups, AreGroups, groups_bytes, groups_of};
-ghost use Rattle.otp_edge.specs.PgMessages.{rows_stated, rows_in, rows_left};
+ghost use Rattle.otp_edge.specs.PgMessages.{rows_meant, rows_stated, rows_in, rows_left};
 ghost use Rattle.otp_edge.specs.PgMessages.{sync_inner, join_inner, leave_inner};
 ghost use Rattle.otp_edge.specs.Meaning.{meant};
-ghost use Rattle.otp_edge.specs.declared.fault.HearFault.TheVariants as faults;
 ghost use Rattle.otp_edge.specs.declared.meaning.Said.TheVariants as saids;
 
 use crate::fault::HearFault;
@@ -31,7 +31,7 @@ pub fn hear(alloc: Global, term: &[u8]) -> Result<Said, HearFault>
         (said ≡ meant m)) }
     // A message that they spell is read, where there is memory, and where its rows aren't too many.
     ensures only { (m : PgMessage) → SpellsPg term.now m →
-        MatchResult result (λ said. said ≡ meant m) (λ fault. fault ≢ faults.NoMessage) }
+        MatchResult result (λ said. said ≡ meant m) (IsFaultOf (rows_meant m)) }
 {
     if let Some(rest) = after_head(2, b"discover", term) {
         return discover_in(alloc, rest);
@@ -52,7 +52,7 @@ fn discover_in(alloc: Global, bytes: &[u8]) -> Result<Said, HearFault>
     ensures found { IfOk result (λ said. (p : Pid) × IsPid p × (bytes.now ≡ pid_bytes p) ×
         (said ≡ saids.Discover p)) }
     ensures only { (p : Pid) → IsPid p → bytes.now ≡ pid_bytes p →
-        MatchResult result (λ said. said ≡ saids.Discover p) (λ fault. fault ≢ faults.NoMessage) }
+        MatchResult result (λ said. said ≡ saids.Discover p) (IsFaultOf []) }
 {
     let (pid, rest) = member_at(alloc, bytes, None)?;
     if !rest.is_empty() {
@@ -68,7 +68,7 @@ fn sync_in(alloc: Global, bytes: &[u8]) -> Result<Said, HearFault>
     ensures only { (p : Pid) (ss : List Stated) → IsPid p → IsList IsStated ss →
         bytes.now ≡ sync_inner p ss →
         MatchResult result (λ said. said ≡ saids.Sync p (rows_stated ss))
-        (λ fault. fault ≢ faults.NoMessage) }
+        (IsFaultOf (rows_stated ss)) }
 {
     let Some(rest) = after_head(3, b"sync", bytes) else {
         return Err(HearFault::NoMessage);
@@ -88,7 +88,7 @@ fn join_in(alloc: Global, bytes: &[u8]) -> Result<Said, HearFault>
     ensures only { (p : Pid) (g : List ℕ) (ms : Members) → IsPid p → SpellsTerm g → AreMembers ms →
         bytes.now ≡ join_inner p g ms →
         MatchResult result (λ said. said ≡ saids.Join p (rows_in g (members_of ms)))
-        (λ fault. fault ≢ faults.NoMessage) }
+        (IsFaultOf (rows_in g (members_of ms))) }
 {
     let (pid, rest) = member_at(alloc, bytes, None)?;
     let (group, rest) = term_at(rest)?;
@@ -108,7 +108,7 @@ fn leave_in(alloc: Global, bytes: &[u8]) -> Result<Said, HearFault>
     ensures only { (p : Pid) (ms : Members) (gs : Groups) → IsPid p → AreMembers ms → AreGroups gs →
         bytes.now ≡ leave_inner p ms gs →
         MatchResult result (λ said. said ≡ saids.Leave p (rows_left (members_of ms) (groups_of gs)))
-        (λ fault. fault ≢ faults.NoMessage) }
+        (IsFaultOf (rows_left (members_of ms) (groups_of gs))) }
 {
     let (pid, rest) = member_at(alloc, bytes, None)?;
     let (pids, rest) = members_at(alloc, rest)?;

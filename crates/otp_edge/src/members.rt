@@ -23,6 +23,7 @@ pub fn members_at(alloc: Global, bytes: &[u8]) -> Result<(Vec<Pid>, &[u8]), Hear
         StandsFirst members_bytes AreMembers bytes.now ms read.1.now) }
     ensures only { (ms : Members) (rest : List ℕ) → AreMembers ms →
         bytes.now ≡ members_bytes ms ++ rest → IfErr result (λ fault. fault ≢ faults.NoMessage) }
+    ensures refused { IfErr result (λ fault. fault ≢ faults.TooManyRows) }
 {
     match member_at(alloc, bytes, None) {
         Ok((pid, rest)) => {
@@ -42,6 +43,7 @@ pub fn listed_at(alloc: Global, bytes: &[u8]) -> Result<(Vec<Pid>, &[u8]), HearF
     ensures only { (pids : List Pid) (rest : List ℕ) → IsList IsPid pids →
         bytes.now ≡ listed pid_bytes pids ++ rest →
         IfErr result (λ fault. fault ≢ faults.NoMessage) }
+    ensures refused { IfErr result (λ fault. fault ≢ faults.TooManyRows) }
 {
     let Some((count, rest)) = front_at(bytes) else {
         return Err(HearFault::NoMessage);
@@ -60,6 +62,7 @@ fn pids_at(alloc: Global, count: u32, bytes: &[u8]) -> Result<(Vec<Pid>, &[u8]),
     ensures only { (pids : List Pid) (later : List ℕ) → length pids ≡ count → All IsPid pids →
         bytes.now ≡ flat_map pid_bytes pids ++ later →
         IfErr result (λ fault. fault ≢ faults.NoMessage) }
+    ensures refused { IfErr result (λ fault. fault ≢ faults.TooManyRows) }
 {
     let mut rest = bytes;
     // Room for no more processes than the bytes can hold, whatever the count.

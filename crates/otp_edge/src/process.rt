@@ -47,6 +47,7 @@ pub fn member_at<'a>(
     ensures found { IfOk result (λ read. StandsFirst pid_bytes IsPid bytes.now read.0 read.1.now) }
     ensures only { (pid : Pid) (rest : List ℕ) → IsPid pid → bytes.now ≡ pid_bytes pid ++ rest →
         IfErr result (λ fault. fault ≢ faults.NoMessage) }
+    ensures refused { IfErr result (λ fault. fault ≢ faults.TooManyRows) }
 {
     let Some((term, rest)) = pid_at(bytes) else {
         return Err(HearFault::NoMessage);
@@ -59,7 +60,7 @@ pub fn member_at<'a>(
 pub fn only_member(alloc: Global, term: &[u8]) -> Result<Option<Pid>, HearFault>
     ensures found { IfOk result (λ read. IfSome read (λ pid. IsPid pid ×
         (term.now ≡ pid_bytes pid))) }
-    ensures refused { IfErr result (λ fault. fault ≢ faults.NoMessage) }
+    ensures refused { IfErr result (λ fault. fault ≡ faults.OutOfMemory) }
 {
     match member_at(alloc, term, None) {
         Ok((pid, rest)) if rest.is_empty() => Ok(Some(pid)),
@@ -75,6 +76,7 @@ fn pid_of(alloc: Global, term: &PidTerm<'_>, before: Option<&Pid>) -> Result<Pid
     ensures found { IfOk result (λ pid. IsPid pid × (process_said term.now ≡ process_of pid)) }
     ensures only { (pid : Pid) → IsPid pid → process_said term.now ≡ process_of pid →
         IfErr result (λ fault. fault ≢ faults.NoMessage) }
+    ensures refused { IfErr result (λ fault. fault ≢ faults.TooManyRows) }
 {
     Ok(Pid {
         node: node_of(alloc, term.node, before)?,
@@ -86,6 +88,7 @@ fn pid_of(alloc: Global, term: &PidTerm<'_>, before: Option<&Pid>) -> Result<Pid
 fn node_of(alloc: Global, text: &[u8], before: Option<&Pid>) -> Result<NodeName, HearFault>
     ensures found { IfOk result (λ node. IsNodeName node × (node ≡ text.now)) }
     ensures only { IsNodeName text.now → IfErr result (λ fault. fault ≢ faults.NoMessage) }
+    ensures refused { IfErr result (λ fault. fault ≢ faults.TooManyRows) }
 {
     match before {
         Some(pid) if pid.node.as_bytes() == text => Ok(pid.node.try_clone(alloc)?),

@@ -1,7 +1,7 @@
 //! Rows of processes in groups that are terms.
-ghost use Rattle.std.specs.Prelude.{◌≡◌, ◌≢◌, ◌++◌, OnOk, IfErr};
+ghost use Rattle.std.specs.Prelude.{◌≡◌, ◌++◌, OnOk, IfErr};
+ghost use Rattle.otp_edge.specs.Fault.{IsFaultOf};
 ghost use Rattle.otp_edge.specs.PgMessages.{rows_in};
-ghost use Rattle.otp_edge.specs.declared.fault.HearFault.TheVariants as faults;
 
 use crate::fault::HearFault;
 use crate::group::group_of;
@@ -20,7 +20,7 @@ pub fn push_rows(
     rows: &mut Vec<Row>,
 ) -> Result<(), HearFault>
     ensures ok { OnOk result (rows.new.items ≡ rows.old.items ++ rows_in term.now pids.now) }
-    ensures refused { IfErr result (λ fault. fault ≢ faults.NoMessage) }
+    ensures refused { IfErr result (IsFaultOf (rows.old.items ++ rows_in term.now pids.now)) }
 {
     let Some(group) = group_of(alloc, term)? else {
         return Ok(());

@@ -1,7 +1,7 @@
 //! Reads the signals of a node.
 ghost use Rattle.std.specs.Prelude.{◌≡◌, ◌≢◌, ℕ, List, IfOk, IfErr, IfSome};
 ghost use Rattle.otp_edge.specs.Bodies.{IsBody};
-ghost use Rattle.otp_edge.specs.Signals.{IsSignal, Says, HasControl};
+ghost use Rattle.otp_edge.specs.Signals.{IsSignal, Says, HasControl, HasTooMany, SaysTooMany};
 ghost use Rattle.otp_edge.specs.declared.fault.HearFault.TheVariants as faults;
 
 use crate::body::{Control, control_at, message_at, open_body};
@@ -18,6 +18,7 @@ pub fn read_signal(alloc: Global, body: &[u8]) -> Result<Signal<'_>, HearFault>
     ensures found { IfOk result (λ signal. IsSignal signal body.now) }
     ensures refused { IfErr result (λ fault. fault ≡ faults.NoMessage →
         (control behind : List ℕ) → IsBody control behind body.now → ⊥) }
+    ensures too_many { IfErr result (λ fault. fault ≡ faults.TooManyRows → SaysTooMany body.now) }
 {
     let Some(opened) = open_body(body) else {
         return Err(HearFault::NoMessage);
@@ -38,6 +39,8 @@ fn signal_of<'a>(
         control.now.first.now control.now.second.now control.now.rest.now behind.now body →
         IfOk result (λ signal. IsSignal signal body) }
     ensures refused { IfErr result (λ fault. fault ≢ faults.NoMessage) }
+    ensures too_many { IfErr result (λ fault. fault ≡ faults.TooManyRows →
+        HasTooMany behind.now) }
 {
     match (control.arity, control.operation) {
         (3, 2) => sent(alloc, control, behind),
@@ -54,6 +57,8 @@ fn sent<'a>(alloc: Global, control: &Control<'a>, behind: &'a [u8]) -> Result<Si
         control.now.first.now control.now.second.now control.now.rest.now behind.now body →
         IfOk result (λ signal. IsSignal signal body) }
     ensures refused { IfErr result (λ fault. fault ≢ faults.NoMessage) }
+    ensures too_many { IfErr result (λ fault. fault ≡ faults.TooManyRows →
+        HasTooMany behind.now) }
 {
     let Some(to) = only_member(alloc, control.second)? else {
         return Ok(Signal::Other);
@@ -76,6 +81,8 @@ fn named<'a>(
         control.now.first.now control.now.second.now control.now.rest.now behind.now body →
         IfOk result (λ signal. IsSignal signal body) }
     ensures refused { IfErr result (λ fault. fault ≢ faults.NoMessage) }
+    ensures too_many { IfErr result (λ fault. fault ≡ faults.TooManyRows →
+        HasTooMany behind.now) }
 {
     let Some(name) = only_atom(control.rest) else {
         return Ok(Signal::Other);
@@ -110,6 +117,8 @@ fn other_signal<'a>(control: &Control<'a>) -> Signal<'a>
 fn said_in(alloc: Global, behind: &[u8]) -> Result<Option<Said>, HearFault>
     ensures found { IfOk result (λ read. IfSome read (λ said. Says said behind.now)) }
     ensures refused { IfErr result (λ fault. fault ≢ faults.NoMessage) }
+    ensures too_many { IfErr result (λ fault. fault ≡ faults.TooManyRows →
+        HasTooMany behind.now) }
 {
     let Some(message) = message_at(behind) else {
         return Ok(None);

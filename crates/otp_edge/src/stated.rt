@@ -1,10 +1,10 @@
 //! The groups of a sync, each with its processes.
-ghost use Rattle.std.specs.Prelude.{◌≡◌, ◌≢◌, ◌++◌, ℕ, List, length, All, IfOk, IfErr};
+ghost use Rattle.std.specs.Prelude.{◌≡◌, ◌++◌, ℕ, List, length, All, IfOk, IfErr};
 ghost use Rattle.std.specs.List.{flat_map};
+ghost use Rattle.otp_edge.specs.Fault.{IsFaultOf};
 ghost use Rattle.otp_edge.specs.Lists.{listed, IsList, StandsFirst, Front};
 ghost use Rattle.otp_edge.specs.PgMessages.{Stated, IsStated, stated_bytes, rows_in};
 ghost use Rattle.otp_edge.specs.PgMessages.{rows_stated};
-ghost use Rattle.otp_edge.specs.declared.fault.HearFault.TheVariants as faults;
 
 use crate::fault::HearFault;
 use crate::groups::term_at;
@@ -20,8 +20,7 @@ pub fn stated_at(alloc: Global, bytes: &[u8]) -> Result<(Vec<Row>, &[u8]), HearF
     ensures found { IfOk result (λ read. (ss : List Stated) × (read.0.items ≡ rows_stated ss) ×
         StandsFirst (listed stated_bytes) (IsList IsStated) bytes.now ss read.1.now) }
     ensures only { (ss : List Stated) (rest : List ℕ) → IsList IsStated ss →
-        bytes.now ≡ listed stated_bytes ss ++ rest →
-        IfErr result (λ fault. fault ≢ faults.NoMessage) }
+        bytes.now ≡ listed stated_bytes ss ++ rest → IfErr result (IsFaultOf (rows_stated ss)) }
 {
     let Some((count, rest)) = front_at(bytes) else {
         return Err(HearFault::NoMessage);
@@ -38,8 +37,7 @@ fn entries_at(alloc: Global, count: u32, bytes: &[u8]) -> Result<(Vec<Row>, &[u8
     ensures found { IfOk result (λ read. (ss : List Stated) × (read.0.items ≡ rows_stated ss) ×
         (length ss ≡ count) × Front stated_bytes IsStated bytes.now ss read.1.now) }
     ensures only { (ss : List Stated) (later : List ℕ) → length ss ≡ count → All IsStated ss →
-        bytes.now ≡ flat_map stated_bytes ss ++ later →
-        IfErr result (λ fault. fault ≢ faults.NoMessage) }
+        bytes.now ≡ flat_map stated_bytes ss ++ later → IfErr result (IsFaultOf (rows_stated ss)) }
 {
     let mut rest = bytes;
     let mut rows = Vec::new(alloc);
@@ -55,7 +53,8 @@ fn entry_at<'a>(alloc: Global, bytes: &'a [u8], rows: &mut Vec<Row>) -> Result<&
         (rows.new.items ≡ rows.old.items ++ rows_in s.group s.pids) ×
         StandsFirst stated_bytes IsStated bytes.now s rest.now) }
     ensures only { (s : Stated) (later : List ℕ) → IsStated s →
-        bytes.now ≡ stated_bytes s ++ later → IfErr result (λ fault. fault ≢ faults.NoMessage) }
+        bytes.now ≡ stated_bytes s ++ later →
+        IfErr result (IsFaultOf (rows.old.items ++ rows_in s.group s.pids)) }
 {
     let Some(rest) = after_tuple(2, bytes) else {
         return Err(HearFault::NoMessage);

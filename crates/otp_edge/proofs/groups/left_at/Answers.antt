@@ -1,13 +1,13 @@
 use Rattle.otp_edge.proofs
 use Rattle.otp_edge.specs
-use proofs.Words.{IsList, List, listed, StandsFirst, ℕ, ◌≡◌, ◌≢◌}
+use proofs.Words.{ap, IsList, List, listed, StandsFirst, sym, ℕ, ◌≡◌}
 use Rattle.std.specs.Prelude.{IfErr}
 use Rattle.external_terms.specs.Terms.{SpellsTerm}
+use specs.Fault.{IsFaultOf}
 use specs.PgMessages.{AreGroups, Groups, groups_bytes, groups_of, numbers, rows_left, terms}
 use proofs.FirstLemmas.{groups_lack, numbers_first, terms_first}
-use proofs.LackLemmas.{lack}
+use proofs.LackLemmas.{lack_of, of_same}
 use proofs.SaidLemmas.{ok_so}
-use specs.declared.fault.HearFault.TheVariants as faults
 use Rattle.otp_edge.proofs.groups.left_at.Goals as goal
 
 pub returns-in_ok-rows_of_numbers-in-Some-clause-found
@@ -22,8 +22,12 @@ returns-in_ok-rows_of_numbers-in-Some-clause-found c = let some = c.in-Some in (
 pub returns-in_err-rows_of_numbers-in-Some-clause-only
     : goal.returns-in_err-rows_of_numbers-in-Some-clause-only
 returns-in_err-rows_of_numbers-in-Some-clause-only c = λ gs rest are whole.
-    lack c.from_residual.result _ c.from_residual.ensures.1
-    c.in_err-rows_of_numbers-in-Some.ensures.refused
+    let some = c.in-Some in
+    let first = numbers_first c.args.bytes.now some.numbers.now some.rest.now some.ensures.fits
+    some.ensures.found some.ensures.only in
+    lack_of _ c.from_residual.result _ c.from_residual.ensures.1 (of_same _ _ _
+    (ap (λ g. rows_left c.args.pids.now (groups_of g)) (sym (first.only gs rest are whole).0))
+    c.in_err-rows_of_numbers-in-Some.ensures.refused)
 
 pub returns-in-None-clause-found : goal.returns-in-None-clause-found
 returns-in-None-clause-found c = ok_so c.terms_at.result
@@ -40,5 +44,5 @@ returns-in-None-clause-found c = ok_so c.terms_at.result
 
 pub returns-in-None-clause-only : goal.returns-in-None-clause-only
 returns-in-None-clause-only c = groups_lack c.args.bytes.now
-    (IfErr c.terms_at.result (λ fault. fault ≢ faults.NoMessage)) c.in-None.ensures.only
-    c.terms_at.ensures.only
+    (λ gs. IfErr c.terms_at.result (IsFaultOf (rows_left c.args.pids.now (groups_of gs))))
+    c.in-None.ensures.only c.terms_at.ensures.only

@@ -4,7 +4,7 @@ use Rattle.std.proofs.lemmas.Grind.{flat_map-append}
 use Rattle.external_terms.specs.Terms.{SpellsTerm}
 use Rattle.otp_edge.specs.PgMessages.{rows_in}
 use proofs.ListLemmas.{left_bytes, none_read, one_more}
-use proofs.LackLemmas.{lack}
+use proofs.LackLemmas.{lack_of, of_all, of_none}
 use Rattle.otp_edge.proofs.groups.rows_at.Goals as goal
 
 abbrev spell : List ℕ → List ℕ
@@ -18,8 +18,8 @@ returns-in_err-group-clause-only c = λ gs later long each whole.
     let kept = c.loop.invariant in
     let next = left_bytes spell SpellsTerm c.args.bytes.now kept.0 c.loop.rest.now kept.3 gs
     later (omega (arith, kept.2)) each whole in
-    lack c.from_residual.result _ c.from_residual.ensures.1
-    (c.in_err-group.ensures.only next.0 next.2.0 next.1 next.2.1)
+    lack_of _ c.from_residual.result _ c.from_residual.ensures.1 (of_none _ _
+    (c.in_err-group.ensures.only next.0 next.2.0 next.1 next.2.1) c.in_err-group.ensures.refused)
 
 pub loop-preserved : goal.loop-preserved
 loop-preserved c =
@@ -36,4 +36,10 @@ loop-preserved c =
 pub returns-in_err-push_rows-clause-only : goal.returns-in_err-push_rows-clause-only
 returns-in_err-push_rows-clause-only c = λ gs later long each whole.
     let passed = c.from_residual-in_err-push_rows in
-    lack passed.result _ passed.ensures.1 c.in_err-push_rows.ensures.refused
+    let kept = c.loop.invariant in
+    let next = left_bytes spell SpellsTerm c.args.bytes.now kept.0 c.loop.rest.now kept.3 gs
+    later (omega (arith, kept.2)) each whole in
+    let same = c.in_ok-group.ensures.found.only next.0 next.2.0 next.1 next.2.1 in
+    lack_of _ passed.result _ passed.ensures.1 (of_all (λ g. rows_in g c.args.pids.now) kept.0 _ gs
+    c.in_ok-group.group.now next.0 c.loop.rows.items _ kept.1 same.0 next.2.2
+    c.in_err-push_rows.ensures.refused)

@@ -3,7 +3,7 @@ use proofs.Words.{flat_map, length, List, sym, ℕ, ◌++◌, ◌∙◌}
 use Rattle.external_terms.specs.Values.{nil_bytes}
 use Rattle.external_terms.specs.Terms.{SpellsTerm}
 use proofs.ListLemmas.{all_read, inner_of, list_first, list_parts, none_inside}
-use proofs.LackLemmas.{lack}
+use proofs.LackLemmas.{lack_of}
 use Rattle.otp_edge.proofs.groups.terms_at.Goals as goal
 
 abbrev spell : List ℕ → List ℕ
@@ -18,7 +18,7 @@ pub returns-in_err-rows-clause-only : goal.returns-in_err-rows-clause-only
 returns-in_err-rows-clause-only c = λ gs rest are whole.
     let inside = inner_of spell SpellsTerm c.args.bytes.now c.in-Some.count
     c.in-Some.rest.now c.in-Some.ensures.only gs rest are whole in
-    lack c.from_residual.result _ c.from_residual.ensures.1
+    lack_of _ c.from_residual.result _ c.from_residual.ensures.1
     (c.in_err-rows.ensures.only gs (nil_bytes ++ rest) (sym inside.0) are.each inside.1)
 
 pub returns-in_default-after_nil-clause-only : goal.returns-in_default-after_nil-clause-only

@@ -2,13 +2,14 @@ use Rattle.otp_edge.proofs
 use proofs.Words.{ap, append-nil, Decides-eqb, false, IsPid, length, List, nil_from_length}
 use proofs.Words.{pid_bytes, refl, sym, true, ℕ, [], ◌==◌, ◌∙◌, ◌≡◌}
 use proofs.ListLemmas.{alone, alone_only}
-use proofs.LackLemmas.{lack_match}
+use proofs.LackLemmas.{lack_match, of_none}
 use Rattle.otp_edge.proofs.hearing.discover_in.Goals as goal
 
 pub returns-in_err-pid-clause-only : goal.returns-in_err-pid-clause-only
 returns-in_err-pid-clause-only c = λ p is whole.
-    lack_match _ c.from_residual.result _ c.from_residual.ensures.1
+    lack_match _ [] c.from_residual.result _ c.from_residual.ensures.1 (of_none [] _
     (c.in_err-pid.ensures.only p [] is (whole ∙ sym (append-nil (pid_bytes p))))
+    c.in_err-pid.ensures.refused)
 
 pub returns-then-not-is_empty-clause-only : goal.returns-then-not-is_empty-clause-only
 returns-then-not-is_empty-clause-only c = λ p is whole.

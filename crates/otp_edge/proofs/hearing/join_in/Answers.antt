@@ -4,27 +4,31 @@ use proofs.Words.{ap, append-nil, Decides-eqb, false, length, List, nil_from_len
 use proofs.Words.{true, ℕ, [], ◌++◌, ◌==◌, ◌∙◌, ◌≡◌}
 use proofs.ListLemmas.{alone, alone_only}
 use specs.PgMessages.{AreMembers, members_bytes, members_of, rows_in}
-use proofs.LackLemmas.{lack_match}
+use proofs.LackLemmas.{lack_match, of_none, of_same}
 use specs.declared.meaning.Said.TheVariants as saids
 use Rattle.otp_edge.proofs.hearing.join_in.Goals as goal
 
 pub returns-in_err-pid-clause-only : goal.returns-in_err-pid-clause-only
 returns-in_err-pid-clause-only c = λ p g ms is term members whole.
-    lack_match _ c.from_residual.result _ c.from_residual.ensures.1
-    (c.in_err-pid.ensures.only p (g ++ members_bytes ms) is whole)
+    lack_match _ _ c.from_residual.result _ c.from_residual.ensures.1 (of_none _ _
+    (c.in_err-pid.ensures.only p (g ++ members_bytes ms) is whole) c.in_err-pid.ensures.refused)
 
 pub returns-in_err-group-clause-only : goal.returns-in_err-group-clause-only
 returns-in_err-group-clause-only c = λ p g ms is term members whole.
     let first = c.in_ok-pid.ensures.found.only p (g ++ members_bytes ms) is whole in
-    lack_match _ c.from_residual-in_err-group.result _ c.from_residual-in_err-group.ensures.1
+    let passed = c.from_residual-in_err-group in
+    lack_match _ _ passed.result _ passed.ensures.1 (of_none _ _
     (c.in_err-group.ensures.only g (members_bytes ms) term (sym first.1))
+    c.in_err-group.ensures.refused)
 
 pub returns-in_err-pids-clause-only : goal.returns-in_err-pids-clause-only
 returns-in_err-pids-clause-only c = λ p g ms is term members whole.
     let first = c.in_ok-pid.ensures.found.only p (g ++ members_bytes ms) is whole in
     let group = c.in_ok-group.ensures.found.only g (members_bytes ms) term (sym first.1) in
-    lack_match _ c.from_residual-in_err-pids.result _ c.from_residual-in_err-pids.ensures.1
+    let passed = c.from_residual-in_err-pids in
+    lack_match _ _ passed.result _ passed.ensures.1 (of_none _ _
     (c.in_err-pids.ensures.only ms [] members (sym group.1 ∙ sym (append-nil (members_bytes ms))))
+    c.in_err-pids.ensures.refused)
 
 pub returns-then-not-is_empty-clause-only : goal.returns-then-not-is_empty-clause-only
 returns-then-not-is_empty-clause-only c = λ p g ms is term members whole.
@@ -78,4 +82,13 @@ returns-clause-only c = λ p g ms is term members whole.
 pub returns-in_err-push_rows-clause-only : goal.returns-in_err-push_rows-clause-only
 returns-in_err-push_rows-clause-only c = λ p g ms is term members whole.
     let passed = c.from_residual-in_err-push_rows in
-    lack_match _ passed.result _ passed.ensures.1 c.in_err-push_rows.ensures.refused
+    let first = c.in_ok-pid.ensures.found.only p (g ++ members_bytes ms) is whole in
+    let group = c.in_ok-group.ensures.found.only g (members_bytes ms) term (sym first.1) in
+    let found = c.in_ok-pids.ensures.found in
+    let same = found.2.only ms [] members (sym group.1 ∙ sym (append-nil (members_bytes ms))) in
+    let rows = ap (λ l. l ++ rows_in c.in_ok-group.group.now c.deref.result.now)
+    c.new-rows.ensures.items
+    ∙ ap (rows_in c.in_ok-group.group.now) (c.deref.ensures.value ∙ found.1)
+    ∙ sym (λ i. rows_in (group.0 i) (members_of (same.0 i))) in
+    lack_match _ _ passed.result _ passed.ensures.1 (of_same _ _ _ rows
+    c.in_err-push_rows.ensures.refused)

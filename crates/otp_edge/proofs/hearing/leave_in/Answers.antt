@@ -2,27 +2,35 @@ use Rattle.otp_edge.proofs
 use proofs.Words.{ap, append-nil, Decides-eqb, false, length, List, nil_from_length, pid_bytes, sym}
 use proofs.Words.{true, ℕ, [], ◌++◌, ◌==◌, ◌∙◌, ◌≡◌}
 use proofs.ListLemmas.{alone, alone_only}
-use Rattle.otp_edge.specs.PgMessages.{AreGroups, groups_bytes, members_bytes}
-use proofs.LackLemmas.{lack_match}
+use Rattle.otp_edge.specs.PgMessages.{AreGroups, groups_bytes, groups_of, members_bytes}
+use Rattle.otp_edge.specs.PgMessages.{members_of, rows_left}
+use proofs.LackLemmas.{lack_match, of_none, of_same}
 use Rattle.otp_edge.proofs.hearing.leave_in.Goals as goal
 
 pub returns-in_err-pid-clause-only : goal.returns-in_err-pid-clause-only
 returns-in_err-pid-clause-only c = λ p ms gs is members groups whole.
-    lack_match _ c.from_residual.result _ c.from_residual.ensures.1
+    lack_match _ _ c.from_residual.result _ c.from_residual.ensures.1 (of_none _ _
     (c.in_err-pid.ensures.only p (members_bytes ms ++ groups_bytes gs) is whole)
+    c.in_err-pid.ensures.refused)
 
 pub returns-in_err-pids-clause-only : goal.returns-in_err-pids-clause-only
 returns-in_err-pids-clause-only c = λ p ms gs is members groups whole.
     let first = c.in_ok-pid.ensures.found.only p (members_bytes ms ++ groups_bytes gs) is whole in
-    lack_match _ c.from_residual-in_err-pids.result _ c.from_residual-in_err-pids.ensures.1
+    let passed = c.from_residual-in_err-pids in
+    lack_match _ _ passed.result _ passed.ensures.1 (of_none _ _
     (c.in_err-pids.ensures.only ms (groups_bytes gs) members (sym first.1))
+    c.in_err-pids.ensures.refused)
 
 pub returns-in_err-rows-clause-only : goal.returns-in_err-rows-clause-only
 returns-in_err-rows-clause-only c = λ p ms gs is members groups whole.
     let first = c.in_ok-pid.ensures.found.only p (members_bytes ms ++ groups_bytes gs) is whole in
-    let second = c.in_ok-pids.ensures.found.2.only ms (groups_bytes gs) members (sym first.1) in
-    lack_match _ c.from_residual-in_err-rows.result _ c.from_residual-in_err-rows.ensures.1
-    (c.in_err-rows.ensures.only gs [] groups (sym second.1 ∙ sym (append-nil (groups_bytes gs))))
+    let found = c.in_ok-pids.ensures.found in
+    let second = found.2.only ms (groups_bytes gs) members (sym first.1) in
+    let passed = c.from_residual-in_err-rows in
+    lack_match _ _ passed.result _ passed.ensures.1 (of_same _ _ _
+    (ap (λ ps. rows_left ps (groups_of gs)) (c.deref.ensures.value ∙ found.1
+    ∙ sym (ap members_of second.0)))
+    (c.in_err-rows.ensures.only gs [] groups (sym second.1 ∙ sym (append-nil (groups_bytes gs)))))
 
 pub returns-then-not-is_empty-clause-only : goal.returns-then-not-is_empty-clause-only
 returns-then-not-is_empty-clause-only c = λ p ms gs is members groups whole.

@@ -4,7 +4,7 @@ use proofs.Words.{pid_bytes, sym, true, ℕ, [], ◌++◌, ◌==◌, ◌∙◌, 
 use Rattle.std.specs.Prelude.{codes}
 use proofs.ListLemmas.{alone, alone_only}
 use Rattle.otp_edge.specs.PgMessages.{headed, IsStated, stated_bytes}
-use proofs.LackLemmas.{lack_match}
+use proofs.LackLemmas.{lack_match, of_none}
 use Rattle.otp_edge.proofs.hearing.sync_in.Goals as goal
 
 pub returns-in_default-clause-only : goal.returns-in_default-clause-only
@@ -14,14 +14,14 @@ returns-in_default-clause-only c = λ p ss is stated whole.
 pub returns-in_err-pid-clause-only : goal.returns-in_err-pid-clause-only
 returns-in_err-pid-clause-only c = λ p ss is stated whole.
     let rest = c.in-Some.ensures.only (pid_bytes p ++ listed stated_bytes ss) whole in
-    lack_match _ c.from_residual.result _ c.from_residual.ensures.1
-    (c.in_err-pid.ensures.only p (listed stated_bytes ss) is rest)
+    lack_match _ _ c.from_residual.result _ c.from_residual.ensures.1 (of_none _ _
+    (c.in_err-pid.ensures.only p (listed stated_bytes ss) is rest) c.in_err-pid.ensures.refused)
 
 pub returns-in_err-rows-clause-only : goal.returns-in_err-rows-clause-only
 returns-in_err-rows-clause-only c = λ p ss is stated whole.
     let rest = c.in-Some.ensures.only (pid_bytes p ++ listed stated_bytes ss) whole in
     let first = c.in_ok-pid.ensures.found.only p (listed stated_bytes ss) is rest in
-    lack_match _ c.from_residual-in_err-rows.result _ c.from_residual-in_err-rows.ensures.1
+    lack_match _ _ c.from_residual-in_err-rows.result _ c.from_residual-in_err-rows.ensures.1
     (c.in_err-rows.ensures.only ss [] stated (sym first.1
     ∙ sym (append-nil (listed stated_bytes ss))))
 

@@ -1,7 +1,7 @@
 use Rattle.otp_edge.proofs
 use proofs.Words.{listed, pid_bytes, sym, ◌++◌, ◌∙◌}
 use proofs.FirstLemmas.{stated_first, stated_parts}
-use proofs.LackLemmas.{lack}
+use proofs.LackLemmas.{lack_of, of_none, of_same}
 use Rattle.otp_edge.proofs.stated.entry_at.Goals as goal
 
 pub returns-in_default-clause-only : goal.returns-in_default-clause-only
@@ -13,8 +13,9 @@ pub returns-in_err-group-clause-only : goal.returns-in_err-group-clause-only
 returns-in_err-group-clause-only c = λ s later is whole.
     let rest = c.in-Some.ensures.only (s.group ++ (listed pid_bytes s.pids ++ later))
     (whole ∙ stated_parts s later) in
-    lack c.from_residual.result _ c.from_residual.ensures.1
+    lack_of _ c.from_residual.result _ c.from_residual.ensures.1 (of_none _ _
     (c.in_err-group.ensures.only s.group (listed pid_bytes s.pids ++ later) is.group rest)
+    c.in_err-group.ensures.refused)
 
 pub returns-in_err-pids-clause-only : goal.returns-in_err-pids-clause-only
 returns-in_err-pids-clause-only c = λ s later is whole.
@@ -22,8 +23,9 @@ returns-in_err-pids-clause-only c = λ s later is whole.
     (whole ∙ stated_parts s later) in
     let group = c.in_ok-group.ensures.found.only s.group (listed pid_bytes s.pids ++ later)
     is.group rest in
-    lack c.from_residual-in_err-pids.result _ c.from_residual-in_err-pids.ensures.1
-    (c.in_err-pids.ensures.only s.pids later is.pids (sym group.1))
+    let passed = c.from_residual-in_err-pids in
+    lack_of _ passed.result _ passed.ensures.1 (of_none _ _
+    (c.in_err-pids.ensures.only s.pids later is.pids (sym group.1)) c.in_err-pids.ensures.refused)
 
 pub returns-clause-found : goal.returns-clause-found
 returns-clause-found c = (
@@ -37,4 +39,10 @@ returns-clause-found c = (
 pub returns-in_err-push_rows-clause-only : goal.returns-in_err-push_rows-clause-only
 returns-in_err-push_rows-clause-only c = λ s later is whole.
     let passed = c.from_residual-in_err-push_rows in
-    lack passed.result _ passed.ensures.1 c.in_err-push_rows.ensures.refused
+    let rest = c.in-Some.ensures.only (s.group ++ (listed pid_bytes s.pids ++ later))
+    (whole ∙ stated_parts s later) in
+    let group = c.in_ok-group.ensures.found.only s.group (listed pid_bytes s.pids ++ later)
+    is.group rest in
+    let pids = c.in_ok-pids.ensures.found.only s.pids later is.pids (sym group.1) in
+    lack_of _ passed.result _ passed.ensures.1 (of_same _ _ _ (cc (group.0, pids.0))
+    c.in_err-push_rows.ensures.refused)
