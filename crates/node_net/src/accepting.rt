@@ -1,7 +1,7 @@
 //! Connections that peers open.
 use crate::arrivals::Arrivals;
 use crate::backoff::Backoff;
-use crate::host::Host;
+use crate::home::Home;
 use crate::lanes::Lanes;
 use crate::peer_kind::PeerKind;
 use crate::serving::{Opener, Served, serve_stream};
@@ -40,7 +40,7 @@ fn take_connections<'a, R: Threads + Wait + Clock + Sync>(
     lanes: &'a Lanes<'a>,
     arrivals: &Arrivals,
 ) {
-    let host = Host {
+    let home = Home {
         rt,
         alloc,
         node,
@@ -51,7 +51,7 @@ fn take_connections<'a, R: Threads + Wait + Clock + Sync>(
         let Some(stream) = arrivals.next(rt, lanes) else {
             return;
         };
-        if take_in(&host, stream, arrivals.kind()) {
+        if take_in(&home, stream, arrivals.kind()) {
             rest.reset();
         } else if lanes.rest(rt, rest.grow()) {
             return;
@@ -62,14 +62,14 @@ fn take_connections<'a, R: Threads + Wait + Clock + Sync>(
 
 /// Serves the link of a connection: whether it came up.
 fn take_in<R: Threads + Wait + Clock + Sync>(
-    host: &Host<'_, R>,
+    home: &Home<'_, R>,
     stream: TcpStream,
     kind: PeerKind,
 ) -> bool {
-    let Some(lane) = host.lanes.take_for_peer(host.rt) else {
+    let Some(lane) = home.lanes.take_for_peer(home.rt) else {
         return false;
     };
-    let (lane, served) = serve_stream(host, lane, stream, Opener::Peer, kind);
-    host.lanes.give_back(host.rt, lane);
+    let (lane, served) = serve_stream(home, lane, stream, Opener::Peer, kind);
+    home.lanes.give_back(home.rt, lane);
     served == Served::CameUp
 }

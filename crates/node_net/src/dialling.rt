@@ -1,5 +1,6 @@
 //! Connections that this node opens.
 use crate::dial_fault::DialFault;
+use crate::home::Home;
 use crate::host::Host;
 use crate::lanes::Lanes;
 use crate::serving::{Opener, Served, serve_stream};
@@ -9,7 +10,6 @@ use dist_types::NodeName;
 use node_threads::Node;
 use policy_audit::{Entry, Reply, Verdict};
 use std::alloc::Global;
-use std::net::{Net, TcpListener, TcpStream};
 use std::sync::{Arc, Wait};
 use std::thread::{Scope, Threads};
 use std::time::{Clock, Duration, Instant};
@@ -22,17 +22,14 @@ const LOOK: u64 = 1_000;
 const EARLY: u64 = 60;
 
 /// Starts a thread that keeps a link to a peer: whether one could be made.
-pub fn start_dialling<'s, E: 's, R>(
+pub fn start_dialling<'s, E: 's, R: Host + 's>(
     scope: &'s Scope<'s, E>,
     rt: &'s R,
     alloc: Global,
     node: &'s Node,
     lanes: &'s Lanes<'s>,
     target: Arc<Target>,
-) -> bool
-where
-    R: Net<Listener = TcpListener, Stream = TcpStream> + Threads + Wait + Clock + Sync + 's,
-{
+) -> bool {
     scope
         .spawn(move || keep_dialling(rt, alloc, node, lanes, &target))
         .is_ok()
@@ -40,17 +37,14 @@ where
 
 /// Dials a peer whenever no link to it is up, until the stop, or the end of the target: then no
 /// lane is kept for it any more.
-fn keep_dialling<'a, R>(
+fn keep_dialling<'a, R: Host>(
     rt: &'a R,
     alloc: Global,
     node: &'a Node,
     lanes: &'a Lanes<'a>,
     target: &Target,
-)
-where
-    R: Net<Listener = TcpListener, Stream = TcpStream> + Threads + Wait + Clock + Sync,
-{
-    let host = Host {
+) {
+    let home = Home {
         rt,
         alloc,
         node,
@@ -59,7 +53,7 @@ where
     let mut tries = Tries::new();
     for _ in rt.forever() {
         // A dial that the node refuses is an entry, too.
-        if wait_while_up(rt, node, lanes, target) || !dial_once(&host, target, &mut tries) {
+        if wait_while_up(rt, node, lanes, target) || !dial_once(&home, target, &mut tries) {
             lanes.keep_one_less(rt);
             return;
         }
@@ -68,18 +62,15 @@ where
 }
 
 /// Dials once, and rests behind it: whether to go on.
-fn dial_once<R>(host: &Host<'_, R>, target: &Target, tries: &mut Tries) -> bool
-where
-    R: Net<Listener = TcpListener, Stream = TcpStream> + Threads + Wait + Clock + Sync,
-{
-    let Host {
+fn dial_once<R: Host>(home: &Home<'_, R>, target: &Target, tries: &mut Tries) -> bool {
+    let Home {
         rt,
         node,
         lanes,
         ..
-    } = *host;
+    } = *home;
     target.begin(rt);
-    let dialled = dial(host, target);
+    let dialled = dial(home, target);
     if lanes.is_stopping(rt) || target.has_ended() {
         return false;
     }
@@ -87,19 +78,19 @@ where
         tell_unsteady(rt, node, lanes, target);
     }
     let pause = tries.pause(rt);
-    note(host, target, dialled, pause);
+    note(home, target, dialled, pause);
     !lanes.pause(rt, pause, target)
 }
 
 /// Notes how a dial has ended, behind which there is a pause, and wakes who waits for the node
 /// where it has failed.
-fn note<R: Wait + Clock>(host: &Host<'_, R>, target: &Target, dialled: Dialled, pause: Duration) {
-    let Host {
+fn note<R: Wait + Clock>(home: &Home<'_, R>, target: &Target, dialled: Dialled, pause: Duration) {
+    let Home {
         rt,
         node,
         lanes,
         ..
-    } = *host;
+    } = *home;
     let next = match Instant::now(rt) {
         Ok(now) => now.checked_add(pause),
         Err(_) => None,
@@ -158,16 +149,13 @@ fn look_until_down<R: Wait + Clock>(
 }
 
 /// Dials a peer and serves the link until it ends.
-fn dial<R>(host: &Host<'_, R>, target: &Target) -> Dialled
-where
-    R: Net<Listener = TcpListener, Stream = TcpStream> + Threads + Wait + Clock + Sync,
-{
-    let Host {
+fn dial<R: Host>(home: &Home<'_, R>, target: &Target) -> Dialled {
+    let Home {
         rt,
         node,
         lanes,
         ..
-    } = *host;
+    } = *home;
     let stream = match target.connector().connect(rt, lanes) {
         Some(Ok(stream)) => stream,
         Some(Err(fault)) => return Dialled::Failed(fault),
@@ -178,7 +166,7 @@ where
     };
     let begun = Begun::now(rt, node);
     let opener = Opener::Own(target.peer());
-    let (lane, served) = serve_stream(host, lane, stream, opener, target.kind());
+    let (lane, served) = serve_stream(home, lane, stream, opener, target.kind());
     lanes.give_back_from_dial(rt, lane);
     match served {
         Served::CameUp => begun.end(rt, node, target),

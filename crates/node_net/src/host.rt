@@ -1,13 +1,13 @@
-//! Where links are served.
-use crate::lanes::Lanes;
-use node_threads::Node;
-use std::alloc::Global;
+//! What a node asks of the system.
+use std::net::{Net, TcpListener, TcpStream};
+use std::sync::Wait;
+use std::thread::Threads;
+use std::time::Clock;
 
-/// The node whose links are served, and its lanes.
-#[derive(Drop)]
-pub(crate) struct Host<'a, R> {
-    pub(crate) rt: &'a R,
-    pub(crate) alloc: Global,
-    pub(crate) node: &'a Node,
-    pub(crate) lanes: &'a Lanes<'a>,
-}
+/// The handles that a node at work needs. (Not `Files`: a bound that holds it isn't known to hold in another thread.)
+pub trait Host: Net<Listener = TcpListener, Stream = TcpStream> + Threads + Wait + Clock + Sync {}
+
+impl<R> Host for R
+where
+    R: Net<Listener = TcpListener, Stream = TcpStream> + Threads + Wait + Clock + Sync,
+{}

@@ -4,7 +4,7 @@ ghost use Rattle.std.specs.List.{Contains};
 ghost use Rattle.node_net.specs.LaneCalls.{IsOpening, own_links};
 
 use crate::guard::ReflectionGuard;
-use crate::host::Host;
+use crate::home::Home;
 use crate::input::{LinkInput, Stage};
 use crate::lane::Lane;
 use crate::lanes::Ticket;
@@ -79,20 +79,20 @@ impl Served {
 
 /// Serves a link over a connection until it ends: how far it came.
 pub(crate) fn serve_stream<R: Threads + Wait + Clock + Sync>(
-    host: &Host<'_, R>,
+    home: &Home<'_, R>,
     lane: Lane,
     stream: TcpStream,
     opener: Opener<'_>,
     kind: PeerKind,
 ) -> (Lane, Served) {
-    let Ok(stream) = Arc::new(host.alloc, stream) else {
+    let Ok(stream) = Arc::new(home.alloc, stream) else {
         return (lane, Served::NotBegun);
     };
-    let Ok(ticket) = host.lanes.enter(host.rt, lane.challenge(), &stream) else {
+    let Ok(ticket) = home.lanes.enter(home.rt, lane.challenge(), &stream) else {
         return (lane, Served::NotBegun);
     };
-    let (lane, served) = serve_entered(host, lane, &stream, Opening { opener, kind }, ticket);
-    host.lanes.leave(host.rt, ticket);
+    let (lane, served) = serve_entered(home, lane, &stream, Opening { opener, kind }, ticket);
+    home.lanes.leave(home.rt, ticket);
     (lane, served)
 }
 
@@ -121,7 +121,7 @@ impl Opening<'_> {
 
 /// Opens the link with the challenge that it was entered with, and serves it.
 fn serve_entered<R: Threads + Wait + Clock + Sync>(
-    host: &Host<'_, R>,
+    home: &Home<'_, R>,
     mut lane: Lane,
     stream: &TcpStream,
     opening: Opening<'_>,
@@ -129,12 +129,12 @@ fn serve_entered<R: Threads + Wait + Clock + Sync>(
 ) -> (Lane, Served)
     requires guarded { ticket.challenge ≡ lane.challenge }
 {
-    let Host {
+    let Home {
         rt,
         alloc,
         node,
         lanes,
-    } = *host;
+    } = *home;
     let Ok(outlet) = Outlet::new(rt, stream, lanes.limits()) else {
         return (lane, Served::NotBegun);
     };
@@ -165,13 +165,13 @@ fn serve_entered<R: Threads + Wait + Clock + Sync>(
         looks: lanes.limits().looks(opening.kind),
         is_native: opening.is_from_native(),
     };
-    let lane = serve_opened(host, lane, input, opening, start);
+    let lane = serve_opened(home, lane, input, opening, start);
     (lane, Served::of(outlet.was_up(rt)))
 }
 
 /// Serves the link that was opened, by its kind.
 fn serve_opened<R: Threads + Wait + Clock + Sync>(
-    host: &Host<'_, R>,
+    home: &Home<'_, R>,
     lane: Lane,
     input: LinkInput<'_, R>,
     opening: Opening<'_>,
@@ -179,15 +179,15 @@ fn serve_opened<R: Threads + Wait + Clock + Sync>(
 ) -> Lane
     requires own { Contains (own_links lane.reader.calls) input.at.now.link }
 {
-    let Host {
+    let Home {
         rt,
         alloc,
         node,
         lanes,
-    } = *host;
+    } = *home;
     if opening.kind.is_otp() {
         let kind = opening.link_kind(lanes.edges().in_parts());
-        return serve_otp(host, lane, input, kind, start);
+        return serve_otp(home, lane, input, kind, start);
     }
     let (at, progress) = (input.at, input.progress);
     let output = LinkOutput::begin(at, input.outlet);
@@ -197,7 +197,7 @@ fn serve_opened<R: Threads + Wait + Clock + Sync>(
 
 /// Serves the link that was opened with a stock node of Erlang/OTP.
 fn serve_otp<R: Threads + Wait + Clock + Sync>(
-    host: &Host<'_, R>,
+    home: &Home<'_, R>,
     lane: Lane,
     input: LinkInput<'_, R>,
     kind: LinkKind,
@@ -205,12 +205,12 @@ fn serve_otp<R: Threads + Wait + Clock + Sync>(
 ) -> Lane
     requires own { Contains (own_links lane.reader.calls) input.at.now.link }
 {
-    let Host {
+    let Home {
         rt,
         alloc,
         node,
         ..
-    } = *host;
+    } = *home;
     let (at, outlet, progress) = (input.at, input.outlet, input.progress);
     let link = at.link;
     let between = Mutex::new(OtpLink::new(alloc, kind));

@@ -1,6 +1,6 @@
 //! One connection: a thread answers its lines, and another tells its news.
+use crate::asked::Asked;
 use dist_types::OutOfMemory;
-use pg_hub::Hub;
 use pg_session::{Next, Rights, Seen};
 use pg_streams::{self, Lines, is_too_long};
 use pg_text::put_word;
@@ -17,8 +17,8 @@ const KEPT: usize = 65_536;
 
 /// What both threads of a connection share.
 #[derive(Drop)]
-pub struct Desk<'a> {
-    pub hub: &'a Hub,
+pub struct Desk<'a, N> {
+    pub node: &'a N,
     pub seat: usize,
     rights: Rights,
     /// Held for a whole answer, or for all that there is to tell, so that neither stands inside the other.
@@ -26,10 +26,10 @@ pub struct Desk<'a> {
     has_ended: AtomicBool,
 }
 
-impl<'a> Desk<'a> {
-    pub fn new(hub: &'a Hub, seat: usize, rights: Rights) -> Desk<'a> {
+impl<'a, N: Asked> Desk<'a, N> {
+    pub fn new(node: &'a N, seat: usize, rights: Rights) -> Desk<'a, N> {
         Desk {
-            hub,
+            node,
             seat,
             rights,
             printing: Mutex::new(()),
@@ -40,7 +40,7 @@ impl<'a> Desk<'a> {
     /// There are no further lines, and nothing is to be told any more.
     pub fn end<R: Wait>(&self, rt: &R) {
         self.has_ended.store(true, Ordering::SeqCst);
-        self.hub.wake(rt);
+        self.node.wake(rt);
     }
 
     /// Answers lines until there are no more, or one ends the program.
@@ -50,8 +50,8 @@ impl<'a> Desk<'a> {
         lines: &mut L,
         writer: &mut W,
     ) -> io::Result<()> {
-        let mut line = Vec::new(self.hub.alloc);
-        let mut out = Vec::new(self.hub.alloc);
+        let mut line = Vec::new(self.node.alloc());
+        let mut out = Vec::new(self.node.alloc());
         self.answer_each(rt, lines, writer, &mut line, &mut out)
     }
 
@@ -66,7 +66,7 @@ impl<'a> Desk<'a> {
     ) -> io::Result<()> {
         for _ in rt.forever() {
             for _ in 0..IN_A_ROW {
-                if self.hub.signals.is_quitting() {
+                if self.node.is_quitting() {
                     return Ok(());
                 }
                 let asked = match lines.next(line) {
@@ -74,14 +74,14 @@ impl<'a> Desk<'a> {
                     pg_streams::Next::LostLine => None,
                     pg_streams::Next::End => return Ok(()),
                 };
-                if self.hub.signals.is_draining() {
+                if self.node.is_draining() {
                     return Ok(());
                 }
                 self.answer_one(rt, asked, out, writer)?;
                 trim(line);
                 trim(out);
             }
-            self.hub.crowd.let_go_first(rt);
+            self.node.let_go_first(rt);
         }
         unreachable!()
     }
@@ -94,25 +94,18 @@ impl<'a> Desk<'a> {
         out: &mut Vec<u8>,
         writer: &mut W,
     ) -> io::Result<()> {
-        let hub = self.hub;
-        hub.wait_for_room(rt);
+        let node = self.node;
+        node.wait_for_room(rt);
         let printing = self.printing.lock(rt);
         out.clear();
-        let promise = hub.promise_of_line(rt, self.seat, line.unwrap_or(&[]));
-        let call = hub.let_through(rt, promise);
-        // From here to its answer a line waits for no client.
-        hub.crowd.enter();
-        let next = self.answer(rt, line, out);
-        hub.crowd.leave(rt);
-        hub.has_called(rt, call);
-        let next = next?;
+        let next = self.answer(rt, line, out)?;
         if next == Next::Drain {
-            hub.drain(rt, self.seat);
+            node.drain(rt, self.seat);
         }
         let sent = send(writer, out.as_slice());
         drop(printing);
         if next == Next::Drain || (next == Next::Quit && sent.is_ok()) {
-            hub.quit(rt);
+            node.quit(rt);
         }
         sent
     }
@@ -134,7 +127,7 @@ impl<'a> Desk<'a> {
                 "fault out of memory\n"
             }
             None => {
-                self.hub.lose_line(rt);
+                self.node.lose_line(rt);
                 "fault out of memory\n"
             }
         };
@@ -151,8 +144,8 @@ impl<'a> Desk<'a> {
         line: &[u8],
         out: &mut Vec<u8>,
     ) -> Result<Next, OutOfMemory> {
-        if self.rights.allow(self.hub.alloc, line)? {
-            return self.hub.answer(rt, self.seat, line, out);
+        if self.rights.allow(self.node.alloc(), line)? {
+            return self.node.answer(rt, self.seat, line, out);
         }
         put_word("fault this socket takes reads and monitors alone\n", out)?;
         Ok(Next::Line)
@@ -165,7 +158,7 @@ impl<'a> Desk<'a> {
         seen: Seen,
         writer: &mut W,
     ) -> io::Result<()> {
-        let mut out = Vec::new(self.hub.alloc);
+        let mut out = Vec::new(self.node.alloc());
         self.tell_each(rt, seen, writer, &mut out)
     }
 
@@ -178,15 +171,18 @@ impl<'a> Desk<'a> {
         out: &mut Vec<u8>,
     ) -> io::Result<()> {
         for _ in rt.forever() {
-            if !self.hub.wait_for_news(rt, self.seat, seen, &self.has_ended) {
+            if !self
+                .node
+                .wait_for_news(rt, self.seat, seen, &self.has_ended)
+            {
                 return Ok(());
             }
             let printing = self.printing.lock(rt);
             out.clear();
-            if self.hub.readers.is_behind(self.seat) {
-                return self.give_up(out, writer);
+            if self.node.gives_up(self.seat) {
+                return give_up(out, writer);
             }
-            match self.hub.tell(rt, self.seat, out) {
+            match self.node.tell(rt, self.seat, out) {
                 Ok(Some(now)) => seen = now,
                 Ok(None) => return Ok(()),
                 Err(_) => return Err(io::Error::from(ErrorKind::OutOfMemory)),
@@ -197,14 +193,13 @@ impl<'a> Desk<'a> {
         }
         unreachable!()
     }
+}
 
-    /// Tells a connection that hasn't read for long that it is ended.
-    fn give_up<W: Write>(&self, out: &mut Vec<u8>, writer: &mut W) -> io::Result<()> {
-        self.hub.readers.leave(self.seat);
-        match put_word("! behind\n", out) {
-            Ok(()) => send(writer, out.as_slice()),
-            Err(_) => Err(io::Error::from(ErrorKind::OutOfMemory)),
-        }
+/// Tells a connection that hasn't read for long that it is ended.
+fn give_up<W: Write>(out: &mut Vec<u8>, writer: &mut W) -> io::Result<()> {
+    match put_word("! behind\n", out) {
+        Ok(()) => send(writer, out.as_slice()),
+        Err(_) => Err(io::Error::from(ErrorKind::OutOfMemory)),
     }
 }
 

@@ -1,8 +1,9 @@
 //! The control socket: its connections ask by lines, each with a seat of its own.
+use crate::asked::Asked;
+use crate::clients::Stream;
 use crate::connection::Desk;
 use crate::door::Door;
 use crate::refusing::{refuse, refuse_here};
-use pg_hub::{Hub, Stream};
 use pg_log::Taking;
 use pg_session::{Rights, Seen};
 use pg_streams::ReadLines;
@@ -18,56 +19,60 @@ use std::time::{Clock, Duration};
 const PATIENCE: u64 = 10_000;
 
 /// Starts the thread that takes connections, where there is a door for them: whether it could be made.
-pub fn start_control<'s, E: 's, R: Threads + Wait + Clock + Sync + 's>(
+pub fn start_control<'s, E: 's, R: Threads + Wait + Clock + Sync + 's, N: Asked + Sync + 's>(
     scope: &'s Scope<'s, E>,
     rt: &'s R,
-    hub: &'s Hub,
+    node: &'s N,
     door: Option<&'s Door<'_>>,
 ) -> bool {
     match door {
-        Some(door) => scope.spawn(move || serve_control(rt, hub, door)).is_ok(),
+        Some(door) => scope.spawn(move || serve_control(rt, node, door)).is_ok(),
         None => true,
     }
 }
 
 /// Takes connections until the program is to end, and waits until each has ended.
-fn serve_control<R: Threads + Wait + Clock + Sync>(rt: &R, hub: &Hub, door: &Door<'_>) {
+fn serve_control<R: Threads + Wait + Clock + Sync, N: Asked + Sync>(
+    rt: &R,
+    node: &N,
+    door: &Door<'_>,
+) {
     thread::scope(thread::scope_env(), rt, |scope| {
-        take_all(scope, rt, hub, door)
+        take_all(scope, rt, node, door)
     });
 }
 
 /// Takes connections until the program is to end.
-fn take_all<'s, E: 's, R: Threads + Wait + Clock + Sync + 's>(
+fn take_all<'s, E: 's, R: Threads + Wait + Clock + Sync + 's, N: Asked + Sync + 's>(
     scope: &'s Scope<'s, E>,
     rt: &'s R,
-    hub: &'s Hub,
+    node: &'s N,
     door: &Door<'_>,
 ) {
     let mut taking = Taking::of("client");
     for _ in rt.forever() {
         let accepted = door.listener.accept();
-        if hub.signals.is_quitting() {
+        if node.is_quitting() {
             return;
         }
-        if let Some((stream, _)) = taking.taken(rt, &hub.log, accepted) {
-            take_in(scope, rt, hub, door.rights, stream);
+        if let Some((stream, _)) = taking.taken(rt, node.log(), accepted) {
+            take_in(scope, rt, node, door.rights, stream);
         }
     }
 }
 
 /// Serves a connection, or tells it that there is no room.
-fn take_in<'s, E: 's, R: Threads + Wait + Clock + Sync + 's>(
+fn take_in<'s, E: 's, R: Threads + Wait + Clock + Sync + 's, N: Asked + Sync + 's>(
     scope: &'s Scope<'s, E>,
     rt: &'s R,
-    hub: &'s Hub,
+    node: &'s N,
     rights: Rights,
     stream: UnixStream,
 ) {
-    match Arc::new(hub.alloc, stream) {
+    match Arc::new(node.alloc(), stream) {
         Ok(stream) => {
-            if !is_served(scope, rt, hub, rights, &stream) {
-                refuse(scope, rt, &hub.clients.hearers, stream);
+            if !is_served(scope, rt, node, rights, &stream) {
+                refuse(scope, rt, &node.clients().hearers, stream);
             }
         }
         Err(failed) => refuse_here(rt, &failed.value),
@@ -75,10 +80,10 @@ fn take_in<'s, E: 's, R: Threads + Wait + Clock + Sync + 's>(
 }
 
 /// Gives a connection a seat and a thread: whether both could be had.
-fn is_served<'s, E: 's, R: Threads + Wait + Clock + Sync + 's>(
+fn is_served<'s, E: 's, R: Threads + Wait + Clock + Sync + 's, N: Asked + Sync + 's>(
     scope: &'s Scope<'s, E>,
     rt: &'s R,
-    hub: &'s Hub,
+    node: &'s N,
     rights: Rights,
     stream: &Stream,
 ) -> bool {
@@ -86,13 +91,13 @@ fn is_served<'s, E: 's, R: Threads + Wait + Clock + Sync + 's>(
     if stream.set_write_timeout(Some(patience)).is_err() {
         return false;
     }
-    let Some((seat, seen)) = hub.enter(rt, seats_left(rights)) else {
+    let Some((seat, seen)) = node.enter(rt, seats_left(rights)) else {
         return false;
     };
-    let desk = Desk::new(hub, seat, rights);
+    let desk = Desk::new(node, seat, rights);
     let is_started = start_serving(scope, rt, desk, seen, stream);
     if !is_started {
-        give_up(rt, hub, seat);
+        give_up(rt, node, seat);
     }
     is_started
 }
@@ -106,14 +111,14 @@ fn seats_left(rights: Rights) -> usize {
 }
 
 /// Starts the thread of a connection, if whoever ends the program can have its stream: whether it could be made.
-fn start_serving<'s, E: 's, R: Threads + Wait + Clock + Sync + 's>(
+fn start_serving<'s, E: 's, R: Threads + Wait + Clock + Sync + 's, N: Asked + Sync + 's>(
     scope: &'s Scope<'s, E>,
     rt: &'s R,
-    desk: Desk<'s>,
+    desk: Desk<'s, N>,
     seen: Seen,
     stream: &Stream,
 ) -> bool {
-    if !desk.hub.clients.add(rt, desk.seat, stream) {
+    if !desk.node.clients().add(rt, desk.seat, stream) {
         return false;
     }
     let Ok(stream) = Arc::try_clone(stream) else {
@@ -123,32 +128,32 @@ fn start_serving<'s, E: 's, R: Threads + Wait + Clock + Sync + 's>(
 }
 
 /// The connection of a seat has ended.
-fn give_up<R: Wait + Clock>(rt: &R, hub: &Hub, seat: usize) {
-    hub.clients.remove(rt, seat);
-    hub.leave(rt, seat);
+fn give_up<R: Wait + Clock, N: Asked>(rt: &R, node: &N, seat: usize) {
+    node.clients().remove(rt, seat);
+    node.leave(rt, seat);
 }
 
 /// Serves a connection until it ends.
-fn serve<R: Threads + Wait + Clock + Sync>(
+fn serve<R: Threads + Wait + Clock + Sync, N: Asked + Sync>(
     rt: &R,
-    desk: &Desk<'_>,
+    desk: &Desk<'_, N>,
     seen: Seen,
     stream: &UnixStream,
 ) {
     if !is_answered(rt, desk, seen, stream) {
         refuse_here(rt, stream);
     }
-    give_up(rt, desk.hub, desk.seat);
+    give_up(rt, desk.node, desk.seat);
 }
 
 /// Answers the lines of a connection and tells its news, if there is memory and a thread for both.
-fn is_answered<R: Threads + Wait + Clock + Sync>(
+fn is_answered<R: Threads + Wait + Clock + Sync, N: Asked + Sync>(
     rt: &R,
-    desk: &Desk<'_>,
+    desk: &Desk<'_, N>,
     seen: Seen,
     stream: &UnixStream,
 ) -> bool {
-    let Ok(reader) = BufReader::new(desk.hub.alloc, stream) else {
+    let Ok(reader) = BufReader::new(desk.node.alloc(), stream) else {
         return false;
     };
     thread::scope(thread::scope_env(), rt, |scope| {
@@ -161,16 +166,16 @@ fn is_answered<R: Threads + Wait + Clock + Sync>(
 }
 
 /// Tells news until the connection or the program ends, and hangs up.
-fn tell<R: Wait + Clock>(rt: &R, desk: &Desk<'_>, seen: Seen, stream: &UnixStream) {
+fn tell<R: Wait + Clock, N: Asked>(rt: &R, desk: &Desk<'_, N>, seen: Seen, stream: &UnixStream) {
     let mut writer = stream;
     desk.tell_all(rt, seen, &mut writer).ok();
     stream.shutdown(Shutdown::Both).ok();
 }
 
 /// Answers lines until there are no more, and ends the connection.
-fn answer<R: Wait + Clock>(
+fn answer<R: Wait + Clock, N: Asked>(
     rt: &R,
-    desk: &Desk<'_>,
+    desk: &Desk<'_, N>,
     reader: BufReader<&UnixStream>,
     stream: &UnixStream,
 ) {

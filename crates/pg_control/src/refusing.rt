@@ -1,5 +1,5 @@
 //! Clients for which there is no room.
-use pg_hub::Stream;
+use crate::clients::Stream;
 use pg_streams::{Hearers, hear_out, is_at_end};
 use std::io::Write;
 use std::net::Shutdown;

@@ -1,18 +1,17 @@
-//! What connections are answered, and told unasked.
+//! What connections are answered, and when they are told.
 use crate::hub::Hub;
-use crate::lost::Lost;
 use crate::reporting::Reporting;
 use dist_types::OutOfMemory;
 use node_threads::Shared;
+use pg_control::Asked;
 use pg_session::{Lack, Next, Seen, Session};
 use std::sync::Wait;
-use std::sync::atomic::{AtomicBool, Ordering};
 use std::time::Clock;
 
 impl Hub {
     /// Adds the answer to a line of a seat, for which there is room. A call that meets a full audit,
     /// or no memory, is answered by the next life.
-    pub fn answer<R: Wait + Clock>(
+    pub(crate) fn answer_line<R: Wait + Clock>(
         &self,
         rt: &R,
         seat: usize,
@@ -71,74 +70,8 @@ impl Hub {
         Ok((next, lack))
     }
 
-    /// Adds the news for a seat.
-    pub fn tell<R: Wait + Clock>(
-        &self,
-        rt: &R,
-        seat: usize,
-        out: &mut Vec<u8>,
-    ) -> Result<Option<Seen>, OutOfMemory> {
-        self.follow(rt);
-        let house = self.house.read(rt);
-        let Some(session) = house.sessions.get(seat) else {
-            return Ok(None);
-        };
-        let lost = Lost {
-            rt,
-            links: self.link_notes(),
-        };
-        let mut session = session.lock(rt);
-        self.readers.begin_to_ask(seat);
-        match session.tell(rt, self.alloc, &self.node, &lost, self.keeping.stale(), out) {
-            Ok(seen) => {
-                self.readers.note(seat, seen.entries(), session.monitors());
-                self.signals.count_told(out.as_slice());
-                Ok(Some(seen))
-            }
-            Err(OutOfMemory) => {
-                drop(session);
-                self.want_memory(rt);
-                Err(OutOfMemory)
-            }
-        }
-    }
-
-    /// Waits while this life is ending: until the next one, or the end of the program.
-    pub fn wait_for_room<R: Wait>(&self, rt: &R) {
-        let shared = self
-            .node
-            .moved
-            .wait_while(rt, self.node.shared.lock(rt), |shared| {
-                self.is_ending(shared) && !self.signals.is_quitting()
-            });
-        drop(shared);
-    }
-
-    /// Waits until more has happened than the connection of the seat has seen, its monitors are to be
-    /// asked, or the program or the connection is to end: whether to go on. Much that is no news counts,
-    /// too: who has been told of it needs its entries no more.
-    pub fn wait_for_news<R: Wait>(
-        &self,
-        rt: &R,
-        seat: usize,
-        seen: Seen,
-        has_ended: &AtomicBool,
-    ) -> bool {
-        let watches = self.readers.has_monitors(seat);
-        let told = if watches {
-            &self.node.news
-        } else {
-            &self.notices.told
-        };
-        let shared = told.wait_while(rt, self.node.shared.lock(rt), |shared| {
-            self.may_rest(seat, watches, seen, shared) && !has_ended.load(Ordering::SeqCst)
-        });
-        drop(shared);
-        !self.signals.is_quitting() && !has_ended.load(Ordering::SeqCst)
-    }
-
     /// Whether nothing is to be told at a seat that has seen so much, by who has monitors or has none.
-    fn may_rest(&self, seat: usize, watches: bool, seen: Seen, shared: &Shared) -> bool {
+    pub(crate) fn may_rest(&self, seat: usize, watches: bool, seen: Seen, shared: &Shared) -> bool {
         let is_told = if watches {
             !seen.is_behind(shared)
         } else {

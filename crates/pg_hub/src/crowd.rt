@@ -4,7 +4,7 @@ use std::sync::{Condvar, Mutex, Wait};
 
 /// How many lines wait for their answers, for connections that let others go first.
 #[derive(Drop)]
-pub struct Crowd {
+pub(crate) struct Crowd {
     /// How many lines have come, and how many of them have their answers.
     came: AtomicU64,
     answered: AtomicU64,
@@ -15,7 +15,7 @@ pub struct Crowd {
 }
 
 impl Crowd {
-    pub fn new() -> Crowd {
+    pub(crate) fn new() -> Crowd {
         Crowd {
             came: AtomicU64::new(0),
             answered: AtomicU64::new(0),
@@ -26,12 +26,12 @@ impl Crowd {
     }
 
     /// A line waits for its answer.
-    pub fn enter(&self) {
+    pub(crate) fn enter(&self) {
         self.came.fetch_add(1, Ordering::SeqCst);
     }
 
     /// A line has its answer.
-    pub fn leave<R: Wait>(&self, rt: &R) {
+    pub(crate) fn leave<R: Wait>(&self, rt: &R) {
         self.answered.fetch_add(1, Ordering::SeqCst);
         if self.resting.load(Ordering::SeqCst) != 0 {
             drop(self.lock.lock(rt));
@@ -40,7 +40,7 @@ impl Crowd {
     }
 
     /// Waits until as many lines are answered as wait for an answer now.
-    pub fn let_go_first<R: Wait>(&self, rt: &R) {
+    pub(crate) fn let_go_first<R: Wait>(&self, rt: &R) {
         let came = self.came.load(Ordering::SeqCst);
         if self.answered.load(Ordering::SeqCst) >= came {
             return;

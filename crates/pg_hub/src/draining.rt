@@ -1,13 +1,9 @@
 //! The end of a node that leaves nothing undone: nobody is let in any more, what connections have
 //! ends, and peers are told.
 use crate::hub::Hub;
-use pg_log::Level;
 use std::sync::Wait;
 use std::thread;
 use std::time::{Clock, Duration};
-
-/// The seat of standard input.
-const OPERATOR: usize = 0;
 
 /// The milliseconds between two looks whether all has been done.
 const LOOK: u64 = 10;
@@ -19,21 +15,8 @@ const LOOKS: u32 = 1_000;
 const LAST_WRITE: u64 = 50;
 
 impl Hub {
-    /// Lets nobody in any more, ends all connections but that of this seat, and what all have of
-    /// the node, and waits until the peers that read are told, for some seconds at most each time.
-    pub fn drain<R: Wait + Clock>(&self, rt: &R, seat: usize) {
-        self.signals.drain();
-        self.log.tell(rt, Level::Info, "draining", &[]);
-        self.clients.end_others(rt, seat);
-        self.wake(rt);
-        self.leave(rt, seat);
-        self.leave(rt, OPERATOR);
-        self.wait_until_left(rt);
-        self.wait_until_told(rt);
-    }
-
     /// Waits until no connection has a process.
-    fn wait_until_left<R: Wait + Clock>(&self, rt: &R) {
+    pub(crate) fn wait_until_left<R: Wait + Clock>(&self, rt: &R) {
         for _ in 0..LOOKS {
             if self.signals.is_quitting() || self.is_left(rt) {
                 return;
@@ -55,7 +38,7 @@ impl Hub {
     }
 
     /// Waits until no frame waits for a link whose writer gets on.
-    fn wait_until_told<R: Wait + Clock>(&self, rt: &R) {
+    pub(crate) fn wait_until_told<R: Wait + Clock>(&self, rt: &R) {
         for _ in 0..LOOKS {
             if self.signals.is_quitting() || !self.has_frames(rt) {
                 break;

@@ -1,6 +1,5 @@
 //! What all threads of the program share: the node, and the seats of its connections.
 use crate::brake::Brake;
-use crate::clients::Clients;
 use crate::crowd::Crowd;
 use crate::keeping::Keeping;
 use crate::ledger::Ledger;
@@ -12,6 +11,7 @@ use crate::twins::Twins;
 use node_core::NodeCore;
 use node_net::{Notes, Targets};
 use node_threads::{Node, Pass, Shared};
+use pg_control::Clients;
 use pg_log::Log;
 use pg_session::{Roster, Session};
 use std::alloc::Global;
@@ -57,8 +57,8 @@ pub struct Hub {
     pub alloc: Global,
     pub node: Node,
     pub house: RwLock<House>,
-    pub clients: Clients,
-    pub crowd: Crowd,
+    pub(crate) clients: Clients,
+    pub(crate) crowd: Crowd,
     /// How many seats of connections there are: that of standard input, and those of clients.
     pub seats: u32,
     /// Who is up, for connections that are still to come.
@@ -144,14 +144,6 @@ impl Hub {
     pub fn want_memory<R: Wait>(&self, rt: &R) {
         self.signals.want_memory();
         self.wake(rt);
-    }
-
-    /// A line couldn't be read for want of memory. The next life begins where the next one can't be read either.
-    pub fn lose_line<R: Wait>(&self, rt: &R) {
-        self.node.shared.lock(rt).let_go();
-        if self.signals.lose_line() {
-            self.want_memory(rt);
-        }
     }
 
     /// The next life has begun.

@@ -2,15 +2,14 @@
 #![tactic(auto)]
 
 mod answering;
+mod asked;
 mod brake;
 mod census;
 mod changing;
 mod chronicle;
-mod clients;
 mod crowd;
 mod draining;
 mod following;
-mod host;
 mod hub;
 mod keeping;
 mod ledger;
@@ -31,9 +30,6 @@ mod viewing;
 mod views;
 
 pub use brake::{LetThrough, Promise};
-pub use clients::{Clients, Stream};
-pub use crowd::Crowd;
-pub use host::Host;
 pub use hub::{House, Hub, HubSettings, is_nearly_full};
 pub use keeping::Keeping;
 pub use logging::UntakenPeers;

@@ -4,26 +4,9 @@ use crate::hub::Hub;
 use dist_types::OutOfMemory;
 use pg_session::Seen;
 use std::sync::Wait;
-use std::time::Clock;
 
 impl Hub {
-    /// Takes a seat that nobody has, if there is one, with so many others, and memory for it, and
-    /// somebody may be let in.
-    pub fn enter<R: Wait>(&self, rt: &R, others: usize) -> Option<(usize, Seen)> {
-        if self.signals.is_draining() {
-            return None;
-        }
-        for _ in 0..2 {
-            if let Ok(entered) = self.try_enter(rt, others) {
-                return entered;
-            }
-            self.node.shared.lock(rt).let_go();
-        }
-        self.want_memory(rt);
-        None
-    }
-
-    fn try_enter<R: Wait>(
+    pub(crate) fn try_enter<R: Wait>(
         &self,
         rt: &R,
         others: usize,
@@ -47,32 +30,14 @@ impl Hub {
         Ok(None)
     }
 
-    /// Gives a seat back, once what its connection had has ended. At the end of the program all ends with the node.
-    pub fn leave<R: Wait + Clock>(&self, rt: &R, seat: usize) {
-        self.readers.leave(seat);
-        for _ in rt.forever() {
-            self.wait_for_room(rt);
-            let Some(promise) = self.promise_of_an_end(rt, seat) else {
-                return;
-            };
-            let call = self.let_through(rt, promise);
-            let had_one = !self.signals.is_quitting() && self.leave_one(rt, seat);
-            self.has_called(rt, call);
-            if !had_one {
-                return;
-            }
-        }
-        unreachable!()
-    }
-
-    fn promise_of_an_end<R: Wait>(&self, rt: &R, seat: usize) -> Option<Promise> {
+    pub(crate) fn promise_of_an_end<R: Wait>(&self, rt: &R, seat: usize) -> Option<Promise> {
         let house = self.house.read(rt);
         let session = house.sessions.get(seat)?.lock(rt);
         Some(Promise::of_an_end(&session))
     }
 
     /// Ends one thing that a connection had. The lock is free behind each, so that others are answered meanwhile.
-    fn leave_one<R: Wait>(&self, rt: &R, seat: usize) -> bool {
+    pub(crate) fn leave_one<R: Wait>(&self, rt: &R, seat: usize) -> bool {
         let house = self.house.read(rt);
         let Some(session) = house.sessions.get(seat) else {
             return false;

@@ -2,10 +2,10 @@
 use anyhow::{Result, bail};
 use command_line::VERSION;
 use dist_types::{NodeName, TryClone};
-use node_net::{Arrivals, Lane, Limits, Notes, Targets, start_taking};
-use pg_control::{Operator, start_control, start_operator};
+use node_net::{Arrivals, Host, Lane, Limits, Notes, Targets, start_taking};
+use pg_control::{Asked, Operator, start_control, start_operator};
 use pg_http::start_pages;
-use pg_hub::{Host, Hub, HubSettings, Keeping, Memory, Readers, UntakenPeers};
+use pg_hub::{Hub, HubSettings, Keeping, Memory, Readers, UntakenPeers};
 use pg_lives::{ArchivePlace, Closer, LifeMaker, Recorder, Site, finish, given, keep_on, live_on};
 use pg_log::{Field, Level, Log, number, text};
 use pg_options::{Faces, LogOptions, Options, OtpOptions};
@@ -267,7 +267,7 @@ fn start_all<'s, E: 's, R: Host + 's>(
     scope: &'s Scope<'s, E>,
     rt: &'s R,
     program: Program<'s, '_>,
-    operator: &'s Operator<'_>,
+    operator: &'s Operator<'_, Hub>,
     seen: Seen,
 ) -> bool {
     let Program {

@@ -1,10 +1,9 @@
 //! The places where peers and clients connect.
 use crate::queues::Queues;
 use anyhow::{Error, Result, anyhow};
-use node_net::{Arrivals, PeerKind};
+use node_net::{Arrivals, Host, PeerKind};
 use pg_control::{Door, DoorPlace};
 use pg_http::PageEntrance;
-use pg_hub::Host;
 use pg_log::Log;
 use pg_options::{Faces, SocketFile};
 use pg_session::Rights;
