@@ -10,7 +10,7 @@ from concurrent.futures import ThreadPoolExecutor
 from checks import COMPILE, PROVED, REFUSED, UNKNOWN, UNSURE, Crate, check, end_all, refused_functions
 from functions import changed_functions
 from rows import ROOT, rows, text_of
-from word import all_taken, proved
+from word import all_taken, proved, write
 
 # How many rows are made at once.
 TOGETHER = 24
@@ -88,12 +88,6 @@ def tried(crate, row):
         return kind, 'the whole crate', said or ', '.join(names)
     finally:
         write(crate, before)
-
-
-def write(crate, texts):
-    for file, text in texts.items():
-        with open(os.path.join(crate.folder, file), 'w', encoding='utf-8') as to:
-            to.write(text)
 
 
 def verdicts(crate, rows_left):

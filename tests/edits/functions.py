@@ -54,7 +54,7 @@ def end_of(text, start, indent):
     line = text[start:].split('\n', 1)[0]
     if line.endswith(('}', ';')):
         return start + len(line)
-    closed = re.compile(rf'^{indent}(?:\}}|\S.*;$)', re.MULTILINE).search(text, start + len(line))
+    closed = re.compile(rf'^{indent}(?:\{{?\}}|\S.*;$)', re.MULTILINE).search(text, start + len(line))
     return closed.end() if closed else len(text)
 
 
