@@ -8,8 +8,8 @@ use std::sync::Wait;
 use std::sync::atomic::AtomicBool;
 use std::time::Clock;
 
-/// A node at work, as its connections see it. Each has a seat, at which its lines are answered and it
-/// is told what happens.
+/// A node at work, as its connections see it. Each has a seat, at which its lines are answered and
+/// it is told what happens.
 pub trait Asked {
     fn alloc(&self) -> Global;
 
@@ -37,8 +37,8 @@ pub trait Asked {
     /// Waits until as many lines are answered as wait for their answers now.
     fn let_go_first<R: Wait>(&self, rt: &R);
 
-    /// Waits until more has happened than the connection of the seat has seen, or it or the program is
-    /// to end: whether to go on.
+    /// Waits until more has happened than the connection of the seat has seen, or it or the program
+    /// is to end: whether to go on.
     fn wait_for_news<R: Wait>(
         &self,
         rt: &R,
@@ -55,7 +55,8 @@ pub trait Asked {
         out: &mut Vec<u8>,
     ) -> Result<Option<Seen>, OutOfMemory>;
 
-    /// Whether the connection of the seat is to end since it doesn't read. Nothing more is kept for it.
+    /// Whether the connection of the seat is to end since it doesn't read. Nothing more is kept for
+    /// it then.
     fn gives_up(&self, seat: usize) -> bool;
 
     /// Waits while there is no room for a call.
