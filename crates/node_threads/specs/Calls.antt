@@ -70,11 +70,6 @@ is_up call = is_up_answer call.verdict
 
 -- ---- calls that are let go
 
--- the calls of some lists, of which the newest stands first
-abbrev pub gone_calls : {L : Type 0} → List L → (L → List Call) → List Call
-gone_calls [] calls = []
-gone_calls (last ∷ before) calls = gone_calls before calls ++ calls last
-
 -- so many were let go, and these are they; with those that are kept they are no more than an audit
 -- has entries
 pub record AreParted (gone : ℕ) (first : List Call) (kept : List Call) : Type 0 where

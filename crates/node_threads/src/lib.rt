@@ -9,6 +9,7 @@ mod cutter;
 mod ends;
 mod fault;
 mod laws;
+mod let_go;
 mod node;
 mod opening;
 mod pass;

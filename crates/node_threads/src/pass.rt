@@ -2,7 +2,7 @@
 ghost use Rattle.std.specs.Prelude.{◌≡◌, ◌<◌, [], length, Some, IsSome};
 ghost use Rattle.node_threads.specs.Calls.{kept_calls, last_reply};
 
-use erased_past::Past;
+use crate::let_go::LetGo;
 use policy_audit::{Event, Reply, Verdict};
 use std::alloc::Global;
 use std::fmt;
@@ -38,8 +38,8 @@ pub struct Pass {
     pub(crate) gone: u32,
     /// Those behind them.
     pub(crate) calls: Vec<Call>,
-    /// Those that it has let go, the newest of these lists first. It has no bytes.
-    pub(crate) past: Past<Vec<Call>>,
+    /// Those that it has let go. It has no bytes.
+    pub(crate) past: LetGo,
 }
 
 impl Drop for Pass {
@@ -66,13 +66,13 @@ impl fmt::Debug for Pass {
 
 impl Model for Pass {
     ghost use Rattle.std.specs.Prelude.{◌++◌};
-    ghost use Rattle.node_threads.specs.Calls.{Record, AreParted, gone_calls};
+    ghost use Rattle.node_threads.specs.Calls.{Record, AreParted};
 
     ghost Value = { Record };
 
-    ghost view = { λ pass. record { seat = pass.seat; calls = gone_calls pass.past.items (λ list. list.items) ++ pass.calls.items; gone = pass.gone } };
+    ghost view = { λ pass. record { seat = pass.seat; calls = pass.past.calls ++ pass.calls.items; gone = pass.gone } };
 
-    ghost invariant = { λ pass. AreParted pass.gone (gone_calls pass.past.items (λ list. list.items)) pass.calls.items };
+    ghost invariant = { λ pass. AreParted pass.gone pass.past.calls pass.calls.items };
 }
 
 impl Pass {
@@ -83,7 +83,7 @@ impl Pass {
             seat,
             gone: 0,
             calls: Vec::new(alloc),
-            past: Past::new(),
+            past: LetGo::new(),
         }
     }
 

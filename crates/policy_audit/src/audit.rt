@@ -11,8 +11,8 @@ use crate::entry::{Entry, Verdict};
 use crate::event::Event;
 use crate::later::Later;
 use crate::page::{PAGE_SIZE, Page, push_last};
+use crate::past::Past;
 use crate::place::Place;
-use erased_past::Past;
 use std::alloc::{AllocError, Global};
 use std::marker::Model;
 use thiserror::Error;
@@ -37,7 +37,7 @@ pub struct Audit {
     /// Those that are kept. All but the last are full.
     pages: Vec<Page>,
     /// Those that were handed out, the newest first. It has no bytes.
-    past: Past<Page>,
+    past: Past,
 }
 
 impl Drop for Audit {

@@ -11,6 +11,7 @@ mod laws;
 mod opening;
 mod out_frame;
 mod page;
+mod past;
 mod place;
 mod reply;
 mod rule;

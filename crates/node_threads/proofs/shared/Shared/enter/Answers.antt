@@ -1,15 +1,15 @@
 use Rattle.node_threads.specs
-use Rattle.std.proofs.Common.{ap, append_assoc, false, List, refl, sym, ◌++◌, ◌∙◌, ◌≡◌}
+use Rattle.std.proofs.Common.{ap, append_assoc, false, List, refl, subst, sym, ◌++◌, ◌∙◌, ◌≡◌}
 use Rattle.policy_audit.specs.Policy.{is_full}
 use specs.declared.pass.Call.{Call}
-use specs.Calls.{gone_calls, last_reply, Record}
+use specs.Calls.{last_reply, Record}
 use specs.Room.{Room}
 use specs.Applied.{IsAnswered}
 use Rattle.node_threads.proofs.Kept.{answered, last_reply_push, told_ok, told_refusal}
 use Rattle.node_threads.proofs.shared.Shared.enter.Goals as goal
 
 abbrev first : goal.After-keep → List Call
-first c = gone_calls c.pass.inside.past.items (λ list. list.items)
+first c = c.pass.inside.past.calls
 
 abbrev after : goal.After-keep → Record
 after c = record {
@@ -23,7 +23,8 @@ is_answered : (c : goal.After-keep) → IsAnswered c.args.self.now c.args.pass.n
 is_answered c =
     let free : is_full c.args.self.now.history ≡ false =
     ap (λ (r : Room). is_full r.history) (sym c.self.view_is) ∙ sym c.if-is_full.ensures in
-    rw (← c.pass.view_is) (answered c.args.self.now c.note_plenty.new.self _
+    subst (λ (r : Record). IsAnswered c.args.self.now r c.args.event c.in-Ok-advance.verdict
+    c.note_plenty.new.self (after c)) c.pass.view_is (answered c.args.self.now c.note_plenty.new.self _
     c.args.event c.in-Ok-advance.number c.in-Ok-advance.verdict (first c ++ c.keep.new.calls.items)
     (rw c.pass.view_is (c.if-not-fits.ensures.0 refl)) free c.in-Ok-advance.ensures.number
     c.in-Ok-advance.ensures.verdict (c.note_plenty.ensures ∙ c.in-Ok-advance.ensures.room)

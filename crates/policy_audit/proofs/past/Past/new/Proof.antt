@@ -1,11 +1,10 @@
 -- `new` makes the empty struct, with the items that its clause names. Assumes `Logic`.
-use Rattle.erased_past.proofs
-use Rattle.erased_past.specs
+use Rattle.policy_audit.proofs
+use Rattle.policy_audit.specs
 use Rattle.std.proofs.Common.{refl, [], ◌∷◌}
 use seplogic.Ra.Ura.{Ura}
-use mir.Syntax.{a_type, Args, Fn}
+use mir.Syntax.{Fn}
 use mir.Val.{Val}
-use mir.MapTy.{inst_fn}
 use base.Logic.{ent, SProp}
 use prog.Memory.{Memory}
 use prog.Routine.{Routine}
@@ -16,36 +15,29 @@ use sound.WpLaws.{WpFn-mono}
 use types.Logic.{Logic}
 use types.Kit.{done, fjoin, keep, move, qed, raw, split, suffices, !, ‵, ◌$◌, ◌∵◌, ◌⊛◌}
 use types.Part.{agg}
-use types.Run.{and_then, enter, no_more, returns}
-use types.ByLocal.{alloc_all, free_all, get, look_at, pass_all, sets}
-use denote.RattleType.{owns, RattleType}
-use denote.Laws.{Is}
-use denote.Param.{layouts, param}
+use types.Run.{enter, no_more, returns}
+use types.ByLocal.{alloc_all, free_all, look_at, pass_all, sets}
+use denote.RattleType.{owns}
 use denote.Signature.{types_at}
-use denote.Steps.{nothing, owned}
-use denote.Struct.Laws.{makes}
+use denote.Steps.{nothing}
 use denote.Triple.Clauses.{Clauses, closing, Ended}
 use denote.Triple.Entry.{alive}
 use denote.Triple.Spec.{Meets, triple_of}
 use denote.Triple.Table.{entered}
 use denote.Triple.Walked.{ends_at, says, Stays, walk_Meets, walk_of}
-use Rattle.bytes.proofs.Walks.{none, one, one_made}
-use specs.contracts.Past.new.Key.{name as #self}
-use Rattle.std.specs.contracts.marker.PhantomData as Mark
-use specs.contracts.Past as Past
-use specs.contracts.Past.new as F
-use proofs.Past.new.Statement as stated
-use proofs.Past.new.Code as code
+use Rattle.bytes.proofs.Walks.{none, none_made}
+use specs.contracts.past.Past.new.Key.{name as #self}
+use specs.contracts.past.Past as Past
+use specs.contracts.past.Past.new as F
+use proofs.past.Past.new.Statement as stated
+use proofs.past.Past.new.Code as code
 
-module _ (A : RattleType) where
-  abbrev args : Args
-  args = layouts (a_type ∷ []) (A, tt)
-
+module _ where
   abbrev function : Fn
-  function = inst_fn args code.function
+  function = code.function
 
   abbrev ended : Ended
-  ended = F.ended A
+  ended = F.ended
 
   abbrev stayed : Stays ended.signature.params ended.kept
   stayed = tt
@@ -55,7 +47,7 @@ module _ (A : RattleType) where
     open 𝓛 use {H}
 
     abbrev held : Clauses 𝓤 ended
-    held = F.clauses A 𝓛 at_mem run
+    held = F.clauses 𝓛 at_mem run
 
     module _ (C : Calls 𝓤 H) (Λ : Loops 𝓤 H) (z : (walk_of 𝓛 ended stayed held).Ghost) where
       abbrev Post : Val → SProp 𝓤
@@ -69,19 +61,15 @@ module _ (A : RattleType) where
       walks =
           let a = z.0.3 in
           let vss = z.0.4 in
-          let made : (Past.the_row (param 0 A)).Denot =
-          record { of = record {}; items = [] } in
+          let made : (Past.the_row).Denot =
+          record { items = [] } in
           qed 𝓛 ((raw toks ⊛ ‵ (owns (types_at ended.signature.params z.0.0) a vss))
           ∷ raw ((held z.0.0 a).requires z.1) ∷ []) ∵
           keep ! (0 ∷ []) $ split ! $ keep ! (0 ∷ []) $
           enter ! C Λ function [] Post $ alloc_all ! (λ l. pass_all ! refl tt $
-          sets ! (agg ! (no_more !)) refl (tt, tt) $
-          sets ! (agg ! (and_then ! (get ! refl) (no_more !))) refl (tt, (tt, tt)) $
-          nothing ! $ owned ! (Mark.the_row (param 0 A)) (Is (Mark.the_row (param 0 A)))
-          (makes (Mark.the_type (param 0 A)) tt 𝓛) (record {}) (none ∷ []) (tt, (refl, tt)) $
-          one_made ! (Mark.the_row (param 0 A)) (record {}) none $ fjoin ! $
+          sets ! (agg ! (no_more !)) refl (tt, tt) $ nothing ! $ none_made ! $ fjoin ! $
           returns ! (look_at ! 0 refl) $ free_all ! refl $
-          suffices ! _ (ends_at 𝓛 ended stayed held z (one none) made tt tt) $ says ! refl $
+          suffices ! _ (ends_at 𝓛 ended stayed held z none made tt tt) $ says ! refl $
           nothing ! $ move ! (2 ∷ 0 ∷ 1 ∷ []) $ done !)
 
     meets : (𝓣 : Tables 𝓤 H)
@@ -92,8 +80,8 @@ module _ (A : RattleType) where
 
 pub new_spec : {M : Type 1} → stated.statement M
 unfolding tables_of
-new_spec 𝓤 𝓛 𝓜 𝓡 wired A LA =
+new_spec 𝓤 𝓛 𝓜 𝓡 wired =
     let 𝓣 : Tables 𝓤 𝓛.H = tables_of 𝓤 𝓛.H 𝓜 (tables 𝓤 𝓛.H 𝓜 𝓡 𝓡.env) in
-    entered 𝓤 𝓛.H (triple_of 𝓛 (ended A).signature (closing 𝓛 (ended A) (held A 𝓛 𝓜.mem 𝓡.returns)))
-    𝓣.C 𝓣.Λ (#self (args A)) (function A)
-    (code.unfolded 𝓤 𝓛.H 𝓜 𝓡 wired (A, tt)) (meets A 𝓛 𝓜.mem 𝓡.returns 𝓣)
+    entered 𝓤 𝓛.H (triple_of 𝓛 ended.signature (closing 𝓛 ended (held 𝓛 𝓜.mem 𝓡.returns)))
+    𝓣.C 𝓣.Λ #self function
+    (code.unfolded 𝓤 𝓛.H 𝓜 𝓡 wired) (meets 𝓛 𝓜.mem 𝓡.returns 𝓣)

@@ -1,11 +1,10 @@
--- `and` makes the empty struct, with the items that its clause names. Assumes `Logic`.
-use Rattle.erased_past.proofs
-use Rattle.erased_past.specs
+-- `then` makes the empty struct, with the items that its clause names. Assumes `Logic`.
+use Rattle.node_threads.proofs
+use Rattle.node_threads.specs
 use Rattle.std.proofs.Common.{List, refl, [], ◌++◌, ◌∷◌}
 use seplogic.Ra.Ura.{Ura}
-use mir.Syntax.{a_type, Args, Fn}
+use mir.Syntax.{Fn}
 use mir.Val.{Val, vptr}
-use mir.MapTy.{inst_fn}
 use base.Logic.{ent, SProp}
 use prog.Memory.{Memory}
 use prog.Routine.{Routine}
@@ -17,43 +16,43 @@ use types.Logic.{Logic}
 use types.Kit.{done, drop, feq_l, fjoin, fsplit, keep, move, prop, qed, raw, regoal, split}
 use types.Kit.{suffices, !, ‵, ◌$◌, ◌∵◌, ◌⊛◌}
 use types.Part.{agg}
-use types.Run.{and_then, enter, no_more, returns}
-use types.ByLocal.{alloc_all, free_all, get, look_at, pass_all, sets}
+use types.Run.{enter, no_more, returns}
+use types.ByLocal.{alloc_all, free_all, look_at, pass_all, sets}
 use denote.Exit.{yes}
 use denote.RattleType.{owns, RattleType}
 use denote.Builtin.{RefOf}
-use denote.Laws.{Is}
-use denote.Param.{layouts, param}
 use denote.Signature.{plain, types_at}
-use denote.Steps.{nothing, owned}
-use denote.Struct.Laws.{makes}
+use denote.Steps.{nothing}
 use denote.Triple.Clauses.{Clauses, closing, Ended}
 use denote.Triple.Entry.{alive}
 use denote.Triple.Spec.{Meets, triple_of}
 use denote.Triple.Table.{entered}
 use denote.Triple.Walked.{ends_at, Goes-dropped, says, stay_dropped, Stays, walk_Meets, walk_of}
-use Rattle.bytes.proofs.Walks.{none, one, one_made}
-use specs.contracts.Past.then.Key.{name as #self}
-use Rattle.std.specs.contracts.marker.PhantomData as Mark
-use specs.contracts.Past as Past
-use specs.contracts.Past.then as F
-use proofs.Past.then.Statement as stated
-use proofs.Past.then.Code as code
+use Rattle.bytes.proofs.Walks.{none, none_made}
+use specs.contracts.let_go.LetGo.then.Key.{name as #self}
+use specs.contracts.let_go.LetGo as LetGo
+use specs.contracts.pass.Call as Call
+use Rattle.std.specs.contracts.vec.Vec as Vec
+use Rattle.std.specs.contracts.alloc.Global as Global
+use Rattle.std.specs.contracts.impls.GlobalAllocator.TheImpl as Impl
+use specs.contracts.let_go.LetGo.then as F
+use proofs.let_go.LetGo.then.Statement as stated
+use proofs.let_go.LetGo.then.Code as code
 
-module _ (A : RattleType) where
-  abbrev args : Args
-  args = layouts (a_type ∷ []) (A, tt)
+abbrev calls_row : RattleType
+calls_row = Vec.the_row Call.the_row Global.the_row Impl.ghosts
 
+module _ where
   abbrev function : Fn
-  function = inst_fn args code.function
+  function = code.function
 
   abbrev ended : Ended
-  ended = F.ended A
+  ended = F.ended
 
   abbrev stayed : Stays ended.signature.params ended.kept
   stayed = (
-    stay_dropped (RefOf (0 ∷ []) tt (plain (λ _. Past.the_row (param 0 A))) (λ _. tt)) yes,
-    (stay_dropped (RefOf (1 ∷ []) tt (plain (λ _. param 0 A)) (λ _. tt)) yes, tt),
+    stay_dropped (RefOf (0 ∷ []) tt (plain (λ _. LetGo.the_row)) (λ _. tt)) yes,
+    (stay_dropped (RefOf (1 ∷ []) tt (plain (λ _. calls_row)) (λ _. tt)) yes, tt),
   )
 
   module _ {M : Type 1} {𝓤 : Ura M} (𝓛 : Logic 𝓤) (at_mem : Memory → SProp 𝓤)
@@ -61,7 +60,7 @@ module _ (A : RattleType) where
     open 𝓛 use {H}
 
     abbrev held : Clauses 𝓤 ended
-    held = F.clauses A 𝓛 at_mem run
+    held = F.clauses 𝓛 at_mem run
 
     module _ (C : Calls 𝓤 H) (Λ : Loops 𝓤 H) (z : (walk_of 𝓛 ended stayed held).Ghost) where
       abbrev Post : Val → SProp 𝓤
@@ -75,8 +74,8 @@ module _ (A : RattleType) where
       walks =
           let a = z.0.3 in
           let vss = z.0.4 in
-          let made : (Past.the_row (param 0 A)).Denot =
-          record { of = record {}; items = a.1.0.now ∷ a.0.now.items } in
+          let made : (LetGo.the_row).Denot =
+          record { calls = a.0.now.calls ++ a.1.0.now.items } in
           qed 𝓛 ((raw toks ⊛ ‵ (owns (types_at ended.signature.params z.0.0) a vss))
           ∷ raw ((held z.0.0 a).requires z.1) ∷ []) ∵
           keep ! (0 ∷ []) $ split ! $ move ! (1 ∷ []) $
@@ -90,13 +89,9 @@ module _ (A : RattleType) where
           is₁ refl $
           enter ! C Λ function (p ∷ q ∷ []) Post $ alloc_all !
           (λ l. pass_all ! refl ((tt, tt), ((tt, tt), tt)) $
-          sets ! (agg ! (no_more !)) refl (tt, tt) $
-          sets ! (agg ! (and_then ! (get ! refl) (no_more !))) refl (tt, (tt, tt)) $
-          nothing ! $ owned ! (Mark.the_row (param 0 A)) (Is (Mark.the_row (param 0 A)))
-          (makes (Mark.the_type (param 0 A)) tt 𝓛) (record {}) (none ∷ []) (tt, (refl, tt)) $
-          one_made ! (Mark.the_row (param 0 A)) (record {}) none $ fjoin ! $
+          sets ! (agg ! (no_more !)) refl (tt, tt) $ nothing ! $ none_made ! $ fjoin ! $
           returns ! (look_at ! 0 refl) $ free_all ! refl $
-          suffices ! _ (ends_at 𝓛 ended stayed held z (one none) made (tt, (tt, tt)) (
+          suffices ! _ (ends_at 𝓛 ended stayed held z none made (tt, (tt, tt)) (
             tt,
             (tt, tt),
           )) $ says ! refl $
@@ -107,10 +102,10 @@ module _ (A : RattleType) where
         → Meets 𝓛 ended.signature (WpFn 𝓤 H 𝓣.C 𝓣.Λ function) (closing 𝓛 ended held)
     meets 𝓣 =
         walk_Meets 𝓛 ended stayed (
-          Goes-dropped 𝓛 3 (RefOf (0 ∷ []) tt (plain (λ _. Past.the_row (param 0 A))) (λ _. tt)) yes
+          Goes-dropped 𝓛 2 (RefOf (0 ∷ []) tt (plain (λ _. LetGo.the_row)) (λ _. tt)) yes
               (λ κs x f. refl),
           (
-            Goes-dropped 𝓛 3 (RefOf (1 ∷ []) tt (plain (λ _. param 0 A)) (λ _. tt)) yes
+            Goes-dropped 𝓛 2 (RefOf (1 ∷ []) tt (plain (λ _. calls_row)) (λ _. tt)) yes
                 (λ κs x f. refl),
             tt,
           ),
@@ -119,8 +114,8 @@ module _ (A : RattleType) where
 
 pub then_spec : {M : Type 1} → stated.statement M
 unfolding tables_of
-then_spec 𝓤 𝓛 𝓜 𝓡 wired A LA =
+then_spec 𝓤 𝓛 𝓜 𝓡 wired =
     let 𝓣 : Tables 𝓤 𝓛.H = tables_of 𝓤 𝓛.H 𝓜 (tables 𝓤 𝓛.H 𝓜 𝓡 𝓡.env) in
-    entered 𝓤 𝓛.H (triple_of 𝓛 (ended A).signature (closing 𝓛 (ended A) (held A 𝓛 𝓜.mem 𝓡.returns)))
-    𝓣.C 𝓣.Λ (#self (args A)) (function A)
-    (code.unfolded 𝓤 𝓛.H 𝓜 𝓡 wired (A, tt)) (meets A 𝓛 𝓜.mem 𝓡.returns 𝓣)
+    entered 𝓤 𝓛.H (triple_of 𝓛 ended.signature (closing 𝓛 ended (held 𝓛 𝓜.mem 𝓡.returns)))
+    𝓣.C 𝓣.Λ #self function
+    (code.unfolded 𝓤 𝓛.H 𝓜 𝓡 wired) (meets 𝓛 𝓜.mem 𝓡.returns 𝓣)
