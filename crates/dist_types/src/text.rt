@@ -1,6 +1,6 @@
 //! The bytes inside each kind of text, with their limits, copies and comparisons.
 ghost use Rattle.std.specs.Prelude.{◌≡◌, ◌∷◌, [], List, ℕ, refl, Some, nat_eq, IfOk, IfErr, OnOk};
-ghost use Rattle.std.specs.Arc.{arc_slice_items};
+ghost use Rattle.std.specs.Arc.{arc_str_bytes};
 ghost use Rattle.std.specs.Cmp as laws_of;
 ghost use Rattle.std.specs.Cmp.Lexicographic.{pointwise, slice_cmp, nat_list_eq_equiv, nat_list_cmp_total, texts_ties, texts_po};
 ghost use Rattle.std.specs.Ordering.{nat_cmp};
@@ -16,26 +16,26 @@ use std::cmp::Ordering;
 use std::hash::{Hash, Hasher};
 use std::marker::Model;
 use std::str;
-use std::sync::ArcSlice;
+use std::sync::ArcStr;
 
 /// 1 to 255 visible bytes of ASCII, shared by all copies.
 #[derive(Debug)]
 pub struct Text {
-    bytes: ArcSlice<u8>,
+    text: ArcStr,
 }
 
 impl Drop for Text {
     fn drop(self) {
-        let Text { bytes: _ } = self;
+        let Text { text: _ } = self;
     }
 }
 
 impl Model for Text {
     ghost Value = { List ℕ };
 
-    ghost view = { λ text. arc_slice_items text.bytes };
+    ghost view = { λ text. arc_str_bytes text.text };
 
-    ghost invariant = { λ text. IsText (arc_slice_items text.bytes) };
+    ghost invariant = { λ text. IsText (arc_str_bytes text.text) };
 }
 
 impl Text {
@@ -55,8 +55,12 @@ impl Text {
         requires { IsText bytes.now }
         ensures { IfOk result (λ text. text ≡ bytes.now) }
     {
-        let bytes = ArcSlice::from_slice(alloc, bytes)?;
-        Ok(Text { bytes })
+        let text = match str::from_utf8(bytes) {
+            Ok(text) => ArcStr::from_str(alloc, text)?,
+            // It is ASCII.
+            Err(_) => unreachable!(),
+        };
+        Ok(Text { text })
     }
 
     /// The bytes, as they were read.
@@ -64,24 +68,21 @@ impl Text {
         ensures value { result.now ≡ self.now }
         ensures limits { IsText self.now }
     {
-        self.bytes.as_slice()
+        self.text.as_str().as_bytes()
     }
 
     /// The same as text: it is ASCII.
     pub fn as_str(&self) -> &str
         ensures { result.now ≡ self.now }
     {
-        match str::from_utf8(self.as_bytes()) {
-            Ok(text) => text,
-            Err(_) => unreachable!(),
-        }
+        self.text.as_str()
     }
 }
 
 impl TryClone for Text {
     fn try_clone(&self, _alloc: Global) -> Result<Text, OutOfMemory> {
-        let bytes = self.bytes.clone()?;
-        Ok(Text { bytes })
+        let text = self.text.clone()?;
+        Ok(Text { text })
     }
 }
 
@@ -108,7 +109,7 @@ impl PartialEq for Text {
     ghost laws = { laws_of.partial_equiv_from_equiv nat_list_eq_equiv };
 
     fn eq(&self, other: &Text) -> bool {
-        self.bytes == other.bytes
+        self.text == other.text
     }
 }
 
@@ -136,7 +137,7 @@ impl Ord for Text {
     ghost matches_eq = { λ x y. texts_ties x y };
 
     fn cmp(&self, other: &Text) -> Ordering {
-        self.bytes.cmp(&other.bytes)
+        self.text.cmp(&other.text)
     }
 }
 
@@ -147,6 +148,6 @@ impl Hash for Text {
 
     fn hash<H: Hasher>(&self, state: &mut H) {
         // (as a slice it would be hashed byte by byte)
-        state.write(self.bytes.as_slice());
+        state.write(self.as_bytes());
     }
 }

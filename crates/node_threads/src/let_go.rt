@@ -17,6 +17,9 @@ impl Model for LetGo {
     ghost also_owns = { λ _. ftrue };
 }
 
+// It owns nothing.
+unsafe impl Send for LetGo {}
+
 impl LetGo {
     /// No calls.
     pub(crate) fn new() -> LetGo

@@ -17,6 +17,9 @@ impl Model for Past {
     ghost also_owns = { λ _. ftrue };
 }
 
+// It owns nothing.
+unsafe impl Send for Past {}
+
 impl Past {
     /// No pages.
     pub(crate) fn new() -> Past

@@ -136,7 +136,7 @@ module _ (rows : List Row) (i : ℕ) (row : Row) (next : drop i rows ≡ row ∷
         grind (arith, next, w, f)
 
 -- the same rows in another order
-pub sorted_as_many : (test : Row → Bool) (rows copies sorted deref : List Row) → copies ≡ rows
-    → IsPermutation copies sorted → deref ≡ sorted → how_many test deref ≡ how_many test rows
-sorted_as_many test rows copies sorted deref e p f =
-    grind (arith, e, f, how_many_is, sum_by-IsPermutation (λ r. cond (test r) 1 0) copies sorted p)
+pub sorted_as_many : (test : Row → Bool) (rows sorted deref : List Row) → IsPermutation rows sorted
+    → deref ≡ sorted → how_many test deref ≡ how_many test rows
+sorted_as_many test rows sorted deref p f =
+    grind (arith, f, how_many_is, sum_by-IsPermutation (λ r. cond (test r) 1 0) rows sorted p)

@@ -1,6 +1,7 @@
 //! Rows that come, counted, and what they change.
 ghost use Rattle.std.specs.Prelude.{◌≡◌, ◌≢◌, ◌-◌, ◌∷◌, [], drop, length, IfSome, IfOk};
 ghost use Rattle.std.specs.List.{AllByRecursion, HoldsAt};
+ghost use Rattle.std.specs.List.Sorted.{IsPermutation};
 ghost use Rattle.std.specs.declared.cmp.Ordering.TheVariants.{Less, Equal};
 ghost use Rattle.dist_types.specs.declared.row.Row.{Row};
 ghost use Rattle.dist_types.specs.Listing.{Rises};
@@ -11,6 +12,7 @@ ghost use Rattle.scope_core.specs.Beyond.{times_beyond, picked};
 
 use crate::changes::copies_of;
 use crate::counted::Counted;
+use crate::process_key::ProcessKey;
 use dist_types::{OutOfMemory, Row, TryClone};
 use std::alloc::Global;
 use std::cmp::Ordering;
@@ -25,13 +27,23 @@ pub fn counted_rows(alloc: Global, rows: &[Row]) -> Result<Vec<Counted>, OutOfMe
     if let Some(counted) = counted_in_order(alloc, rows)? {
         return Ok(counted);
     }
-    let mut copies = copies_of(alloc, rows)?;
-    copies.sort_unstable();
+    let copies = copies_in_order(alloc, rows)?;
     match counted_in_order(alloc, &copies)? {
         Some(counted) => Ok(counted),
         // They are in order now.
         None => Err(OutOfMemory),
     }
+}
+
+/// Copies of the rows of a node, in order.
+fn copies_in_order(alloc: Global, rows: &[Row]) -> Result<Vec<Row>, OutOfMemory>
+    ensures { IfOk result (λ copies. IsPermutation rows.now copies.items) }
+{
+    let mut copies = copies_of(alloc, rows)?;
+    // Numbers are compared in no time, and behind that the rows of a large group need few looks.
+    copies.sort_unstable_by_key(|row| ProcessKey::of(&row.pid));
+    copies.sort_by(|one, other| one.group.cmp(&other.group))?;
+    Ok(copies)
 }
 
 /// Rows with their counts, unless one stands behind a higher one.
