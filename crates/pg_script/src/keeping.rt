@@ -116,6 +116,7 @@ fn keep_lines<R: BufRead, W: Write, K: Keeper>(
         KeepsAs keep o script (W.contents writer.old) (W.contents writer.new) result) }
 {
     let mut out = Vec::new(alloc);
+    let mut gone = Vec::new(alloc);
     for turn in 0..TURNS {
         if !read_line(line, reader)? {
             return Ok(());
@@ -123,18 +124,27 @@ fn keep_lines<R: BufRead, W: Write, K: Keeper>(
         let said = without_feed(line.as_slice());
         answer_line(alloc, turn + 1, said, console, &mut out, writer)?;
         let page = console.forget(keep);
-        keep_page(alloc, &page, keeper)?;
+        keep_page(alloc, page, &mut gone, keeper)?;
     }
     Err(KeepFault::Run(RunFault::Read))
 }
 
-/// Gives the keeper the entries of a page that was handed out.
-fn keep_page<K: Keeper>(alloc: Global, page: &Option<Page>, keeper: &mut K) -> Result<(), Unkept> {
-    if let Some(page) = page {
-        for entry in page.as_slice() {
-            keeper.keep(alloc, entry)?;
-        }
+/// Gives the keeper the entries of a page that was handed out. They are let go one a turn, so that
+/// the next entry finds the memory of one; many at once leave the heap in pieces.
+fn keep_page<K: Keeper>(
+    alloc: Global,
+    page: Option<Page>,
+    gone: &mut Vec<Entry>,
+    keeper: &mut K,
+) -> Result<(), Unkept> {
+    gone.pop();
+    let Some(page) = page else {
+        return Ok(());
+    };
+    for entry in page.as_slice() {
+        keeper.keep(alloc, entry)?;
     }
+    *gone = page.into_vec();
     Ok(())
 }
 

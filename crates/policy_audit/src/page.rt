@@ -50,6 +50,14 @@ impl Page {
         self.entries.as_slice()
     }
 
+    /// Gives the entries back. It takes no memory.
+    pub fn into_vec(self) -> Vec<Entry>
+        ensures { result.items ≡ self }
+    {
+        let Page { entries, .. } = self;
+        entries
+    }
+
     /// Whether one of its entries changed rows.
     pub(crate) fn has_changes(&self) -> bool
         ensures { result ≡ list_any changes_rows self.now }
