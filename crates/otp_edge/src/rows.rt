@@ -28,6 +28,7 @@ pub fn push_rows(
     if rows.len() > MAX_SAID || pids.len() > MAX_SAID - rows.len() {
         return Err(HearFault::TooManyRows);
     }
+    rows.reserve(pids.len())?;
     for pid in pids {
         let group = group.try_clone(alloc)?;
         let pid = pid.try_clone(alloc)?;

@@ -1,7 +1,7 @@
 -- Rows in order that are counted one by one.
 use Rattle.scope_core.proofs
 use proofs.Words.{Adds, AllByRecursion, ap, AreCounted, arith, Bool, cond, Counted, counted_cmp}
-use proofs.Words.{drop, get_or, HasRoomFor, HoldsAt, how_many, how_many_is, is_of_node, IsKept}
+use proofs.Words.{get_or, HasRoomFor, HoldsAt, how_many, how_many_is, is_of_node, IsKept}
 use proofs.Words.{IsPermutation, length, Less, List, max_rows, refl, Rises, Row, row_cmp}
 use proofs.Words.{same_decides, set, subst, suc, sum_by-IsPermutation, sym, tally, zero, ℕ, []}
 use proofs.Words.{◌++◌, ◌+◌, ◌<◌, ◌∙◌, ◌∷◌, ◌≡◌, ◌≤◌}
@@ -117,26 +117,25 @@ pub new_tally : (row : Row) (test : Row → Bool) (cs : List Counted)
     → tally test (cs ++ record { row = row; count = 1 } ∷ []) ≡ tally test cs + cond (test row) 1 0
 new_tally row test cs = grind (arith, tally_append test cs (record { row = row; count = 1 } ∷ []))
 
--- one row on, in the loop over the rows
-module _ (rows : List Row) (i : ℕ) (row : Row) (next : drop i rows ≡ row ∷ drop (i + 1) rows)
-    (old : List Counted)
-    (was : (test : Row → Bool) → tally test old + how_many test (drop i rows) ≡ how_many test rows)
+-- one row on, in the loop over the rows: here are those to come, later those behind it
+module _ (all here later : List Row) (row : Row) (next : here ≡ row ∷ later) (old : List Counted)
+    (was : (test : Row → Bool) → tally test old + how_many test here ≡ how_many test all)
   where
     pub added_next : (new : List Counted) → Adds (row ∷ []) old new → (test : Row → Bool)
-        → tally test new + how_many test (drop (i + 1) rows) ≡ how_many test rows
+        → tally test new + how_many test later ≡ how_many test all
     added_next new more test =
         let w = was test in
         let m = more test in
         grind (arith, next, w, m)
 
-    pub has_room : HasRoomFor rows [] → HasRoomFor (row ∷ []) old
+    pub has_room : HasRoomFor all [] → HasRoomFor (row ∷ []) old
     has_room few node =
         let w = was (is_of_node node) in
         let f = few node in
         grind (arith, next, w, f)
 
 -- the same rows in another order
-pub sorted_as_many : (test : Row → Bool) (rows sorted deref : List Row) → IsPermutation rows sorted
-    → deref ≡ sorted → how_many test deref ≡ how_many test rows
-sorted_as_many test rows sorted deref p f =
-    grind (arith, f, how_many_is, sum_by-IsPermutation (λ r. cond (test r) 1 0) rows sorted p)
+pub sorted_as_many : (test : Row → Bool) (rows sorted : List Row) → IsPermutation rows sorted
+    → how_many test sorted ≡ how_many test rows
+sorted_as_many test rows sorted p =
+    grind (arith, how_many_is, sum_by-IsPermutation (λ r. cond (test r) 1 0) rows sorted p)

@@ -1,5 +1,5 @@
 //! Rows that come, counted, and what they change.
-ghost use Rattle.std.specs.Prelude.{◌≡◌, ◌≢◌, ◌-◌, ◌∷◌, [], drop, length, IfSome, IfOk};
+ghost use Rattle.std.specs.Prelude.{◌≡◌, ◌≢◌, ◌-◌, ◌∷◌, [], true, drop, length, IfSome, IfOk};
 ghost use Rattle.std.specs.List.{AllByRecursion, HoldsAt};
 ghost use Rattle.std.specs.List.Sorted.{IsPermutation};
 ghost use Rattle.std.specs.declared.cmp.Ordering.TheVariants.{Less, Equal};
@@ -12,7 +12,6 @@ ghost use Rattle.scope_core.specs.Beyond.{times_beyond, picked};
 
 use crate::changes::copies_of;
 use crate::counted::Counted;
-use crate::process_key::ProcessKey;
 use dist_types::{OutOfMemory, Row, TryClone};
 use std::alloc::Global;
 use std::cmp::Ordering;
@@ -28,7 +27,7 @@ pub fn counted_rows(alloc: Global, rows: &[Row]) -> Result<Vec<Counted>, OutOfMe
         return Ok(counted);
     }
     let copies = copies_in_order(alloc, rows)?;
-    match counted_in_order(alloc, &copies)? {
+    match counted_of(alloc, copies)? {
         Some(counted) => Ok(counted),
         // They are in order now.
         None => Err(OutOfMemory),
@@ -41,8 +40,11 @@ fn copies_in_order(alloc: Global, rows: &[Row]) -> Result<Vec<Row>, OutOfMemory>
 {
     let mut copies = copies_of(alloc, rows)?;
     // Numbers are compared in no time, and behind that the rows of a large group need few looks.
-    copies.sort_unstable_by_key(|row| ProcessKey::of(&row.pid));
-    copies.sort_by(|one, other| one.group.cmp(&other.group))?;
+    copies.sort_unstable_by_key(|row| row.pid.number);
+    copies.sort_by(|one, other| {
+        let by_group = one.group.cmp(&other.group);
+        by_group.then(one.pid.creation.cmp(&other.pid.creation))
+    })?;
     Ok(copies)
 }
 
@@ -54,16 +56,40 @@ fn counted_in_order(alloc: Global, rows: &[Row]) -> Result<Option<Vec<Counted>>,
 {
     let mut counted = Vec::with_capacity(alloc, rows.len())?;
     for row in rows {
-        match order_behind(&counted, row) {
-            Ordering::Less => counted.push(Counted {
-                row: row.try_clone(alloc)?,
-                count: 1,
-            })?,
-            Ordering::Equal => count_again(&mut counted),
-            Ordering::Greater => return Ok(None),
+        if !count_next(&mut counted, row.try_clone(alloc)?)? {
+            return Ok(None);
         }
     }
     Ok(Some(counted))
+}
+
+/// The same of rows that needn't be copied.
+fn counted_of(alloc: Global, rows: Vec<Row>) -> Result<Option<Vec<Counted>>, OutOfMemory>
+    requires { HasRoomFor rows.items [] }
+    ensures added { IfOk result (λ found. IfSome found (λ counted. Adds rows.items [] counted.items)) }
+    ensures kept { IfOk result (λ found. IfSome found (λ counted. IsKept counted.items)) }
+{
+    let mut counted = Vec::with_capacity(alloc, rows.len())?;
+    for row in rows {
+        if !count_next(&mut counted, row)? {
+            return Ok(None);
+        }
+    }
+    Ok(Some(counted))
+}
+
+/// Counts one row more, unless a higher one stands there.
+fn count_next(counted: &mut Vec<Counted>, row: Row) -> Result<bool, OutOfMemory>
+    requires kept { IsKept counted.old.items }
+    requires room { HasRoomFor (row ∷ []) counted.old.items }
+    ensures { IfOk result (λ next. next ≡ true → Adds (row ∷ []) counted.old.items counted.new.items × IsKept counted.new.items) }
+{
+    match order_behind(counted, &row) {
+        Ordering::Less => counted.push(Counted { row, count: 1 })?,
+        Ordering::Equal => count_again(counted),
+        Ordering::Greater => return Ok(false),
+    }
+    Ok(true)
 }
 
 /// How the last row stands to another: below it, where there is none.

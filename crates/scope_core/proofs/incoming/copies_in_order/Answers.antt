@@ -1,4 +1,3 @@
-use Rattle.scope_core.proofs
 use Rattle.std.proofs.lemmas.List.Sorted.{IsPermutation-trans}
 use Rattle.scope_core.proofs.incoming.copies_in_order.Goals as goal
 
