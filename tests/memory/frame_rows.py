@@ -7,8 +7,12 @@ def bytes_text(octets):
     return '[' + ', '.join(str(octet) for octet in octets) + ']'
 
 
+def name_text(octets):
+    return f'{{ text: Text {{ text: "{octets.decode()}" }} }}'
+
+
 def pid(name, number):
-    return f'Pid {{ node: NodeName {{ text: Text {{ bytes: {bytes_text(name)} }} }}, creation: 1, number: {number} }}'
+    return f'Pid {{ node: NodeName {name_text(name)}, creation: 1, number: {number} }}'
 
 
 def shared(*pids):
@@ -21,12 +25,12 @@ def fed(used, body=None):
 
 
 def scope_text(scope):
-    return f'Scope {{ text: Text {{ bytes: {bytes_text(scope)} }} }}'
+    return f'Scope {name_text(scope)}'
 
 
 def rows_text(group, pid_text):
     """The text of one row as a list."""
-    row = f'Row {{ group: Group {{ text: Text {{ bytes: {bytes_text(group)} }} }}, pid: {pid_text} }}'
+    row = f'Row {{ group: Group {name_text(group)}, pid: {pid_text} }}'
     return f'Items {{ items: [{row}] }}'
 
 
