@@ -1,11 +1,11 @@
--- The index of a node's processes, made of lists of their rows.
+-- The index of a node's processes, made of lists of their groups.
 use Rattle.scope_core.proofs
 use Rattle.scope_core.specs
 use proofs.Words.{all_from, AllByRecursion, and_parts, ap, arith, Ascends, Bool, cond, Counted}
 use proofs.Words.{false, get_or, is_gt, is_lt, IsPermutation, length, Less, List, None, Option}
-use proofs.Words.{Ordering, refl, Rises, Row, row_cmp, same_row, same_row_decides, set, slice_get}
-use proofs.Words.{Some, subst, suc, sym, tied_itself, true, zero, ℕ, [], ◌&&◌, ◌++◌, ◌+◌, ◌-◌, ◌<◌}
-use proofs.Words.{◌==◌, ◌||◌, ◌∙◌, ◌∷◌, ◌≡◌, ◌≤◌}
+use proofs.Words.{Ordering, refl, Rises, set, slice_get, Some, subst, suc, sym, text_cmp}
+use proofs.Words.{texts_total, tied_itself, true, zero, ℕ, [], ◌&&◌, ◌++◌, ◌+◌, ◌-◌, ◌<◌, ◌==◌}
+use proofs.Words.{◌||◌, ◌∙◌, ◌∷◌, ◌≡◌, ◌≤◌}
 use Rattle.std.specs.Prelude.{IfSome}
 use Rattle.std.specs.Option.{is_some, option_to_list}
 use Rattle.std.specs.Ordering.{eq_by_cmp, is_eq, ordering_reverse}
@@ -15,17 +15,21 @@ use specs.declared.process_key.ProcessKey.{ProcessKey}
 use specs.declared.small_map.SmallMap.{SmallMap}
 use specs.declared.small_map.SmallMap.TheVariants.{One}
 use specs.SmallMap.{find, found}
-use specs.HashedRows.{has_key, key_cmp, key_of, stands}
+use specs.HashedRows.{key_cmp, key_of, row_at, stands}
 use specs.Copies.{is_held, is_keyed, IsLastKey, keyed, keyed_maps, process_keys}
-use proofs.HashedRows.{keys_total, one_key, one_row, rows_equal}
+use proofs.HashedRows.{keys_total, one_key, one_place}
 use proofs.Rising.{all_map, all_mapped}
 use Rattle.std.specs.List.Sorted.{IsSortedByKey}
 use Rattle.std.proofs.lemmas.List.Sorted.{list_any-IsPermutation, ranks_by, sorted_far}
 use Rattle.std.proofs.lemmas.Map.Entries.{length-keys_of}
-use Rattle.std.proofs.lemmas.Bool.Decides.{Decides-eqb, same_from_decides}
+use Rattle.std.proofs.lemmas.Bool.Decides.{Decides-eqb}
+use Rattle.std.proofs.lemmas.Cmp.{eq_by_cmp_equiv}
+
+abbrev pub Names : Type 0
+Names = SmallMap (List ℕ) (Unit {0})
 
 abbrev pub Maps : Type 0
-Maps = List (ProcessKey × SmallMap Row (Unit {0}))
+Maps = List (ProcessKey × Names)
 
 -- ---- keys that rise
 
@@ -56,15 +60,15 @@ unfolding IsDistinct
 rising_apart [] r = tt
 rising_apart (k ∷ ks) r = (all_unlike k ks r.0, rising_apart ks r.1)
 
--- ---- a row under a key
+-- ---- a group under a key
 
-none_held : (k l : ProcessKey) (r : Row) (es : Maps) → eq_by_cmp key_cmp k l ≡ true
-    → AllByRecursion (λ q. key_cmp l q ≡ Less) (keys_of es) → is_held k r es ≡ false
-none_held k l r [] e a = refl
-none_held k l r (x ∷ es) e a =
+none_held : (k l : ProcessKey) (g : List ℕ) (es : Maps) → eq_by_cmp key_cmp k l ≡ true
+    → AllByRecursion (λ q. key_cmp l q ≡ Less) (keys_of es) → is_held k g es ≡ false
+none_held k l g [] e a = refl
+none_held k l g (x ∷ es) e a =
     grind (
       arith,
-      none_held k l r es e a.1,
+      none_held k l g es e a.1,
       a.0,
       one_key k l,
       one_key k x.0,
@@ -72,72 +76,47 @@ none_held k l r (x ∷ es) e a =
       e,
     )
 
--- where the keys rise, a row is found where it is held
-pub found_held : (k : ProcessKey) (r : Row) (es : Maps) → Rises key_cmp (keys_of es)
-    → is_some (found row_cmp (lookup (λ q. is_eq (key_cmp k q)) es) r) ≡ is_held k r es
-found_held k r [] s = refl
-found_held k r (e ∷ es) s =
-    let none = λ (h : eq_by_cmp key_cmp k e.0 ≡ true). none_held k e.0 r es h s.0 in
-    grind (arith, found_held k r es s.1, none)
+-- where the keys rise, a group is found where it is held
+pub found_held : (k : ProcessKey) (g : List ℕ) (es : Maps) → Rises key_cmp (keys_of es)
+    → is_some (found text_cmp (lookup (λ q. is_eq (key_cmp k q)) es) g) ≡ is_held k g es
+found_held k g [] s = refl
+found_held k g (e ∷ es) s =
+    let none = λ (h : eq_by_cmp key_cmp k e.0 ≡ true). none_held k e.0 g es h s.0 in
+    grind (arith, found_held k g es s.1, none)
 
-flip : (m n : ℕ) → (m == n) ≡ (n == m)
-flip m n =
-    same_from_decides (m == n) (n == m) (Decides-eqb m n)
-    ((λ h. sym ((Decides-eqb n m).0 h)), (λ h. (Decides-eqb n m).1 (sym h)))
+-- the groups are found under the keys of the rows' processes
+pub keyed_is : (node : List ℕ) (k : ProcessKey) (g : List ℕ) (rows : List Counted)
+    → AllByRecursion (λ c. c.row.pid.node ≡ node) rows
+    → is_keyed k g (keyed rows) ≡ stands (row_at node g k) rows
+keyed_is node k g [] own = refl
+keyed_is node k g (c ∷ cs) own =
+    grind (
+      arith,
+      keyed_is node k g cs own.1,
+      one_place node g k c.row own.0,
+      (eq_by_cmp_equiv keys_total).symm k (key_of c.row.pid),
+    )
 
-neither : (a b : Bool) → (a && false) ≡ (b && false)
-neither a b = grind arith
-
-one_keyed : (k : ProcessKey) (r row : Row)
-    → (is_eq (key_cmp k (key_of row.pid)) && eq_by_cmp row_cmp row r)
-    ≡ (has_key k r.pid && same_row row r)
-one_keyed k r row =
-    (λ i. one_key k (key_of row.pid) i && one_row row r i) ∙ by (same_row row r) refl
-  where
-    by : (b : Bool) → same_row row r ≡ b
-        → (k.creation == row.pid.creation && k.number == row.pid.number && b)
-        ≡ (has_key k r.pid && b)
-    by true e =
-        subst
-        (λ x. (k.creation == x.pid.creation && k.number == x.pid.number && true)
-        ≡ (has_key k r.pid && true))
-        (sym ((same_row_decides row r).0 e))
-        (λ i. flip k.creation r.pid.creation i && flip k.number r.pid.number i && true)
-    by false e =
-        neither (k.creation == row.pid.creation && k.number == row.pid.number) (has_key k r.pid)
-
-either : (x h s t rest : Bool) → x ≡ (h && s) → rest ≡ (h && t) → (x || rest) ≡ (h && (s || t))
-either x true s t rest e f = λ i. e i || f i
-either x false s t rest e f = λ i. e i || f i
-
--- the rows are found under the keys of their processes
-pub keyed_is : (k : ProcessKey) (r : Row) (rows : List Counted)
-    → is_keyed k r (keyed rows) ≡ (has_key k r.pid && stands r rows)
-keyed_is k r [] = grind arith
-keyed_is k r (c ∷ cs) =
-    either (is_eq (key_cmp k (key_of c.row.pid)) && eq_by_cmp row_cmp c.row r) (has_key k r.pid)
-    (same_row c.row r) (stands r cs) (is_keyed k r (keyed cs))
-    (one_keyed k r c.row) (keyed_is k r cs)
-
-alone : (row r : Row) → is_some (find row_cmp (One row (tt {0})) r) ≡ eq_by_cmp row_cmp row r
-alone row r =
-    by (is_eq (row_cmp r row)) ∙ one_row r row ∙ rows_equal.symm r row ∙ sym (one_row row r)
+alone : (group g : List ℕ)
+    → is_some (find text_cmp (One group (tt {0})) g) ≡ eq_by_cmp text_cmp group g
+alone group g =
+    by (is_eq (text_cmp g group)) ∙ (eq_by_cmp_equiv texts_total).symm g group
   where
     by : (b : Bool) → is_some (cond b (Some (tt {0})) None) ≡ b
     by true = refl
     by false = refl
 
-pub maps_are : (k : ProcessKey) (r : Row) (rows : List Counted)
-    → is_held k r (keyed_maps rows) ≡ is_keyed k r (keyed rows)
-maps_are k r [] = refl
-maps_are k r (c ∷ cs) =
-    λ i. (is_eq (key_cmp k (key_of c.row.pid)) && alone c.row r i) || maps_are k r cs i
+pub maps_are : (k : ProcessKey) (g : List ℕ) (rows : List Counted)
+    → is_held k g (keyed_maps rows) ≡ is_keyed k g (keyed rows)
+maps_are k g [] = refl
+maps_are k g (c ∷ cs) =
+    λ i. (is_eq (key_cmp k (key_of c.row.pid)) && alone c.row.group g i) || maps_are k g cs i
 
 pub keys_of_maps : (rows : List Counted) → keys_of (keyed_maps rows) ≡ process_keys rows
 keys_of_maps [] = refl
 keys_of_maps (c ∷ cs) = ap (λ ks. key_of c.row.pid ∷ ks) (keys_of_maps cs)
 
--- ---- one copy more
+-- ---- one group more
 
 either_more : (a q s rest : Bool) → ((a && (q || s)) || rest) ≡ (((a && s) || rest) || (a && q))
 either_more true true s rest = grind arith
@@ -149,72 +128,73 @@ or_assoc true y z = refl
 or_assoc false y z = refl
 
 -- in a map that is there
-module _ (row : Row) (m : SmallMap Row (Unit {0})) (e : ProcessKey × SmallMap Row (Unit {0}))
-    (put : (r : Row)
-    → find row_cmp m r ≡ cond (eq_by_cmp row_cmp row r) (Some (tt {0})) (find row_cmp e.1 r)) where
-  has_more : (r : Row)
-      → is_some (find row_cmp m r) ≡ (eq_by_cmp row_cmp row r || is_some (find row_cmp e.1 r))
-  has_more r = ap is_some (put r) ∙ by (eq_by_cmp row_cmp row r)
+module _ (group : List ℕ) (m : Names) (e : ProcessKey × Names) (put : (g : List ℕ)
+    → find text_cmp m g
+    ≡ cond (eq_by_cmp text_cmp group g) (Some (tt {0})) (find text_cmp e.1 g)) where
+  has_more : (g : List ℕ)
+      → is_some (find text_cmp m g) ≡ (eq_by_cmp text_cmp group g || is_some (find text_cmp e.1 g))
+  has_more g = ap is_some (put g) ∙ by (eq_by_cmp text_cmp group g)
     where
       by : (b : Bool)
-          → is_some (cond b (Some (tt {0})) (find row_cmp e.1 r))
-          ≡ (b || is_some (find row_cmp e.1 r))
+          → is_some (cond b (Some (tt {0})) (find text_cmp e.1 g))
+          ≡ (b || is_some (find text_cmp e.1 g))
       by true = refl
       by false = refl
 
-  abbrev hit : ProcessKey → Row → Bool
-  hit k r = is_eq (key_cmp k e.0) && eq_by_cmp row_cmp row r
+  abbrev hit : ProcessKey → List ℕ → Bool
+  hit k g = is_eq (key_cmp k e.0) && eq_by_cmp text_cmp group g
 
-  pub held_set : (k : ProcessKey) (r : Row) (es : Maps) (i : ℕ) → i < length es → e ≡ get_or es i e
-      → is_held k r (set es i (e.0, m)) ≡ (is_held k r es || hit k r)
-  held_set k r [] i l at = absurd (omega (arith, l))
-  held_set k r (x ∷ xs) zero l at =
-      (λ i. (is_eq (key_cmp k e.0) && has_more r i) || is_held k r xs)
-      ∙ either_more (is_eq (key_cmp k e.0)) (eq_by_cmp row_cmp row r) (is_some (find row_cmp e.1 r))
-      (is_held k r xs)
-      ∙ ap (λ (x : ProcessKey × SmallMap Row (Unit {0})). is_held k r (x ∷ xs) || hit k r) at
-  held_set k r (x ∷ xs) (suc i) l at =
-      let first = is_eq (key_cmp k x.0) && is_some (find row_cmp x.1 r) in
-      ap (λ b. first || b) (held_set k r xs i (omega (arith, l)) at)
-      ∙ or_assoc first (is_held k r xs) (hit k r)
+  pub held_set : (k : ProcessKey) (g : List ℕ) (es : Maps) (i : ℕ) → i < length es
+      → e ≡ get_or es i e
+      → is_held k g (set es i (e.0, m)) ≡ (is_held k g es || hit k g)
+  held_set k g [] i l at = absurd (omega (arith, l))
+  held_set k g (x ∷ xs) zero l at =
+      (λ i. (is_eq (key_cmp k e.0) && has_more g i) || is_held k g xs)
+      ∙ either_more (is_eq (key_cmp k e.0)) (eq_by_cmp text_cmp group g)
+      (is_some (find text_cmp e.1 g)) (is_held k g xs)
+      ∙ ap (λ (x : ProcessKey × Names). is_held k g (x ∷ xs) || hit k g) at
+  held_set k g (x ∷ xs) (suc i) l at =
+      let first = is_eq (key_cmp k x.0) && is_some (find text_cmp x.1 g) in
+      ap (λ b. first || b) (held_set k g xs i (omega (arith, l)) at)
+      ∙ or_assoc first (is_held k g xs) (hit k g)
 
   pub keys_set : (es : Maps) (i : ℕ) → e ≡ get_or es i e → keys_of (set es i (e.0, m)) ≡ keys_of es
   keys_set [] i at = refl
   keys_set (x ∷ xs) zero at = λ i. (at i).0 ∷ keys_of xs
   keys_set (x ∷ xs) (suc i) at = ap (λ ks. x.0 ∷ ks) (keys_set xs i at)
 
-key_at : (es : Maps) (i : ℕ) (e : ProcessKey × SmallMap Row (Unit {0})) → i < length es
+key_at : (es : Maps) (i : ℕ) (e : ProcessKey × Names) → i < length es
     → e ≡ get_or es i e → slice_get (keys_of es) i ≡ Some e.0
 key_at [] i e l at = absurd (omega (arith, l))
-key_at (x ∷ xs) zero e l at = ap (λ (y : ProcessKey × SmallMap Row (Unit {0})). Some y.0) (sym at)
+key_at (x ∷ xs) zero e l at = ap (λ (y : ProcessKey × Names). Some y.0) (sym at)
 key_at (x ∷ xs) (suc i) e l at = key_at xs i e (omega (arith, l)) at
 
-pub last_key : (es : Maps) (i : ℕ) (e : ProcessKey × SmallMap Row (Unit {0})) → i + 1 ≡ length es
+pub last_key : (es : Maps) (i : ℕ) (e : ProcessKey × Names) → i + 1 ≡ length es
     → e ≡ get_or es i e → IsLastKey e.0 (keys_of es)
 last_key es i e n at =
     let last : i ≡ length (keys_of es) - 1 = omega (arith, n, length-keys_of es) in
     subst (λ j. slice_get (keys_of es) j ≡ Some e.0) last (key_at es i e (omega (arith, n)) at)
 
 -- in a map of its own
-pub keys_push : (es : Maps) (k : ProcessKey) (m : SmallMap Row (Unit {0}))
+pub keys_push : (es : Maps) (k : ProcessKey) (m : Names)
     → keys_of (es ++ (k, m) ∷ []) ≡ keys_of es ++ k ∷ []
 keys_push [] k m = refl
 keys_push (e ∷ es) k m = ap (λ ks. e.0 ∷ ks) (keys_push es k m)
 
-pub held_push : (key : ProcessKey) (row : Row) (k : ProcessKey) (r : Row) (es : Maps)
-    → is_held k r (es ++ (key, One row (tt {0})) ∷ [])
-    ≡ (is_held k r es || (is_eq (key_cmp k key) && eq_by_cmp row_cmp row r))
-held_push key row k r [] =
-    (λ i. (is_eq (key_cmp k key) && alone row r i) || false)
-    ∙ or_false (is_eq (key_cmp k key) && eq_by_cmp row_cmp row r)
+pub held_push : (key : ProcessKey) (group : List ℕ) (k : ProcessKey) (g : List ℕ) (es : Maps)
+    → is_held k g (es ++ (key, One group (tt {0})) ∷ [])
+    ≡ (is_held k g es || (is_eq (key_cmp k key) && eq_by_cmp text_cmp group g))
+held_push key group k g [] =
+    (λ i. (is_eq (key_cmp k key) && alone group g i) || false)
+    ∙ or_false (is_eq (key_cmp k key) && eq_by_cmp text_cmp group g)
   where
     or_false : (b : Bool) → (b || false) ≡ b
     or_false true = refl
     or_false false = refl
-held_push key row k r (e ∷ es) =
-    let first = is_eq (key_cmp k e.0) && is_some (find row_cmp e.1 r) in
-    ap (λ b. first || b) (held_push key row k r es)
-    ∙ or_assoc first (is_held k r es) (is_eq (key_cmp k key) && eq_by_cmp row_cmp row r)
+held_push key group k g (e ∷ es) =
+    let first = is_eq (key_cmp k e.0) && is_some (find text_cmp e.1 g) in
+    ap (λ b. first || b) (held_push key group k g es)
+    ∙ or_assoc first (is_held k g es) (is_eq (key_cmp k key) && eq_by_cmp text_cmp group g)
 
 -- a key that isn't below the last, nor the last
 pub behind_last : (l k : ProcessKey) → is_gt (key_cmp l k) ≡ false
@@ -236,36 +216,36 @@ same_keys a b h = let t = and_parts _ _ h in
 
 -- ---- what is found in the map
 
--- in a map of these, whose keys rise, the rows are found
-pub copies_found : (rows : List Counted) (es : Maps)
-    (at : ProcessKey → Option (SmallMap Row (Unit {0})))
+-- in a map of these, whose keys rise, the groups of the rows are found
+pub names_found : (rows : List Counted) (es : Maps) (at : ProcessKey → Option Names)
     → (IsDistinct (eq_by_cmp key_cmp) (keys_of es)
     → (k : ProcessKey) → at k ≡ lookup (λ q. is_eq (key_cmp k q)) es)
     → Rises key_cmp (keys_of es)
-    → ((k : ProcessKey) (r : Row) → is_held k r es ≡ is_keyed k r (keyed rows))
-    → (k : ProcessKey) (r : Row)
-    → is_some (found row_cmp (at k) r) ≡ (has_key k r.pid && stands r rows)
-copies_found rows es at is rises held k r =
-    ap (λ o. is_some (found row_cmp o r)) (is (rising_apart (keys_of es) rises) k)
-    ∙ found_held k r es rises ∙ held k r ∙ keyed_is k r rows
+    → ((k : ProcessKey) (g : List ℕ) → is_held k g es ≡ is_keyed k g (keyed rows))
+    → (node : List ℕ) → AllByRecursion (λ c. c.row.pid.node ≡ node) rows
+    → (k : ProcessKey) (g : List ℕ)
+    → is_some (found text_cmp (at k) g) ≡ stands (row_at node g k) rows
+names_found rows es at is rises held node own k g =
+    ap (λ o. is_some (found text_cmp o g)) (is (rising_apart (keys_of es) rises) k)
+    ∙ found_held k g es rises ∙ held k g ∙ keyed_is node k g rows own
 
 -- the same rows in another order
-pub keyed_sorted : (k : ProcessKey) (r : Row) (rows : List Counted)
-    (copies sorted : List (ProcessKey × Row))
-    → copies ≡ keyed rows → IsPermutation copies sorted
-    → is_keyed k r sorted ≡ is_keyed k r (keyed rows)
-keyed_sorted k r rows copies sorted is moved =
+pub keyed_sorted : (k : ProcessKey) (g : List ℕ) (rows : List Counted)
+    (names sorted : List (ProcessKey × List ℕ))
+    → names ≡ keyed rows → IsPermutation names sorted
+    → is_keyed k g sorted ≡ is_keyed k g (keyed rows)
+keyed_sorted k g rows names sorted is moved =
     sym
-    (list_any-IsPermutation (λ p. is_eq (key_cmp k p.0) && eq_by_cmp row_cmp p.1 r) copies sorted
+    (list_any-IsPermutation (λ p. is_eq (key_cmp k p.0) && eq_by_cmp text_cmp p.1 g) names sorted
     moved)
-    ∙ ap (is_keyed k r) is
+    ∙ ap (is_keyed k g) is
 
 reversed : (o : Ordering) → is_gt (ordering_reverse o) ≡ is_lt o
 reversed o = grind arith
 
-module _ (ps : List (ProcessKey × Row)) where
-  keys_ascend : (xs : List (ProcessKey × Row))
-      → ((i j : ℕ) (d : ProcessKey × Row) → i ≤ j → j < length xs
+module _ (ps : List (ProcessKey × List ℕ)) where
+  keys_ascend : (xs : List (ProcessKey × List ℕ))
+      → ((i j : ℕ) (d : ProcessKey × List ℕ) → i ≤ j → j < length xs
       → is_gt (key_cmp (get_or xs i d).0 (get_or xs j d).0) ≡ false)
       → Ascends key_cmp (keys_of xs)
   keys_ascend [] f = tt

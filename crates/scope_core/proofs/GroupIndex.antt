@@ -114,7 +114,7 @@ module _ (node : List ℕ) where
   -- ---- where the map and the index hold the same rows
 
   module _ (es : List (Row × ℕ)) (groups : BTreeMap (List ℕ) (SmallMap ProcessKey ℕ))
-      (processes : BTreeMap ProcessKey (SmallMap Row (Unit {0})))
+      (processes : BTreeMap ProcessKey (SmallMap (List ℕ) (Unit {0})))
       (is : IsHashed node es groups processes)
       (sorted : IsStrictlySortedBy text_cmp (keys_of groups.entries))
       (members : AllByRecursion SortedMembers groups.entries) where

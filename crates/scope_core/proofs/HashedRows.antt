@@ -1,10 +1,10 @@
 -- One row more, or one less, in a map with two indexes; and what is counted there.
 use Rattle.scope_core.proofs
 use proofs.Words.{AllByRecursion, and_parts, ap, AreCounted, arith, bare_rows, Bool, cond}
-use proofs.Words.{counted_in, Decides-eqb, eq_by_cmp, exact_bytes, exact_rows, false, has_key}
+use proofs.Words.{counted_in, Decides-eqb, eq_by_cmp, exact_bytes, exact_rows, false}
 use proofs.Words.{has_row, is_eq, is_row, is_some, IsDistinct-tail, IsTotalOrder, key_cmp, key_of}
-use proofs.Words.{keys_of, List, lookup, None, Option, Ordering, pid_of, ProcessKey, refl}
-use proofs.Words.{remove_entry, Row, row_cmp, rows_total, same, same_decides, same_row}
+use proofs.Words.{keys_of, List, lookup, None, Option, Ordering, ProcessKey, refl}
+use proofs.Words.{remove_entry, Row, row_at, row_cmp, rows_total, same, same_decides, same_row}
 use proofs.Words.{same_row_decides, set_value, stands, sym, tally, text_cmp, texts_total}
 use proofs.Words.{tied_itself, true, unwrap_or, ℕ, [], ◌&&◌, ◌++◌, ◌+◌, ◌<◌, ◌==◌, ◌∙◌, ◌∷◌, ◌≡◌}
 use Rattle.std.specs.Ordering.{nat_cmp}
@@ -63,7 +63,7 @@ one_key = one_by_order keys_total exact_keys same_key_decides
 -- a place in the index of groups is that of one row of the node
 pub one_place : (node g : List ℕ) (k : ProcessKey) (row : Row) → row.pid.node ≡ node
     → (eq_by_cmp text_cmp row.group g && eq_by_cmp key_cmp (key_of row.pid) k)
-    ≡ same_row row (record { group = g; pid = pid_of node k })
+    ≡ same_row row (row_at node g k)
 one_place node g k row own =
     grind (
       arith,
@@ -73,23 +73,7 @@ one_place node g k row own =
       own,
     )
 
--- ---- one row more, and one less, among those of the processes
-
--- b is whether the row is there then
-pub write_copy : (k : ProcessKey) (row r : Row) (b was now had has : Bool)
-    → was ≡ (has_key k r.pid && had)
-    → now ≡ cond (eq_by_cmp key_cmp (key_of row.pid) k && eq_by_cmp row_cmp row r) b was
-    → has ≡ cond (same_row row r) b had → now ≡ (has_key k r.pid && has)
-write_copy k row r b was now had has w n h =
-    grind (arith, w, n, h, one_row row r, one_key (key_of row.pid) k, same_row_decides row r)
-
--- a row that is there stands at its place
-pub kept_copy : (k : ProcessKey) (row r : Row) (es : List (Row × ℕ)) (was : Bool)
-    → was ≡ (has_key k r.pid && has_row es r) → has_row es row ≡ true
-    → was ≡ cond (eq_by_cmp key_cmp (key_of row.pid) k && eq_by_cmp row_cmp row r) true was
-kept_copy k row r es was w there =
-    grind (arith, w, there, one_row row r, one_key (key_of row.pid) k, same_row_decides row r)
-
+-- a value that is there or isn't, where one is written
 pub some_cond : {A : Type 0} (b : Bool) (o w v : Option A) → v ≡ cond b o w
     → is_some v ≡ cond b (is_some o) (is_some w)
 some_cond b o w v e = grind (arith, e)

@@ -1,20 +1,30 @@
 -- What a write does to the index of groups, and to the map alone.
 use Rattle.scope_core.proofs
 use proofs.Words.{ap, append-nil, AreCounted, arith, bare_rows, Bool, BTreeMap, cond, Counted}
-use proofs.Words.{counted_in, drop, eq_by_cmp, false, find_in, get_or, has_key, has_row, is_row}
+use proofs.Words.{counted_in, drop, eq_by_cmp, false, find_in, get_or, has_row, is_row}
 use proofs.Words.{is_some, is_there, IsHashed, key_cmp, key_of, length, List, list_any, lookup}
-use proofs.Words.{None, Option, or_right, Pid, pid_of, ProcessKey, refl, Row, row_cmp, same_decides}
-use proofs.Words.{same_pid, same_row, same_row_decides, set_value, SmallMap, Some, stands, suc, sym}
+use proofs.Words.{None, Option, or_right, Pid, ProcessKey, refl, Row, row_at, row_in}
+use proofs.Words.{same_decides, same_pid, same_pid_decides, same_row, same_row_decides, set_value}
+use proofs.Words.{SmallMap, Some, stands, suc, sym}
 use proofs.Words.{take, take-append-drop, take_more, tally, text_cmp, true, unwrap_or, zero, ℕ, []}
 use proofs.Words.{◌&&◌, ◌++◌, ◌+◌, ◌<◌, ◌||◌, ◌∙◌, ◌∷◌, ◌≡◌}
 use proofs.HashedRows.{count_is, counted_from, Entries, Once, one_place, own_at, own_from}
-use proofs.HashedRows.{rows_equal, some_cond, stands_is, write_copy}
+use proofs.HashedRows.{rows_equal, some_cond, stands_is}
 
 -- ---- the index of groups
 
+both : (a b : Bool) → (a && b) ≡ (b && a)
+both true b = by b
+  where
+    by : (x : Bool) → x ≡ (x && true)
+    by true = refl
+    by false = refl
+both false true = refl
+both false false = refl
+
 module _ (node g : List ℕ) (k : ProcessKey) (row : Row) (own : row.pid.node ≡ node) where
   abbrev here : Row
-  here = record { group = g; pid = pid_of node k }
+  here = row_at node g k
 
   abbrev place : Bool
   place = eq_by_cmp text_cmp row.group g && eq_by_cmp key_cmp (key_of row.pid) k
@@ -36,24 +46,54 @@ module _ (node g : List ℕ) (k : ProcessKey) (row : Row) (own : row.pid.node �
         fresh,
       )
 
+  -- a row that is there stands at its place
+  pub named_still : (es : Entries) (was : Bool) → was ≡ has_row es here → has_row es row ≡ true
+      → was ≡ cond (eq_by_cmp key_cmp (key_of row.pid) k && eq_by_cmp text_cmp row.group g) true was
+  named_still es was w there =
+      grind (arith, w, there, one_place node g k row own, same_row_decides row here)
+
+  -- so does one that gets a count, or is taken out
+  pub named_after : (o : Option ℕ) (was : Bool) (es fs : Entries) → was ≡ has_row es here
+      → lookup (same_row here) fs ≡ cond (same_row row here) o (lookup (same_row here) es)
+      → cond (eq_by_cmp key_cmp (key_of row.pid) k && eq_by_cmp text_cmp row.group g) (is_some o)
+      was
+      ≡ has_row fs here
+  named_after o was es fs w is =
+      (λ i. cond (both (eq_by_cmp key_cmp (key_of row.pid) k) (eq_by_cmp text_cmp row.group g) i)
+      (is_some o) (w i))
+      ∙ (λ i. cond (one_place node g k row own i) (is_some o) (has_row es here))
+      ∙ sym (some_cond _ _ _ _ is)
+
 -- a row of the node, found again by its key
 pub at_row : (node : List ℕ) (row : Row) → row.pid.node ≡ node
-    → record { group = row.group; pid = pid_of node (key_of row.pid) } ≡ row
-at_row node row own = λ i. record { group = row.group; pid = pid_of (sym own i) (key_of row.pid) }
+    → row_at node row.group (key_of row.pid) ≡ row
+at_row node row own = λ i. row_at (sym own i) row.group (key_of row.pid)
 
--- where no row has the key of the process, none is counted
+-- a row of the process, found by its key
+pub row_of : (node g : List ℕ) (p : Pid) (k : ProcessKey) (es : Entries) → p.node ≡ node
+    → k ≡ key_of p → has_row es (row_at node g k) ≡ has_row es (row_in g p)
+row_of node g p k es own key =
+    ap (λ q. has_row es (row_at node g q)) key ∙ ap (has_row es) (at_row node (row_in g p) own)
+
+-- where no group has a row of the process, none is counted
 pub none_of : (p : Pid) (es : Entries)
-    → ((r : Row) → (has_key (key_of p) r.pid && has_row es r) ≡ false)
+    → ((g : List ℕ) → has_row es (row_in g p) ≡ false)
     → tally (λ r. same_pid r.pid p) (counted_in es) ≡ 0
 none_of p [] h = refl
 none_of p (e ∷ es) h =
-    let rest = none_of p es (λ r. let n = h r in grind (arith, n)) in
-    let mine = h e.0 in
-    grind (arith, rest, mine, rows_equal.refl e.0)
+    let rest = none_of p es (λ g. let n = h g in grind (arith, n)) in
+    let mine = h e.0.group in
+    grind (
+      arith,
+      rest,
+      mine,
+      same_row_decides (row_in e.0.group p) e.0,
+      same_pid_decides e.0.pid p,
+    )
 
 -- where no key is found under the group, the node has none of its rows
 pub none_there : (g node : List ℕ) (es : Entries)
-    → ((k : ProcessKey) → lookup (same_row (record { group = g; pid = pid_of node k })) es ≡ None)
+    → ((k : ProcessKey) → lookup (same_row (row_at node g k)) es ≡ None)
     → tally (is_there g node) (counted_in es) ≡ 0
 none_there g node [] h = refl
 none_there g node (e ∷ es) h =
@@ -65,12 +105,12 @@ none_there g node (e ∷ es) h =
       mine,
       same_decides e.0.group g,
       same_decides e.0.pid.node node,
-      same_row_decides (record { group = g; pid = pid_of node (key_of e.0.pid) }) e.0,
+      same_row_decides (row_at node g (key_of e.0.pid)) e.0,
     )
 
 -- a row that is found is counted among those of its group
 pub some_there : (g node : List ℕ) (k : ProcessKey) (es : Entries) → AreCounted (counted_in es)
-    → is_some (lookup (same_row (record { group = g; pid = pid_of node k })) es) ≡ true
+    → is_some (lookup (same_row (row_at node g k)) es) ≡ true
     → 0 < tally (is_there g node) (counted_in es)
 some_there g node k [] a h = grind arith
 some_there g node k (e ∷ es) a h =
@@ -80,7 +120,7 @@ some_there g node k (e ∷ es) a h =
       rest,
       a.0,
       h,
-      same_row_decides (record { group = g; pid = pid_of node k }) e.0,
+      same_row_decides (row_at node g k) e.0,
       same_decides e.0.group g,
       same_decides e.0.pid.node node,
     )
@@ -95,7 +135,7 @@ abbrev ByGroup : Type 0
 ByGroup = BTreeMap (List ℕ) (SmallMap ProcessKey ℕ)
 
 abbrev ByProcess : Type 0
-ByProcess = BTreeMap ProcessKey (SmallMap Row (Unit {0}))
+ByProcess = BTreeMap ProcessKey (SmallMap (List ℕ) (Unit {0}))
 
 -- a row gets a count, or is taken out
 pub hashed_write : {node : List ℕ} {es : Entries} {groups : ByGroup} {processes : ByProcess}
@@ -105,9 +145,9 @@ pub hashed_write : {node : List ℕ} {es : Entries} {groups : ByGroup} {processe
     → ((g : List ℕ) (k : ProcessKey) → find_in text_cmp key_cmp gs g k
     ≡ cond (eq_by_cmp text_cmp row.group g && eq_by_cmp key_cmp (key_of row.pid) k) o
     (find_in text_cmp key_cmp groups g k))
-    → ((k : ProcessKey) (r : Row) → is_some (find_in key_cmp row_cmp ps k r)
-    ≡ cond (eq_by_cmp key_cmp (key_of row.pid) k && eq_by_cmp row_cmp row r) (is_some o)
-    (is_some (find_in key_cmp row_cmp processes k r)))
+    → ((k : ProcessKey) (g : List ℕ) → is_some (find_in key_cmp text_cmp ps k g)
+    ≡ cond (eq_by_cmp key_cmp (key_of row.pid) k && eq_by_cmp text_cmp row.group g) (is_some o)
+    (is_some (find_in key_cmp text_cmp processes k g)))
     → IsHashed node fs gs ps
 hashed_write {node = node} {es = es} was row own o fs gs ps once is group process = record {
   once = once;
@@ -115,8 +155,8 @@ hashed_write {node = node} {es = es} was row own o fs gs ps once is group proces
       (λ r h. grind (arith, is r, h, own_at node r es was.own, own, same_row_decides row r));
   by_group = λ g k. group g k
       ∙ (λ i. cond (one_place node g k row own i) o (was.by_group g k i)) ∙ sym (is _);
-  by_process = λ k r. write_copy k row r (is_some o) _ _ (has_row es r) (has_row fs r)
-      (was.by_process k r) (process k r) (some_cond _ _ _ _ (is r));
+  by_process = λ k g. process k g
+      ∙ named_after node g k row own o _ es fs (was.by_process k g) (is (row_at node g k));
 }
 
 -- ---- rows that are put in with no count
@@ -226,9 +266,9 @@ tally_stands r (x ∷ xs) l = grind (arith, tally_stands r xs, l)
 -- a process of the node is counted as the index has it
 pub in_group_count : (node g : List ℕ) (p : Pid) (es : Entries) (o : Option ℕ) → Once es
     → node ≡ p.node
-    → o ≡ lookup (same_row (record { group = g; pid = pid_of node (key_of p) })) es
+    → o ≡ lookup (same_row (row_at node g (key_of p))) es
     → tally (is_row g p) (counted_in es) ≡ unwrap_or o 0
 in_group_count node g p es o d n is =
-    count_is (record { group = g; pid = p }) es d
+    count_is (row_in g p) es d
     ∙ ap (λ (x : Option ℕ). unwrap_or x 0)
-    (sym (is ∙ (λ i. lookup (same_row (record { group = g; pid = pid_of (n i) (key_of p) })) es)))
+    (sym (is ∙ (λ i. lookup (same_row (row_at (n i) g (key_of p))) es)))

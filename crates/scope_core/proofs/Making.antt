@@ -2,8 +2,8 @@
 use Rattle.scope_core.proofs
 use proofs.Words.{AllByRecursion, ap, arith, Bool, cond, Counted, counted_cmp, entries_in}
 use proofs.Words.{eq_by_cmp, false, find, found, get_or, is_eq, key_cmp, key_of, keys_of, length}
-use proofs.Words.{Less, List, lookup, map, None, Pid, pid_of, ProcessKey, refl, Rises, Row, same}
-use proofs.Words.{same_decides, same_row, slice_get, SmallMap, Some, subst, sym, text_cmp}
+use proofs.Words.{Less, List, lookup, map, None, Pid, pid_of, ProcessKey, refl, Rises, Row, row_at}
+use proofs.Words.{same, same_decides, same_row, slice_get, SmallMap, Some, subst, sym, text_cmp}
 use proofs.Words.{texts_total, tied_itself, true, ℕ, [], ◌++◌, ◌∙◌, ◌∷◌, ◌≡◌}
 use Rattle.std.specs.List.{IsDistinct}
 use proofs.Told.{all_back, all_front, AreAbove, AreIn, Run}
@@ -20,7 +20,7 @@ module _ (node g : List ℕ) where
 
   pub pairs_lookup : (k : ProcessKey) (rows : List Counted) → OfOne rows
       → lookup (λ q. is_eq (key_cmp k q)) (pairs rows)
-      ≡ lookup (same_row (record { group = g; pid = pid_of node k })) (entries_in rows)
+      ≡ lookup (same_row (row_at node g k)) (entries_in rows)
   pairs_lookup k [] a = refl
   pairs_lookup k (c ∷ cs) a =
       grind (
@@ -72,7 +72,7 @@ pub record Indexes (rows : List Counted) (es : Groups) : Type 0 where
   pub looked : (node : List ℕ) → AllByRecursion (λ c. c.row.pid.node ≡ node) rows
       → (g : List ℕ) (k : ProcessKey)
       → found key_cmp (lookup (λ h. is_eq (text_cmp g h)) es) k
-      ≡ lookup (same_row (record { group = g; pid = pid_of node k })) (entries_in rows)
+      ≡ lookup (same_row (row_at node g k)) (entries_in rows)
 
 pub indexes_none : (rows : List Counted) → None ≡ slice_get rows 0 → Indexes rows []
 unfolding IsDistinct
@@ -128,7 +128,7 @@ module _ (group : List ℕ) (all xs cs : List Counted)
     (m : SmallMap ProcessKey ℕ)
     (members : (node g : List ℕ) → OfOne node g xs → (k : ProcessKey)
     → find key_cmp m k
-    ≡ lookup (same_row (record { group = g; pid = pid_of node k })) (entries_in xs))
+    ≡ lookup (same_row (row_at node g k)) (entries_in xs))
     (tail : Groups) (rest : Indexes cs tail) where
   keys_apart : IsDistinct (eq_by_cmp text_cmp) (group ∷ keys_of tail)
   unfolding IsDistinct
@@ -145,10 +145,10 @@ module _ (group : List ℕ) (all xs cs : List Counted)
   looked_parts : (node : List ℕ) → AllByRecursion (λ d. d.row.pid.node ≡ node) (xs ++ cs)
       → (g : List ℕ) (k : ProcessKey) → (b : Bool) → same g group ≡ b
       → found key_cmp (cond b (Some m) (lookup (λ h. is_eq (text_cmp g h)) tail)) k
-      ≡ lookup (same_row (record { group = g; pid = pid_of node k })) (entries_in (xs ++ cs))
+      ≡ lookup (same_row (row_at node g k)) (entries_in (xs ++ cs))
   looked_parts node own g k true e =
       let is = (same_decides g group).0 e in
-      let test = same_row (record { group = g; pid = pid_of node k }) in
+      let test = same_row (row_at node g k) in
       members node g
       (subst (λ h. OfOne node h xs) (sym is)
       (of_one node group xs run.inside (all_front _ xs cs own)))
@@ -157,7 +157,7 @@ module _ (group : List ℕ) (all xs cs : List Counted)
       (lookup_front test xs cs
       (none_above g (pid_of node k) cs (subst (λ h. AreAbove h cs) (sym is) run.above)))
   looked_parts node own g k false e =
-      let test = same_row (record { group = g; pid = pid_of node k }) in
+      let test = same_row (row_at node g k) in
       rest.looked node (all_back _ xs cs own) g k
       ∙ sym (lookup_back test xs cs (none_other group g (pid_of node k) xs run.inside e))
 
@@ -172,6 +172,6 @@ module _ (group : List ℕ) (all xs cs : List Counted)
         ap (λ b. found key_cmp (cond b (Some m) (lookup (λ h. is_eq (text_cmp g h)) tail)) k)
         (one_text g group)
         ∙ parts
-        ∙ ap (λ ds. lookup (same_row (record { group = g; pid = pid_of node k })) (entries_in ds))
+        ∙ ap (λ ds. lookup (same_row (row_at node g k)) (entries_in ds))
         (sym run.whole);
   }

@@ -1,14 +1,14 @@
 -- The rows of one process among those of its node.
 use Rattle.scope_core.proofs
 use proofs.Words.{AllByRecursion, ap, AreCounted, arith, Bool, cond, Counted, counted_cmp}
-use proofs.Words.{counted_in, entries_in, false, filter, has_key, has_row, HasRoomFor, is_eq}
-use proofs.Words.{is_of_node, is_row, is_some, IsKept, key_of, keys_of, Less, List, list_any}
-use proofs.Words.{lookup, None, Pid, refl, Rises, Row, row_cmp, same_decides, same_pid, same_row}
-use proofs.Words.{same_row_decides, Some, sym, tally, true, with_counts, ℕ, [], ◌&&◌, ◌<◌, ◌∙◌, ◌∷◌}
-use proofs.Words.{◌≡◌}
+use proofs.Words.{counted_in, entries_in, false, filter, has_row, HasRoomFor, is_eq, is_of_node}
+use proofs.Words.{is_row, is_some, IsKept, keys_of, Less, List, list_any, lookup, None, Pid, refl}
+use proofs.Words.{Rises, Row, row_cmp, row_in, same, same_decides, same_pid, same_pid_decides}
+use proofs.Words.{same_row, same_row_decides, Some, sym, tally, text_cmp, true, with_counts, ℕ, []}
+use proofs.Words.{◌&&◌, ◌<◌, ◌∙◌, ◌∷◌, ◌≡◌}
 use Rattle.std.specs.List.{IsDistinct}
 use Rattle.std.specs.List.Sorted.{IsStrictlySortedBy}
-use proofs.HashedRows.{count_is, one_row, own_at, rows_equal, same_tally, stands_is}
+use proofs.HashedRows.{count_is, one_text, same_tally, stands_is}
 use proofs.HashedWrites.{counted_stands}
 use proofs.Rising.{kept_counts, tally-filter_le}
 use proofs.RowEntries.{back_again, rising_once}
@@ -16,34 +16,35 @@ use proofs.RowEntries.{back_again, rising_once}
 abbrev Entries : Type 0
 Entries = List (Row × ℕ)
 
--- ---- rows with their counts
+-- ---- groups with the counts of a process
 
-module _ (rows : List Counted) where
-  abbrev count : Row → ℕ
-  count r = tally (is_row r.group r.pid) rows
+module _ (rows : List Counted) (p : Pid) where
+  abbrev count : List ℕ → ℕ
+  count g = tally (is_row g p) rows
 
-  above_row : (r : Row) (ks : List Row) → AllByRecursion (λ k. row_cmp r k ≡ Less) ks
-      → AllByRecursion (λ d. row_cmp r d.row ≡ Less) (with_counts rows ks)
-  above_row r [] l = tt
-  above_row r (k ∷ ks) l = (l.0, above_row r ks l.1)
+  above_group : (g : List ℕ) (gs : List (List ℕ)) → AllByRecursion (λ h. text_cmp g h ≡ Less) gs
+      → AllByRecursion (λ d. row_cmp (row_in g p) d.row ≡ Less) (with_counts rows p gs)
+  above_group g [] l = tt
+  above_group g (h ∷ gs) l = (grind (arith, l.0), above_group g gs l.1)
 
-  counted_rises : (ks : List Row) → IsStrictlySortedBy row_cmp ks
-      → Rises counted_cmp (with_counts rows ks)
+  counted_rises : (gs : List (List ℕ)) → IsStrictlySortedBy text_cmp gs
+      → Rises counted_cmp (with_counts rows p gs)
   unfolding IsStrictlySortedBy
   counted_rises [] s = tt
-  counted_rises (k ∷ ks) s = (above_row k ks s.0, counted_rises ks s.1)
+  counted_rises (g ∷ gs) s = (above_group g gs s.0, counted_rises gs s.1)
 
-  counts_found : (r : Row) (ks : List Row) → lookup (same_row r) (entries_in (with_counts rows ks))
-      ≡ cond (list_any (same_row r) ks) (Some (count r)) None
+  counts_found : (r : Row) (gs : List (List ℕ))
+      → lookup (same_row r) (entries_in (with_counts rows p gs))
+      ≡ cond (list_any (same r.group) gs && same_pid r.pid p) (Some (count r.group)) None
   counts_found r [] = refl
-  counts_found r (k ∷ ks) = grind (arith, counts_found r ks, same_row_decides r k)
+  counts_found r (g ∷ gs) = grind (arith, counts_found r gs, same_decides r.group g)
 
-  all_counted : (ks : List Row) → ((r : Row) → list_any (same_row r) ks ≡ true → 0 < count r)
-      → AreCounted (with_counts rows ks)
+  all_counted : (gs : List (List ℕ)) → ((g : List ℕ) → list_any (same g) gs ≡ true → 0 < count g)
+      → AreCounted (with_counts rows p gs)
   all_counted [] h = tt
-  all_counted (k ∷ ks) h = (
-    h k (grind (arith, rows_equal.refl k)),
-    all_counted ks (λ r i. h r (grind (arith, i))),
+  all_counted (g ∷ gs) h = (
+    h g (grind (arith, same_decides g g)),
+    all_counted gs (λ f i. h f (grind (arith, i))),
   )
 
 -- ---- the rows of a map whose processes pass a test
@@ -82,51 +83,59 @@ module _ (hits : Pid → Bool) where
 
 -- ---- the rows of a process of the node
 
-pub in_keys : {V : Type 0} (r : Row) (cs : List (Row × V))
-    → is_some (lookup (λ q. is_eq (row_cmp r q)) cs) ≡ list_any (same_row r) (keys_of cs)
-in_keys r [] = refl
-in_keys r (c ∷ cs) = grind (arith, in_keys r cs, one_row r c.0)
+pub in_keys : {V : Type 0} (g : List ℕ) (cs : List (List ℕ × V))
+    → is_some (lookup (λ q. is_eq (text_cmp g q)) cs) ≡ list_any (same g) (keys_of cs)
+in_keys g [] = refl
+in_keys g (c ∷ cs) = grind (arith, in_keys g cs, one_text g c.0)
 
-pub none_sorted : IsStrictlySortedBy row_cmp []
+pub none_sorted : IsStrictlySortedBy text_cmp []
 unfolding IsStrictlySortedBy
 none_sorted = tt
 
--- ks are its rows, in order
-module _ (node : List ℕ) (es : Entries) (once : IsDistinct same_row (keys_of es))
-    (own : AllByRecursion (λ e. e.0.pid.node ≡ node) es) (p : Pid) (of_node : p.node ≡ node)
-    (ks : List Row) (sorted : IsStrictlySortedBy row_cmp ks)
-    (is : (r : Row) → list_any (same_row r) ks ≡ (has_key (key_of p) r.pid && has_row es r)) where
+-- gs are its groups, in order
+module _ (es : Entries) (once : IsDistinct same_row (keys_of es)) (p : Pid) (gs : List (List ℕ))
+    (sorted : IsStrictlySortedBy text_cmp gs)
+    (is : (g : List ℕ) → list_any (same g) gs ≡ has_row es (row_in g p)) where
   abbrev hits : Pid → Bool
   hits q = same_pid q p
 
   abbrev rows : List Counted
   rows = counted_in es
 
-  found_alike : (r : Row) → lookup (same_row r) (entries_in (with_counts rows ks))
+  found_alike : (r : Row) → lookup (same_row r) (entries_in (with_counts rows p gs))
       ≡ lookup (same_row r) (entries_in (some_of hits es))
   found_alike r =
-      let found = counts_found rows r ks in
-      let mine = λ (h : has_row es r ≡ true). own_at node r es own h in
-      let apart = same_decides r.pid.node p.node in
-      grind (arith, found, some_found hits r es, is r, mine, count_is r es once, apart, of_node)
+      counts_found rows p r gs ∙ by (same_pid r.pid p) refl ∙ sym (some_found hits r es)
+    where
+      by : (b : Bool) → same_pid r.pid p ≡ b
+          → cond (list_any (same r.group) gs && b) (Some (count rows p r.group)) None
+          ≡ cond b (lookup (same_row r) es) None
+      by true e =
+          let mine = sym ((same_pid_decides r.pid p).0 e) in
+          let there = is r.group ∙ ap (λ q. has_row es (row_in r.group q)) mine in
+          let n = ap (λ q. tally (is_row r.group q) rows) mine ∙ count_is r es once in
+          grind (arith, there, n)
+      by false e = grind arith
 
-  same_rows : (test : Row → Bool) → tally test (with_counts rows ks) ≡ tally test (some_of hits es)
+  same_rows : (test : Row → Bool)
+      → tally test (with_counts rows p gs) ≡ tally test (some_of hits es)
   same_rows test =
-      let rising = rising_once (with_counts rows ks) (counted_rises rows ks sorted) in
-      ap (tally test) (sym (back_again (with_counts rows ks)))
-      ∙ same_tally (entries_in (some_of hits es)) (entries_in (with_counts rows ks))
+      let rising = rising_once (with_counts rows p gs) (counted_rises rows p gs sorted) in
+      ap (tally test) (sym (back_again (with_counts rows p gs)))
+      ∙ same_tally (entries_in (some_of hits es)) (entries_in (with_counts rows p gs))
       (some_once hits es once) rising found_alike test
       ∙ ap (tally test) (back_again (some_of hits es))
 
-  pub process_counts : (g : List ℕ) (q : Pid) → tally (is_row g q) (with_counts rows ks)
+  pub process_counts : (g : List ℕ) (q : Pid) → tally (is_row g q) (with_counts rows p gs)
       ≡ cond (same_pid q p) (tally (is_row g q) rows) 0
   process_counts g q = same_rows (is_row g q) ∙ kept_counts hits g q rows
 
-  pub process_kept : AreCounted rows → HasRoomFor [] rows → IsKept (with_counts rows ks)
+  pub process_kept : AreCounted rows → HasRoomFor [] rows → IsKept (with_counts rows p gs)
   process_kept a room = record {
-    rises = counted_rises rows ks sorted;
-    counted = all_counted rows ks
-        (λ r h. counted_stands r rows a (grind (arith, stands_is r es, is r, h)));
+    rises = counted_rises rows p gs sorted;
+    counted = all_counted rows p gs
+        (λ g h. counted_stands (row_in g p) rows a
+        (grind (arith, stands_is (row_in g p) es, is g, h)));
     few = λ n.
         let less = tally-filter_le (λ c. hits c.row.pid) (is_of_node n) rows in
         omega (arith, same_rows (is_of_node n), less, room n);

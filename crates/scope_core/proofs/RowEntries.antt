@@ -1,10 +1,10 @@
 -- Rows in order as the entries of a map, and the map with its indexes.
 use Rattle.scope_core.proofs
 use proofs.Words.{AllByRecursion, ap, append_assoc, arith, BTreeMap, Counted, counted_cmp}
-use proofs.Words.{counted_in, entries_in, false, find_in, has_key, is_some, IsHashed, key_cmp}
-use proofs.Words.{keys_of, Less, List, lookup, None, pid_of, ProcessKey, refl, Rises, Row, row_cmp}
+use proofs.Words.{counted_in, entries_in, false, find_in, is_some, IsHashed, key_cmp}
+use proofs.Words.{keys_of, Less, List, lookup, None, ProcessKey, refl, Rises, Row, row_at}
 use proofs.Words.{rows_total, same_row, same_row_decides, SmallMap, stands, subst, sym, text_cmp}
-use proofs.Words.{tied_itself, ℕ, [], ◌&&◌, ◌++◌, ◌∙◌, ◌∷◌, ◌≡◌}
+use proofs.Words.{tied_itself, ℕ, [], ◌++◌, ◌∙◌, ◌∷◌, ◌≡◌}
 use Rattle.std.specs.List.{IsDistinct}
 use proofs.HashedRows.{rows_equal, stands_is}
 use proofs.Rising.{all_mapped}
@@ -65,13 +65,13 @@ module _ (rows rest more : List Counted) (c : Counted) (es : Entries)
 
 pub hashed_of : (node : List ℕ) (rows : List Counted) (es : Entries)
     (groups : BTreeMap (List ℕ) (SmallMap ProcessKey ℕ))
-    (processes : BTreeMap ProcessKey (SmallMap Row (Unit {0})))
+    (processes : BTreeMap ProcessKey (SmallMap (List ℕ) (Unit {0})))
     → AllByRecursion (λ c. c.row.pid.node ≡ node) rows → Rises counted_cmp rows
     → es ≡ entries_in rows
     → ((g : List ℕ) (k : ProcessKey) → find_in text_cmp key_cmp groups g k
-    ≡ lookup (same_row (record { group = g; pid = pid_of node k })) (entries_in rows))
-    → ((k : ProcessKey) (r : Row) → is_some (find_in key_cmp row_cmp processes k r)
-    ≡ (has_key k r.pid && stands r rows))
+    ≡ lookup (same_row (row_at node g k)) (entries_in rows))
+    → ((k : ProcessKey) (g : List ℕ) → is_some (find_in key_cmp text_cmp processes k g)
+    ≡ stands (row_at node g k) rows)
     → IsHashed node es groups processes
 hashed_of node rows es groups processes own rises made by_group by_process =
     let there = λ (r : Row).
@@ -80,5 +80,5 @@ hashed_of node rows es groups processes own rises made by_group by_process =
       once = rising_once rows rises;
       own = all_mapped _ _ rows own;
       by_group = by_group;
-      by_process = λ k r. by_process k r ∙ ap (λ b. has_key k r.pid && b) (there r);
+      by_process = λ k g. by_process k g ∙ there (row_at node g k);
     })

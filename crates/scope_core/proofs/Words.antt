@@ -62,8 +62,8 @@ pub use Rattle.std.proofs.lemmas.Result.{IfErr-weaker, IfOk-weaker, on_err_weake
 pub use Rattle.indexmap.proofs.CallerLemmas.{insert_entry-new}
 pub use Rattle.indexmap.specs.IndexMap.{insert_entry}
 pub use specs.Copies.{is_held, is_keyed, IsLastKey, keyed, keyed_maps, process_keys}
-pub use specs.HashedRows.{counted_in, entries_in, group_rows, has_key, has_row, IsHashed, key_cmp}
-pub use specs.HashedRows.{key_of, NodeTable, pid_of, stands, with_counts}
+pub use specs.HashedRows.{counted_in, entries_in, group_rows, has_row, IsHashed, key_cmp, key_of}
+pub use specs.HashedRows.{NodeTable, pid_of, row_at, stands, with_counts}
 pub use specs.Kept.{AreListings, Forgets}
 pub use specs.LoweredRows.{IsLowered}
 pub use specs.SmallMap.{entries_of, find, find_in, found}

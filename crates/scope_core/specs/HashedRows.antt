@@ -1,5 +1,5 @@
 -- The rows of one node, in a map with two indexes.
-use Rattle.std.specs.Prelude.{◌≡◌, ℕ, Bool, ◌&&◌, ◌==◌, List, map}
+use Rattle.std.specs.Prelude.{◌≡◌, ℕ, Bool, List, map}
 use Rattle.std.specs.declared.cmp.Ordering.{Ordering}
 use Rattle.std.specs.Ordering.{nat_cmp, ordering_then}
 use Rattle.std.specs.Option.{is_some}
@@ -8,7 +8,7 @@ use Rattle.std.specs.Map.{lookup, keys_of}
 use Rattle.std.specs.BTreeMap.{BTreeMap}
 use Rattle.dist_types.specs.declared.pid.Pid.{Pid}
 use Rattle.dist_types.specs.declared.row.Row.{Row}
-use Rattle.dist_types.specs.Order.{text_cmp, row_cmp}
+use Rattle.dist_types.specs.Order.{text_cmp}
 use Rattle.dist_types.specs.Listing.{same_row}
 use Rattle.scope_core.specs.declared.counted.Counted.{Counted}
 use Rattle.scope_core.specs.declared.process_key.ProcessKey.{ProcessKey}
@@ -24,18 +24,18 @@ key_of p = record { creation = p.creation; number = p.number }
 abbrev pub pid_of : List ℕ → ProcessKey → Pid
 pid_of node k = record { node = node; creation = k.creation; number = k.number }
 
+-- the row of the node's process with the key in the group
+abbrev pub row_at : List ℕ → List ℕ → ProcessKey → Row
+row_at node g k = record { group = g; pid = pid_of node k }
+
 -- by the creation and the number
 abbrev pub key_cmp : ProcessKey → ProcessKey → Ordering
 key_cmp a b = ordering_then (nat_cmp a.creation b.creation) (nat_cmp a.number b.number)
 
--- whether the process has the key
-abbrev pub has_key : ProcessKey → Pid → Bool
-has_key k p = p.creation == k.creation && p.number == k.number
-
 -- the rows of the processes of a group
 abbrev pub group_rows : List ℕ → List ℕ → List (ProcessKey × ℕ) → List Counted
 group_rows node g ms =
-    map (λ m. record { row = record { group = g; pid = pid_of node m.0 }; count = m.1 }) ms
+    map (λ m. record { row = row_at node g m.0; count = m.1 }) ms
 
 -- the name of a node, and its rows with their counts, in the order of the map
 pub record NodeTable : Type 0 where
@@ -50,9 +50,10 @@ counted_in es = map (λ e. record { row = e.0; count = e.1 }) es
 abbrev pub entries_in : List Counted → List (Row × ℕ)
 entries_in rows = map (λ c. (c.row, c.count)) rows
 
--- the rows, each with its count among the counted ones
-abbrev pub with_counts : List Counted → List Row → List Counted
-with_counts rows rs = map (λ r. record { row = r; count = tally (is_row r.group r.pid) rows }) rs
+-- the rows of the process in the groups, each with its count among the counted ones
+abbrev pub with_counts : List Counted → Pid → List (List ℕ) → List Counted
+with_counts rows p gs =
+    map (λ g. record { row = record { group = g; pid = p }; count = tally (is_row g p) rows }) gs
 
 -- whether the row is one of these
 abbrev pub has_row : List (Row × ℕ) → Row → Bool
@@ -65,11 +66,10 @@ stands r rows = list_any (λ c. same_row c.row r) rows
 -- each row stands once, all are the node's, and both indexes hold exactly them
 pub record IsHashed (node : List ℕ) (es : List (Row × ℕ))
     (groups : BTreeMap (List ℕ) (SmallMap ProcessKey ℕ))
-    (processes : BTreeMap ProcessKey (SmallMap Row (Unit {0}))) : Type 0 where
+    (processes : BTreeMap ProcessKey (SmallMap (List ℕ) (Unit {0}))) : Type 0 where
   pub once : IsDistinct same_row (keys_of es)
   pub own : AllByRecursion (λ e. e.0.pid.node ≡ node) es
   pub by_group : (g : List ℕ) (k : ProcessKey)
-      → find_in text_cmp key_cmp groups g k
-      ≡ lookup (same_row (record { group = g; pid = pid_of node k })) es
-  pub by_process : (k : ProcessKey) (r : Row)
-      → is_some (find_in key_cmp row_cmp processes k r) ≡ (has_key k r.pid && has_row es r)
+      → find_in text_cmp key_cmp groups g k ≡ lookup (same_row (row_at node g k)) es
+  pub by_process : (k : ProcessKey) (g : List ℕ)
+      → is_some (find_in key_cmp text_cmp processes k g) ≡ has_row es (row_at node g k)

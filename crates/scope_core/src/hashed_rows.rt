@@ -10,9 +10,10 @@ ghost use Rattle.scope_core.specs.HashedRows.{NodeTable, stands};
 
 use crate::counted::Counted;
 use crate::lowering::can_lower;
-use crate::nested_map::{get, pop, put, set, take};
+use crate::nested_map::{pop, put, set, take};
 use crate::node_indexes::{counts_of, forget, groups_of, processes_of};
 use crate::process_key::ProcessKey;
+use crate::row_key::RowKey;
 use crate::small_map::SmallMap;
 use dist_types::{Group, NodeName, OutOfMemory, Pid, Row, TryClone};
 use indexmap::IndexMap;
@@ -28,8 +29,8 @@ pub struct HashedRows {
     pub(crate) counts: IndexMap<Row, u32>,
     /// For each group its processes, with the same counts.
     pub(crate) groups: BTreeMap<Group, SmallMap<ProcessKey, u32>>,
-    /// For each process copies of its rows, which are the keys of the map where it exits.
-    pub(crate) processes: BTreeMap<ProcessKey, SmallMap<Row, ()>>,
+    /// For each process its groups.
+    pub(crate) processes: BTreeMap<ProcessKey, SmallMap<Group, ()>>,
 }
 
 impl Model for HashedRows {
@@ -60,20 +61,12 @@ impl HashedRows {
         })
     }
 
-    /// How often the row is counted.
-    pub fn count(&self, row: &Row) -> u32
-        ensures { result ≡ tally (is_row row.now.group row.now.pid) self.now.rows }
-    {
-        self.counts.get(row).copied().unwrap_or(0)
-    }
-
-    /// The same for a process of the node, whose row needn't be built.
-    pub fn count_in(&self, group: &Group, pid: &Pid) -> u32
-        requires { pid.now.node ≡ self.now.node }
+    /// How often the process is in the group.
+    pub fn count(&self, group: &Group, pid: &Pid) -> u32
         ensures { result ≡ tally (is_row group.now pid.now) self.now.rows }
     {
-        let key = ProcessKey::of(pid);
-        get(&self.groups, group, &key).copied().unwrap_or(0)
+        let at = RowKey { group, pid };
+        self.counts.get(at).copied().unwrap_or(0)
     }
 
     /// Puts a new row last.
@@ -85,11 +78,11 @@ impl HashedRows {
     {
         let alloc = self.alloc;
         let key = ProcessKey::of(&row.pid);
-        let copy = row.try_clone(alloc)?;
+        let group = row.group.try_clone(alloc)?;
         self.counts.reserve(1)?;
         put(alloc, &mut self.groups, &row.group, key, count)?;
-        let copied = put(alloc, &mut self.processes, &key, copy, ());
-        if copied.is_err() {
+        let named = put(alloc, &mut self.processes, &key, group, ());
+        if named.is_err() {
             take(&mut self.groups, &row.group, &key);
             return Err(OutOfMemory);
         }
@@ -224,7 +217,7 @@ impl HashedRows {
         ensures rows { bare_rows self.new.rows ≡ bare_rows self.old.rows }
         ensures node { self.new.node ≡ self.old.node }
     {
-        let count = self.count(row);
+        let count = self.count(&row.group, &row.pid);
         self.set(row, count + more);
     }
 
@@ -245,7 +238,7 @@ impl HashedRows {
         ensures counted { AreCounted self.old.rows → AreCounted self.new.rows }
         ensures node { self.new.node ≡ self.old.node }
     {
-        let count = self.count(&gone.row);
+        let count = self.count(&gone.row.group, &gone.row.pid);
         if count > gone.count {
             self.set(&gone.row, count - gone.count);
             return;
@@ -284,11 +277,12 @@ impl HashedRows {
         ensures node { self.new.node ≡ self.old.node }
     {
         let key = ProcessKey::of(pid);
-        let Some(row) = pop(&mut self.processes, &key) else {
+        let Some(group) = pop(&mut self.processes, &key) else {
             return None;
         };
-        take(&mut self.groups, &row.group, &key);
-        let count = self.counts.swap_remove(&row).unwrap_or(0);
+        take(&mut self.groups, &group, &key);
+        let at = RowKey { group: &group, pid };
+        let (row, count) = self.counts.swap_remove_entry(at).unwrap();
         Some(Counted { row, count })
     }
 }

@@ -56,8 +56,13 @@ fn counted_in_order(alloc: Global, rows: &[Row]) -> Result<Option<Vec<Counted>>,
 {
     let mut counted = Vec::with_capacity(alloc, rows.len())?;
     for row in rows {
-        if !count_next(&mut counted, row.try_clone(alloc)?)? {
-            return Ok(None);
+        match order_behind(&counted, row) {
+            Ordering::Less => counted.push(Counted {
+                row: row.try_clone(alloc)?,
+                count: 1,
+            })?,
+            Ordering::Equal => count_again(&mut counted),
+            Ordering::Greater => return Ok(None),
         }
     }
     Ok(Some(counted))

@@ -132,7 +132,7 @@ impl IndexedRows {
         ensures { result ≡ tally (is_row group.now pid.now) self.now }
     {
         match self.lists.get(&pid.node) {
-            Some(list) => list.rows().count_in(group, pid),
+            Some(list) => list.rows().count(group, pid),
             None => 0,
         }
     }

@@ -21,6 +21,7 @@ mod node_rows;
 mod process_key;
 mod queries;
 mod reads;
+mod row_key;
 mod row_reads;
 mod small_map;
 mod table;

@@ -1,24 +1,13 @@
 //! Ordered maps of small maps: a value at two keys.
 ghost use Rattle.std.specs.Prelude.{◌≡◌, ◌&&◌, cond, Some, None, OnOk, OnErr, IfSome, IsSome};
 ghost use Rattle.std.specs.Ordering.{eq_by_cmp};
-ghost use Rattle.std.specs.Option.{option_copied, IfNone};
+ghost use Rattle.std.specs.Option.{IfNone};
 ghost use Rattle.scope_core.specs.SmallMap.{find_in};
 
 use crate::small_map::SmallMap;
 use dist_types::{OutOfMemory, TryClone};
 use std::alloc::Global;
 use std::collections::BTreeMap;
-
-/// The value at both keys.
-pub fn get<'a, A: Ord + Drop, B: Ord + Drop, V: Drop>(
-    map: &'a BTreeMap<A, SmallMap<B, V>>,
-    outer: &A,
-    inner: &B,
-) -> Option<&'a V>
-    ensures { option_copied result ≡ find_in A.cmp B.cmp map.now outer.now inner.now }
-{
-    map.get(outer)?.get(inner)
-}
 
 /// Puts a value at both keys.
 pub fn put<A: Ord + Drop + TryClone, B: Ord + Drop, V: Drop>(

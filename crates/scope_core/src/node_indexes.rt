@@ -6,14 +6,13 @@ ghost use Rattle.std.specs.declared.cmp.Ordering.TheVariants.{Less};
 ghost use Rattle.std.specs.List.{AllByRecursion, IsDistinct};
 ghost use Rattle.std.specs.Map.{lookup, keys_of};
 ghost use Rattle.std.specs.BTreeMap.{get};
-ghost use Rattle.dist_types.specs.declared.row.Row.{Row};
-ghost use Rattle.dist_types.specs.Order.{text_cmp, row_cmp};
+ghost use Rattle.dist_types.specs.Order.{text_cmp};
 ghost use Rattle.dist_types.specs.Listing.{same_row, Rises, Ascends};
 ghost use Rattle.scope_core.specs.declared.process_key.ProcessKey.{ProcessKey};
 ghost use Rattle.scope_core.specs.Table.{counted_cmp};
 ghost use Rattle.scope_core.specs.SmallMap.{find, find_in};
 ghost use Rattle.scope_core.specs.Copies.{process_keys, keyed, keyed_maps, is_keyed, is_held, IsLastKey};
-ghost use Rattle.scope_core.specs.HashedRows.{key_cmp, key_of, pid_of, has_key, stands, entries_in};
+ghost use Rattle.scope_core.specs.HashedRows.{key_cmp, key_of, row_at, stands, entries_in};
 
 use crate::counted::Counted;
 use crate::nested_map::take;
@@ -32,7 +31,7 @@ pub fn groups_of(
 ) -> Result<BTreeMap<Group, SmallMap<ProcessKey, u32>>, OutOfMemory>
     requires { Rises counted_cmp rows.now }
     ensures { IfOk result (λ groups. (node : List ℕ) → AllByRecursion (λ c. c.row.pid.node ≡ node) rows.now → (g : List ℕ) (k : ProcessKey)
-        → find_in text_cmp key_cmp groups g k ≡ lookup (same_row (record { group = g; pid = pid_of node k })) (entries_in rows.now)) }
+        → find_in text_cmp key_cmp groups g k ≡ lookup (same_row (row_at node g k)) (entries_in rows.now)) }
 {
     let mut groups = Vec::new(alloc);
     let mut rest = rows;
@@ -50,7 +49,7 @@ pub fn groups_of(
 fn members_of(alloc: Global, rows: &[Counted]) -> Result<SmallMap<ProcessKey, u32>, OutOfMemory>
     requires { Rises counted_cmp rows.now }
     ensures { IfOk result (λ members. (node g : List ℕ) → AllByRecursion (λ c. (c.row.pid.node ≡ node) × (c.row.group ≡ g)) rows.now → (k : ProcessKey)
-        → find key_cmp members k ≡ lookup (same_row (record { group = g; pid = pid_of node k })) (entries_in rows.now)) }
+        → find key_cmp members k ≡ lookup (same_row (row_at node g k)) (entries_in rows.now)) }
 {
     if let [only] = rows {
         return Ok(SmallMap::One(ProcessKey::of(&only.row.pid), only.count));
@@ -72,22 +71,23 @@ fn map_of<K: Ord + Drop, V: Drop>(
     Ok(entries.into_iter().collect(alloc)?)
 }
 
-/// For each process copies of its rows.
+/// For each process its groups.
 pub fn processes_of(
     alloc: Global,
     rows: &[Counted],
-) -> Result<BTreeMap<ProcessKey, SmallMap<Row, ()>>, OutOfMemory>
+) -> Result<BTreeMap<ProcessKey, SmallMap<Group, ()>>, OutOfMemory>
     requires { Rises counted_cmp rows.now }
-    ensures { IfOk result (λ processes. (k : ProcessKey) (r : Row) → is_some (find_in key_cmp row_cmp processes k r) ≡ (has_key k r.pid && stands r rows.now)) }
+    ensures { IfOk result (λ processes. (node : List ℕ) → AllByRecursion (λ c. c.row.pid.node ≡ node) rows.now → (k : ProcessKey) (g : List ℕ)
+        → is_some (find_in key_cmp text_cmp processes k g) ≡ stands (row_at node g k) rows.now) }
 {
     // Those of one group rise as their processes do.
     if processes_rise(rows) {
         let map = map_of(alloc, maps_of(alloc, rows)?)?;
         return Ok(map);
     }
-    let mut copies = copies_of(alloc, rows)?;
-    copies.sort_by_key(|copy| copy.0)?;
-    let map = map_of(alloc, folded(alloc, copies)?)?;
+    let mut names = names_of(alloc, rows)?;
+    names.sort_by_key(|name| name.0)?;
+    let map = map_of(alloc, folded(alloc, names)?)?;
     Ok(map)
 }
 
@@ -116,67 +116,67 @@ fn is_above(key: &ProcessKey, last: &Option<ProcessKey>) -> bool
     }
 }
 
-/// Copies of the rows, each alone under the key of its process.
+/// The groups of the rows, each alone under the key of its process.
 fn maps_of(
     alloc: Global,
     rows: &[Counted],
-) -> Result<Vec<(ProcessKey, SmallMap<Row, ()>)>, OutOfMemory>
+) -> Result<Vec<(ProcessKey, SmallMap<Group, ()>)>, OutOfMemory>
     ensures { IfOk result (λ maps. maps.items ≡ keyed_maps rows.now) }
 {
     let mut maps = Vec::with_capacity(alloc, rows.len())?;
     for counted in rows {
-        let copy = counted.row.try_clone(alloc)?;
-        maps.push((ProcessKey::of(&counted.row.pid), SmallMap::One(copy, ())))?;
+        let group = counted.row.group.try_clone(alloc)?;
+        maps.push((ProcessKey::of(&counted.row.pid), SmallMap::One(group, ())))?;
     }
     Ok(maps)
 }
 
-/// Copies of the rows, each with the key of its process.
-fn copies_of(alloc: Global, rows: &[Counted]) -> Result<Vec<(ProcessKey, Row)>, OutOfMemory>
-    ensures { IfOk result (λ copies. copies.items ≡ keyed rows.now) }
+/// The groups of the rows, each with the key of its process.
+fn names_of(alloc: Global, rows: &[Counted]) -> Result<Vec<(ProcessKey, Group)>, OutOfMemory>
+    ensures { IfOk result (λ names. names.items ≡ keyed rows.now) }
 {
-    let mut copies = Vec::with_capacity(alloc, rows.len())?;
+    let mut names = Vec::with_capacity(alloc, rows.len())?;
     for counted in rows {
-        let copy = counted.row.try_clone(alloc)?;
-        copies.push((ProcessKey::of(&counted.row.pid), copy))?;
+        let group = counted.row.group.try_clone(alloc)?;
+        names.push((ProcessKey::of(&counted.row.pid), group))?;
     }
-    Ok(copies)
+    Ok(names)
 }
 
 /// Those of the same process, which stand beside one another, in one map.
 fn folded(
     alloc: Global,
-    copies: Vec<(ProcessKey, Row)>,
-) -> Result<Vec<(ProcessKey, SmallMap<Row, ()>)>, OutOfMemory>
-    requires { Ascends key_cmp (keys_of copies.items) }
+    names: Vec<(ProcessKey, Group)>,
+) -> Result<Vec<(ProcessKey, SmallMap<Group, ()>)>, OutOfMemory>
+    requires { Ascends key_cmp (keys_of names.items) }
     ensures rises { IfOk result (λ all. Rises key_cmp (keys_of all.items)) }
-    ensures held { IfOk result (λ all. (k : ProcessKey) (r : Row) → is_held k r all.items ≡ is_keyed k r copies.items) }
+    ensures held { IfOk result (λ all. (k : ProcessKey) (g : List ℕ) → is_held k g all.items ≡ is_keyed k g names.items) }
 {
-    let mut all = Vec::with_capacity(alloc, copies.len())?;
-    for (key, row) in copies {
-        add_copy(alloc, &mut all, key, row)?;
+    let mut all = Vec::with_capacity(alloc, names.len())?;
+    for (key, group) in names {
+        add_name(alloc, &mut all, key, group)?;
     }
     Ok(all)
 }
 
-/// Puts a row into the last map, if that is its process's, else into one of its own behind it.
-fn add_copy(
+/// Puts a group into the last map, if that is its process's, else into one of its own behind it.
+fn add_name(
     alloc: Global,
-    all: &mut Vec<(ProcessKey, SmallMap<Row, ()>)>,
+    all: &mut Vec<(ProcessKey, SmallMap<Group, ()>)>,
     key: ProcessKey,
-    row: Row,
+    group: Group,
 ) -> Result<(), OutOfMemory>
-    ensures held { OnOk result ((k : ProcessKey) (r : Row) → is_held k r all.new.items ≡ (is_held k r all.old.items || (is_eq (key_cmp k key) && eq_by_cmp row_cmp row r))) }
+    ensures held { OnOk result ((k : ProcessKey) (g : List ℕ) → is_held k g all.new.items ≡ (is_held k g all.old.items || (is_eq (key_cmp k key) && eq_by_cmp text_cmp group g))) }
     ensures last { OnOk result (IsLastKey key (keys_of all.new.items)) }
     ensures rises { OnOk result (Rises key_cmp (keys_of all.old.items) → ((l : ProcessKey) → IsLastKey l (keys_of all.old.items) → is_gt (key_cmp l key) ≡ false)
         → Rises key_cmp (keys_of all.new.items)) }
 {
     if let Some(last) = all.last_mut() {
         if last.0 == key {
-            return last.1.insert(alloc, row, ());
+            return last.1.insert(alloc, group, ());
         }
     }
-    all.push((key, SmallMap::One(row, ())))?;
+    all.push((key, SmallMap::One(group, ())))?;
     Ok(())
 }
 
@@ -195,13 +195,13 @@ pub fn counts_of(alloc: Global, rows: Vec<Counted>) -> Result<IndexMap<Row, u32>
 /// Takes a row out of both indexes.
 pub fn forget(
     groups: &mut BTreeMap<Group, SmallMap<ProcessKey, u32>>,
-    processes: &mut BTreeMap<ProcessKey, SmallMap<Row, ()>>,
+    processes: &mut BTreeMap<ProcessKey, SmallMap<Group, ()>>,
     row: &Row,
 )
     ensures groups { (g : List ℕ) (k : ProcessKey) → find_in text_cmp key_cmp groups.new g k ≡ cond (eq_by_cmp text_cmp row.now.group g && eq_by_cmp key_cmp (key_of row.now.pid) k) None (find_in text_cmp key_cmp groups.old g k) }
-    ensures processes { (k : ProcessKey) (r : Row) → find_in key_cmp row_cmp processes.new k r ≡ cond (eq_by_cmp key_cmp (key_of row.now.pid) k && eq_by_cmp row_cmp row.now r) None (find_in key_cmp row_cmp processes.old k r) }
+    ensures processes { (k : ProcessKey) (g : List ℕ) → find_in key_cmp text_cmp processes.new k g ≡ cond (eq_by_cmp key_cmp (key_of row.now.pid) k && eq_by_cmp text_cmp row.now.group g) None (find_in key_cmp text_cmp processes.old k g) }
 {
     let key = ProcessKey::of(&row.pid);
     take(groups, &row.group, &key);
-    take(processes, &key, row);
+    take(processes, &key, &row.group);
 }

@@ -86,7 +86,7 @@ impl NodeRows {
         ensures same { self.new ≡ self.old }
     {
         if let [row] = gone {
-            return self.rows.count(row) > 0;
+            return self.rows.count(&row.group, &row.pid) > 0;
         }
         self.rows.are_all_in(gone)
     }

@@ -4,11 +4,11 @@ ghost use Rattle.std.specs.List.Sorted.{IsStrictlySortedBy};
 ghost use Rattle.std.specs.Map.{keys_of};
 ghost use Rattle.std.specs.BTreeMap.{get};
 ghost use Rattle.dist_types.specs.declared.pid.Pid.{Pid};
-ghost use Rattle.dist_types.specs.Order.{text_cmp, pid_cmp, row_cmp};
+ghost use Rattle.dist_types.specs.Order.{text_cmp, pid_cmp};
 ghost use Rattle.dist_types.specs.Listing.{same, same_pid, how_many, mentions, Rises, Ascends};
 ghost use Rattle.dist_types.specs.Difference.{IsDifference};
 ghost use Rattle.scope_core.specs.Table.{tally, is_row, counted_cmp, AreCounted, IsKept};
-ghost use Rattle.scope_core.specs.Added.{HasRoomFor};
+ghost use Rattle.scope_core.specs.Added.{row_in, HasRoomFor};
 ghost use Rattle.scope_core.specs.Indexed.{has_members};
 ghost use Rattle.scope_core.specs.SmallMap.{entries_of};
 ghost use Rattle.scope_core.specs.HashedRows.{with_counts};
@@ -88,40 +88,47 @@ impl HashedRows {
         ensures kept { IfOk result (λ rows. IsKept rows.items) }
         ensures counts { IfOk result (λ rows. (g : List ℕ) (p : Pid) → tally (is_row g p) rows.items ≡ cond (same_pid p pid.now) (tally (is_row g p) self.now.rows) 0) }
     {
-        let Some(copies) = self.processes.get(&ProcessKey::of(pid)) else {
+        let Some(groups) = self.processes.get(&ProcessKey::of(pid)) else {
             return Ok(Vec::new(self.alloc));
         };
-        self.counted_all(copies)
+        self.counted_all(groups, pid)
     }
 
-    /// Copies of rows, each with its count.
-    fn counted_all(&self, copies: &SmallMap<Row, ()>) -> Result<Vec<Counted>, OutOfMemory>
-        ensures rows { IfOk result (λ rows. rows.items ≡ with_counts self.now.rows (keys_of (entries_of copies.now))) }
-        ensures ordered { IfOk result (λ _. IsStrictlySortedBy row_cmp (keys_of (entries_of copies.now))) }
+    /// The rows of a process in these groups, each with its count.
+    fn counted_all(
+        &self,
+        groups: &SmallMap<Group, ()>,
+        pid: &Pid,
+    ) -> Result<Vec<Counted>, OutOfMemory>
+        ensures rows { IfOk result (λ rows. rows.items ≡ with_counts self.now.rows pid.now (keys_of (entries_of groups.now))) }
+        ensures ordered { IfOk result (λ _. IsStrictlySortedBy text_cmp (keys_of (entries_of groups.now))) }
     {
-        match copies {
+        match groups {
             SmallMap::Empty => Ok(Vec::new(self.alloc)),
-            SmallMap::One(row, _) => {
-                let counted = self.counted(row)?;
+            SmallMap::One(group, _) => {
+                let counted = self.counted(group, pid)?;
                 Ok(vec![in self.alloc; counted]?)
             }
             SmallMap::Many(map) => {
                 let mut rows = Vec::with_capacity(self.alloc, map.len())?;
-                for (row, _) in map {
-                    rows.push(self.counted(row)?)?;
+                for (group, _) in map {
+                    rows.push(self.counted(group, pid)?)?;
                 }
                 Ok(rows)
             }
         }
     }
 
-    /// A copy of a row, with its count.
-    fn counted(&self, row: &Row) -> Result<Counted, OutOfMemory>
-        ensures { IfOk result (λ c. c ≡ record { row = row.now; count = tally (is_row row.now.group row.now.pid) self.now.rows }) }
+    /// The row of a group and a process, with its count.
+    fn counted(&self, group: &Group, pid: &Pid) -> Result<Counted, OutOfMemory>
+        ensures { IfOk result (λ c. c ≡ record { row = row_in group.now pid.now; count = tally (is_row group.now pid.now) self.now.rows }) }
     {
         Ok(Counted {
-            row: row.try_clone(self.alloc)?,
-            count: self.count(row),
+            row: Row {
+                group: group.try_clone(self.alloc)?,
+                pid: pid.try_clone(self.alloc)?,
+            },
+            count: self.count(group, pid),
         })
     }
 

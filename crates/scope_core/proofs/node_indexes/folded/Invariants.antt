@@ -1,6 +1,6 @@
 use Rattle.scope_core.proofs
 use proofs.Words.{AllByRecursion, Ascends, false, is_gt, is_held, is_keyed, IsLastKey, key_cmp}
-use proofs.Words.{keys_of, ProcessKey, Rises, Row, ◌||◌, ◌≡◌}
+use proofs.Words.{keys_of, List, ProcessKey, Rises, ℕ, ◌||◌, ◌≡◌}
 use Rattle.std.specs.Vec.Iter.{into_iter_items}
 use Rattle.scope_core.proofs.node_indexes.folded.Given as goal
 
@@ -12,7 +12,7 @@ invariant-loop-key l = record {
   above : (k : ProcessKey) → IsLastKey k (keys_of l.all.items)
       → AllByRecursion (λ q. is_gt (key_cmp k q) ≡ false)
       (keys_of (into_iter_items l.key-iterator));
-  held : (k : ProcessKey) (r : Row)
-      → (is_held k r l.all.items || is_keyed k r (into_iter_items l.key-iterator))
-      ≡ is_keyed k r l.fn.copies.items;
+  held : (k : ProcessKey) (g : List ℕ)
+      → (is_held k g l.all.items || is_keyed k g (into_iter_items l.key-iterator))
+      ≡ is_keyed k g l.fn.names.items;
 }

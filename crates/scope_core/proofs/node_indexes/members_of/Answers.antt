@@ -1,6 +1,6 @@
 use Rattle.scope_core.proofs
 use proofs.Words.{ap, arith, cond, entries_in, eq_by_cmp, is_eq, key_cmp, keys_of, lookup, None}
-use proofs.Words.{pid_of, same_row, Some, subst, sym, take_all, [], ◌∙◌, ◌∷◌}
+use proofs.Words.{row_at, same_row, Some, subst, sym, take_all, [], ◌∙◌, ◌∷◌}
 use Rattle.std.specs.List.{IsDistinct}
 use proofs.Making.{alone, OfOne, pairs, pairs_apart, pairs_lookup}
 use Rattle.scope_core.proofs.node_indexes.members_of.Goals as goal
@@ -14,7 +14,7 @@ returns-in-len1 c = λ node g own k.
     in
     let found = pairs_lookup node g k (only ∷ []) (subst (OfOne node g) one own) in
     ap (λ q. cond (is_eq (key_cmp k q)) (Some only.count) None) c.of.ensures ∙ found
-    ∙ ap (λ rs. lookup (same_row (record { group = g; pid = pid_of node k })) (entries_in rs))
+    ∙ ap (λ rs. lookup (same_row (row_at node g k)) (entries_in rs))
     (sym one)
 
 pub returns : goal.returns

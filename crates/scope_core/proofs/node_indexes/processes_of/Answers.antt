@@ -1,7 +1,7 @@
 use Rattle.scope_core.proofs
 use proofs.Words.{always_returns_same, ap, get, is_held, key_cmp, keys_of, refl, Rises, rules}
 use proofs.Words.{subst, sym, ◌∙◌}
-use proofs.Copies.{copies_found, keyed_sorted, keys_of_maps, maps_are, sorted_keys}
+use proofs.Copies.{keyed_sorted, keys_of_maps, maps_are, names_found, sorted_keys}
 use Rattle.scope_core.proofs.node_indexes.processes_of.Goals as goal
 
 pub returns-then-processes_rise : goal.returns-then-processes_rise
@@ -10,9 +10,9 @@ returns-then-processes_rise c =
     let es = c.in_ok-maps_of.field-0.items in
     let is = c.in_ok-maps_of.ensures in
     let keys = ap keys_of is ∙ keys_of_maps rows in
-    copies_found rows es (get key_cmp c.in_ok-map.map) c.in_ok-map.ensures
+    names_found rows es (get key_cmp c.in_ok-map.map) c.in_ok-map.ensures
     (subst (Rises key_cmp) (sym keys) (c.if-processes_rise.ensures refl))
-    (λ k r. ap (is_held k r) is ∙ maps_are k r rows)
+    (λ k g. ap (is_held k g) is ∙ maps_are k g rows)
 
 pub folded-requires : goal.folded-requires
 folded-requires c =
@@ -23,8 +23,8 @@ folded-requires c =
 pub returns : goal.returns
 returns c =
     let rows = c.args.rows.now in
-    copies_found rows c.in_ok-folded.field-0.items (get key_cmp c.in_ok-map-2.map)
+    names_found rows c.in_ok-folded.field-0.items (get key_cmp c.in_ok-map-2.map)
     c.in_ok-map-2.ensures c.in_ok-folded.ensures.rises
-    (λ k r. c.in_ok-folded.ensures.held k r
-    ∙ keyed_sorted k r rows c.in_ok-copies.copies.items c.sort_by_key.new.self.items
-    c.in_ok-copies.ensures c.in_ok-sort_by_key.ensures.permutation)
+    (λ k g. c.in_ok-folded.ensures.held k g
+    ∙ keyed_sorted k g rows c.in_ok-names.names.items c.sort_by_key.new.self.items
+    c.in_ok-names.ensures c.in_ok-sort_by_key.ensures.permutation)

@@ -10,7 +10,7 @@ invariant_of-result c =
     let by_process = rw c.deref-2.ensures.value at c.in_ok-processes.ensures in
     hashed_of node c.args.rows.items c.in_ok-counts_of.field-0.entries c.in_ok-groups.groups
     c.in_ok-processes.processes c.requires.own c.requires.rises c.in_ok-counts_of.ensures
-    (by_group node c.requires.own) by_process
+    (by_group node c.requires.own) (by_process node c.requires.own)
 
 pub returns : goal.returns
 returns c =

@@ -12,4 +12,4 @@ invariant_of-self-2 c =
     ∙ last_there c.pop.new.self.entries row c.in-Some.field-0-1 in
     hashed_write c.self.invariant row (own_at _ row _ c.self.invariant.own there) None _ _ _
     c.in-Some.ensures.unique c.in-Some.ensures.updates.0 c.forget.ensures.groups
-    (λ k r. some_cond _ _ _ _ (c.forget.ensures.processes k r))
+    (λ k g. some_cond _ _ _ _ (c.forget.ensures.processes k g))

@@ -1,75 +1,95 @@
 use Rattle.scope_core.proofs
-use proofs.Words.{ap, arith, common_steps, false, has_key, has_row, is_some, key_of, length-map}
-use proofs.Words.{lookup, NodeTable, None, Row, same_decides, same_pid_decides, same_row, subst}
-use proofs.Words.{sym, true, unwrap_or, ◌&&◌, ◌∙◌, ◌≡◌}
-use proofs.HashedRows.{count_is, own_at, some_cond, taken_counted, taken_tally}
-use proofs.HashedWrites.{hashed_write, none_of}
+use proofs.Words.{ap, arith, has_row, is_some, length-map, lookup, NodeTable, None, Option}
+use proofs.Words.{refl, Row, row_in, same_row, same_row_decides, Some, sym, true, unwrap_or}
+use proofs.Words.{ℕ, ◌∙◌, ◌≡◌}
+use Rattle.std.specs.Option.{option_map}
+use Rattle.std.proofs.lemmas.Map.Made.{lookup_key_same}
+use proofs.HashedRows.{count_is, some_cond, taken_counted, taken_tally}
+use proofs.HashedWrites.{hashed_write, none_of, row_of}
+use Rattle.scope_core.proofs.hashed_rows.HashedRows.pop_of.Goals.{After-unwrap-row, In-Some}
 use Rattle.scope_core.proofs.hashed_rows.HashedRows.pop_of.Goals as goal
+
+some_of : {A B : Type 0} (f : A → B) (o : Option A) → is_some (option_map f o) ≡ true
+    → is_some o ≡ true
+some_of f None e = e
+some_of f (Some a) e = refl
+
+-- the row of the process in the group is there
+there : (c : In-Some)
+    → has_row c.self.inside.counts.entries (row_in c.in-Some.group c.args.pid.now) ≡ true
+there c =
+    let own = c.requires ∙ sym (ap (λ (t : NodeTable). t.node) c.self.view_is) in
+    sym (row_of c.self.inside.node c.in-Some.group c.args.pid.now c.of-key.result
+    c.self.inside.counts.entries own c.of-key.ensures)
+    ∙ sym (c.self.invariant.by_process c.of-key.result c.in-Some.group) ∙ c.in-Some.ensures.found
+
+-- and it is taken out
+taken : (c : After-unwrap-row) → row_in c.in-Some.group c.args.pid.now ≡ c.unwrap-row.result.0
+taken c =
+    lookup_key_same same_row_decides (row_in c.in-Some.group c.args.pid.now)
+    c.self.inside.counts.entries c.unwrap-row.result.0
+    (sym c.swap_remove_entry.ensures.key
+    ∙ ap (option_map (λ (e : Row × ℕ). e.0)) c.unwrap-row.ensures)
+
+pub unwrap-row-requires : goal.unwrap-row-requires
+unwrap-row-requires c =
+    some_of (λ (e : Row × ℕ). e.1) c.swap_remove_entry.result
+    (ap is_some c.swap_remove_entry.ensures.value
+    ∙ there (goal.at.unwrap-row-requires c).In-Some)
 
 pub invariant_of-self-2 : goal.invariant_of-self-2
 invariant_of-self-2 c =
-    let row = c.in-Some.row in
-    let found = sym (c.self.invariant.by_process c.of-key.result row) ∙ c.in-Some.ensures.found in
-    let there : has_row c.self.inside.counts.entries row ≡ true = grind (arith, found) in
-    let key : key_of row.pid ≡ c.of-key.result = grind (arith, found) in
-    let took = rw (← key) at c.take.ensures in
-    let popped = rw (← key) at c.in-Some.ensures.taken in
-    hashed_write c.self.invariant row (own_at _ row _ c.self.invariant.own there) None _ _ _
-    c.swap_remove.ensures.unique c.swap_remove.ensures.updates.0 took
-    (λ k r. some_cond _ _ _ _ (popped k r))
+    let own = c.requires ∙ sym (ap (λ (t : NodeTable). t.node) c.self.view_is) in
+    let took = rw c.of-key.ensures at c.take.ensures in
+    let popped = rw c.of-key.ensures at c.in-Some.ensures.taken in
+    hashed_write c.self.invariant (row_in c.in-Some.group c.args.pid.now) own None _ _ _
+    c.swap_remove_entry.ensures.unique c.swap_remove_entry.ensures.updates.0 took
+    (λ k g. some_cond _ _ _ _ (popped k g))
 
 pub returns-in_default-clause-none : goal.returns-in_default-clause-none
 returns-in_default-clause-none c =
     let es = c.self.inside.counts.entries in
-    let none : (r : Row) → (has_key c.of-key.result r.pid && has_row es r) ≡ false =
-    λ r. sym (c.self.invariant.by_process c.of-key.result r)
-    ∙ ap is_some (c.in_default.ensures.none r) in
-    let mine =
-    subst (λ k. (r : Row) → (has_key k r.pid && has_row es r) ≡ false) c.of-key.ensures none in
-    rw (← c.self.view_is) (none_of c.args.pid.now es mine)
+    let p = c.args.pid.now in
+    let own = c.requires ∙ sym (ap (λ (t : NodeTable). t.node) c.self.view_is) in
+    rw (← c.self.view_is) (none_of p es
+    (λ g. sym (row_of c.self.inside.node g p c.of-key.result es own c.of-key.ensures)
+    ∙ sym (c.self.invariant.by_process c.of-key.result g)
+    ∙ ap is_some (c.in_default.ensures.none g)))
 
 pub returns-clause-gone : goal.returns-clause-gone
 returns-clause-gone c = λ test.
     let es = c.self.inside.counts.entries in
-    let row = c.in-Some.row in
-    let taken =
-    taken_tally row es c.swap_remove.new.self.entries c.self.invariant.once
-    c.swap_remove.ensures.unique c.swap_remove.ensures.updates.0 test in
-    let value : c.unwrap_or-count.result ≡ unwrap_or (lookup (same_row row) es) 0 =
-    grind (arith, common_steps, c.swap_remove.ensures.value) in
-    rw (← c.self.view_is) (grind (arith, taken, value, count_is row es c.self.invariant.once))
+    let row = row_in c.in-Some.group c.args.pid.now in
+    let is = ap test (taken (goal.at.returns-clause-gone c).After-unwrap-row) in
+    let less =
+    taken_tally row es c.swap_remove_entry.new.self.entries c.self.invariant.once
+    c.swap_remove_entry.ensures.unique c.swap_remove_entry.ensures.updates.0 test in
+    let value : lookup (same_row row) es ≡ Some c.unwrap-row.result.1 =
+    sym c.swap_remove_entry.ensures.value
+    ∙ ap (option_map (λ (e : Row × ℕ). e.1)) c.unwrap-row.ensures in
+    let count = count_is row es c.self.invariant.once ∙ ap (λ o. unwrap_or o 0) value in
+    rw (← c.self.view_is) (grind (arith, less, count, is))
 
 pub returns-clause-process : goal.returns-clause-process
 returns-clause-process c =
-    let row = c.in-Some.row in
-    let p = c.args.pid.now in
-    let found = sym (c.self.invariant.by_process c.of-key.result row) ∙ c.in-Some.ensures.found in
-    let there : has_row c.self.inside.counts.entries row ≡ true = grind (arith, found) in
-    let own =
-    own_at c.self.inside.node row c.self.inside.counts.entries c.self.invariant.own there in
-    let n = c.requires ∙ sym (ap (λ (t : NodeTable). t.node) c.self.view_is) in
-    (same_pid_decides row.pid p).0
-    (grind (arith, found, own, n, same_decides row.pid.node p.node, c.of-key.ensures))
+    ap (λ (r : Row). r.pid) (sym (taken (goal.at.returns-clause-process c).After-unwrap-row))
 
 pub returns-clause-fewer : goal.returns-clause-fewer
 returns-clause-fewer c =
-    let es = c.self.inside.counts.entries in
-    let found =
-    sym (c.self.invariant.by_process c.of-key.result c.in-Some.row) ∙ c.in-Some.ensures.found in
-    let there : has_row es c.in-Some.row ≡ true = grind (arith, found) in
     rw (← c.self.view_is)
-    (grind (arith, there, c.swap_remove.ensures.len, c.swap_remove.ensures.value, length-map))
+    (grind (arith, c.unwrap-row.ensures, c.swap_remove_entry.ensures.len, length-map))
 
 pub returns-clause-counted : goal.returns-clause-counted
 returns-clause-counted c =
     rw (← c.self.view_is)
-    (taken_counted c.in-Some.row c.self.inside.counts.entries c.swap_remove.new.self.entries
-    c.swap_remove.ensures.unique c.swap_remove.ensures.updates.0)
+    (taken_counted (row_in c.in-Some.group c.args.pid.now) c.self.inside.counts.entries
+    c.swap_remove_entry.new.self.entries c.swap_remove_entry.ensures.unique
+    c.swap_remove_entry.ensures.updates.0)
 
 pub invariant_of-self : goal.invariant_of-self
 invariant_of-self c = record {
   once = c.self.invariant.once;
   own = c.self.invariant.own;
   by_group = c.self.invariant.by_group;
-  by_process = λ k r. ap is_some (c.in_default.ensures.same k r) ∙ c.self.invariant.by_process k r;
+  by_process = λ k g. ap is_some (c.in_default.ensures.same k g) ∙ c.self.invariant.by_process k g;
 }

@@ -24,15 +24,15 @@ invariant_of-self-then-is_err c =
     let put = rw c.of-key.ensures at c.in_ok-put.ensures.ok in
     let took = rw c.of-key.ensures at c.take.ensures in
     let same =
-    from_err c.put-copied.result
-    (sym c.is_err.ensures.value ∙ c.if-is_err.true) c.put-copied.ensures.same in
+    from_err c.put-named.result
+    (sym c.is_err.ensures.value ∙ c.if-is_err.true) c.put-named.ensures.same in
     rw c.reserve.ensures.entries (record {
       once = c.self.invariant.once;
       own = c.self.invariant.own;
       by_group =
           λ g k. back_group c.self.inside.node g k c.args.row own es c.args.count _ _ _ fresh
           (c.self.invariant.by_group g k) (put g k) (took g k);
-      by_process = λ k r. ap is_some (same k r) ∙ c.self.invariant.by_process k r;
+      by_process = λ k g. ap is_some (same k g) ∙ c.self.invariant.by_process k g;
     })
 
 pub invariant_of-self-2 : goal.invariant_of-self-2
@@ -44,12 +44,12 @@ invariant_of-self-2 c =
     let there =
     rw c.reserve.ensures.entries at (from_ok c.insert.result done c.insert.ensures.updates).0 in
     let put = rw c.of-key.ensures at c.in_ok-put.ensures.ok in
-    let copied =
-    rw (c.in_ok-copy.ensures, c.of-key.ensures) at
-    (from_not_err c.put-copied.result
-    (sym c.is_err.ensures.value ∙ c.if-is_err.false) c.put-copied.ensures.ok) in
+    let named =
+    rw (c.in_ok-group.ensures, c.of-key.ensures) at
+    (from_not_err c.put-named.result
+    (sym c.is_err.ensures.value ∙ c.if-is_err.false) c.put-named.ensures.ok) in
     hashed_write c.self.invariant row own (Some c.args.count) _ _ _ c.insert.ensures.unique there
-    put (λ k r. some_cond _ _ _ _ (copied k r))
+    put (λ k g. some_cond _ _ _ _ (named k g))
 
 pub returns-clause-ok : goal.returns-clause-ok
 returns-clause-ok c =

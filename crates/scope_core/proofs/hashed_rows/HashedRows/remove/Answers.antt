@@ -11,7 +11,7 @@ invariant_of-self-2 c =
     grind (arith, common_steps, c.swap_remove.ensures.value) in
     hashed_write c.self.invariant row (own_at _ row _ c.self.invariant.own there) None _ _ _
     c.swap_remove.ensures.unique c.swap_remove.ensures.updates.0 c.forget.ensures.groups
-    (λ k r. some_cond _ _ _ _ (c.forget.ensures.processes k r))
+    (λ k g. some_cond _ _ _ _ (c.forget.ensures.processes k g))
 
 pub returns-clause-tallies : goal.returns-clause-tallies
 returns-clause-tallies c = λ test.

@@ -1,8 +1,8 @@
 use Rattle.scope_core.proofs
-use proofs.Words.{ap, arith, cond, counted_in, has_row, is_some, lookup, NodeTable, pid_of}
-use proofs.Words.{same_row, set_value, Some, stands, sym, tally, true, ◌+◌, ◌∙◌, ◌≡◌}
-use proofs.HashedRows.{count_is, kept_copy, own_at, set_bare, set_tally, stands_is}
-use proofs.HashedWrites.{at_row, hashed_write, set_counted}
+use proofs.Words.{ap, arith, cond, counted_in, has_row, is_some, lookup, NodeTable}
+use proofs.Words.{row_at, same_row, set_value, Some, stands, sym, tally, true, ◌+◌, ◌∙◌, ◌≡◌}
+use proofs.HashedRows.{count_is, own_at, set_bare, set_tally, stands_is}
+use proofs.HashedWrites.{at_row, hashed_write, named_still, set_counted}
 use Rattle.scope_core.proofs.hashed_rows.HashedRows.set.Goals.{After-self}
 use Rattle.scope_core.proofs.hashed_rows.HashedRows.set.Goals as goal
 
@@ -19,8 +19,7 @@ set-requires c =
     let node = c.self.inside.node in
     let is = there (goal.at.set-requires c).After-self in
     let found = c.self.invariant.by_group row.group c.of-key.result
-    ∙ (λ i. lookup (same_row (record { group = row.group; pid = pid_of node (c.of-key.ensures i) }))
-    es)
+    ∙ (λ i. lookup (same_row (row_at node row.group (c.of-key.ensures i))) es)
     ∙ ap (λ r. lookup (same_row r) es)
     (at_row node row (own_at node row es c.self.invariant.own is))
     in
@@ -34,7 +33,8 @@ invariant_of-self-2 c =
     hashed_write c.self.invariant row (own_at _ row _ c.self.invariant.own is) (Some c.args.count)
     _ _ _ holds.4 (holds.3 (ap is_some (sym c.in-Some.ensures.value))).0
     (rw c.of-key.ensures at c.set.ensures)
-    (λ k r. kept_copy k row r _ _ (c.self.invariant.by_process k r) is)
+    (λ k g. named_still c.self.inside.node g k row (own_at _ row _ c.self.invariant.own is)
+    c.self.inside.counts.entries _ (c.self.invariant.by_process k g) is)
 
 pub returns-clause-tallies : goal.returns-clause-tallies
 returns-clause-tallies c = λ test.

@@ -11,7 +11,7 @@ returns-in-Some c =
     c.in-Some.ensures.rows in
     let same = ap (λ (t : NodeTable). tally (is_row g p) t.rows) c.rows.ensures.rows in
     rw (← c.self.view_is)
-    (grind (arith, c.count_in.ensures, same, mine, same_decides p.node p.node))
+    (grind (arith, c.count.ensures, same, mine, same_decides p.node p.node))
 
 pub returns-in-None : goal.returns-in-None
 returns-in-None c =

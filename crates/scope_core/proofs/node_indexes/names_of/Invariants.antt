@@ -1,6 +1,6 @@
 use Rattle.scope_core.proofs.Words.{keyed, take, ◌≡◌}
-use Rattle.scope_core.proofs.node_indexes.copies_of.Given as goal
+use Rattle.scope_core.proofs.node_indexes.names_of.Given as goal
 
 -- those of the rows so far
 abbrev pub invariant-loop-counted : goal.invariant-loop-counted
-invariant-loop-counted l = l.copies.items ≡ keyed (take l.counted-index l.rows)
+invariant-loop-counted l = l.names.items ≡ keyed (take l.counted-index l.rows)
