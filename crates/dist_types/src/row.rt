@@ -9,16 +9,10 @@ use std::alloc::Global;
 pub const MAX_ROWS: usize = 4096;
 
 /// One membership of a process in a group.
-#[derive(Debug, PartialEq, Eq, PartialOrd, Ord, Hash)]
+#[derive(Debug, PartialEq, Eq, PartialOrd, Ord, Hash, Drop)]
 pub struct Row {
     pub group: Group,
     pub pid: Pid,
-}
-
-impl Drop for Row {
-    fn drop(self) {
-        let Row { group: _, pid: _ } = self;
-    }
 }
 
 impl TryClone for Row {

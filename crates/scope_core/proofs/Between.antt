@@ -8,14 +8,6 @@ use proofs.Words.{tally, Tells, text_cmp, texts_total, times_beyond, total, true
 use proofs.Words.{◌-◌, ◌<◌, ◌∙◌, ◌∷◌, ◌≡◌}
 use proofs.Rising.{all_unmapped, once, row_is, tally_absent}
 
--- the change where the processes that are hit leave all groups, and some are their rows
-pub part_told : (hit : Pid → Bool) (cs some : List Counted)
-    → ((g : List ℕ) (p : Pid) → tally (is_row g p) some ≡ cond (hit p) (tally (is_row g p) cs) 0)
-    → (changes : List GroupChange) → Tells some [] changes
-    → IsDifference (λ g p. tally (is_row g p) cs)
-    (λ g p. cond (hit p) 0 (tally (is_row g p) cs)) changes
-part_told hit cs some is changes told = told _ _ (λ g p. grind (arith, is g p)) (λ g p. grind arith)
-
 -- what holds of each that is among them holds of all
 all_among : (P : List ℕ → Type 0) (gs : List (List ℕ)) → ((g : List ℕ) → is_among g gs ≡ true → P g)
     → AllByRecursion P gs

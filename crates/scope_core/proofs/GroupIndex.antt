@@ -1,13 +1,13 @@
 -- What the index of groups counts: the rows of the node, and what changes where all leave.
 use Rattle.scope_core.proofs
-use proofs.Words.{AllByRecursion, ap, append-nil, arith, Ascends, BTreeMap, change_unless_empty}
-use proofs.Words.{cond, counted_in, entries_of, false, flat_map, group_rows, GroupChange, how_many}
-use proofs.Words.{how_many_append, is_row, IsDifference, IsHashed, IsProper, key_cmp, key_of}
-use proofs.Words.{keys_of, length, Less, List, map, mentions, Pid, pid_cmp, pid_of, pids_total}
-use proofs.Words.{ProcessKey, refl, Rises, Row, row_in, same, same_decides, same_row, SmallMap}
-use proofs.Words.{spread, spread_ascends, spread_counts, subst, sym, tally, text_cmp, texts_total}
-use proofs.Words.{tied_itself, times_joined, times_left, true, ℕ, [], ◌++◌, ◌-◌, ◌==◌, ◌∙◌, ◌∷◌}
-use proofs.Words.{◌≡◌}
+use proofs.Words.{all_append, AllByRecursion, ap, append-nil, arith, Ascends, BTreeMap}
+use proofs.Words.{change_unless_empty, cond, counted_in, entries_of, false, flat_map, group_rows}
+use proofs.Words.{GroupChange, how_many, how_many_append, is_gt, is_row, IsDifference, IsHashed}
+use proofs.Words.{IsProper, key_cmp, key_of, keys_of, length, Less, List, map, mentions, Pid}
+use proofs.Words.{pid_cmp, pid_of, pids_total, ProcessKey, refl, replicate, Rises, Row, row_in}
+use proofs.Words.{same, same_decides, same_row, SmallMap, spread, spread_ascends, spread_counts}
+use proofs.Words.{subst, suc, sym, tally, text_cmp, texts_total, tied_itself, times_joined}
+use proofs.Words.{times_left, true, zero, ℕ, [], ◌++◌, ◌-◌, ◌==◌, ◌∙◌, ◌∷◌, ◌≡◌}
 use Rattle.std.specs.List.Sorted.{IsStrictlySortedBy}
 use proofs.HashedWrites.{in_group_count}
 use proofs.Tallies.{none_mentioned, tally_append}
@@ -69,6 +69,32 @@ module _ (node : List ℕ) where
   left_ascends e s =
       let ms = entries_of e.1 in
       spread_ascends pid_cmp pids_total (λ m. pid_of node m.0) (λ m. m.1) ms (left_rises ms s)
+
+  copies_own : (k : ProcessKey) (n : ℕ)
+      → AllByRecursion (λ p. p.node ≡ node) (replicate n (pid_of node k))
+  copies_own k zero = tt
+  copies_own k (suc n) = (refl, copies_own k n)
+
+  left_own : (ms : Members)
+      → AllByRecursion (λ p. p.node ≡ node) (spread (λ m. pid_of node m.0) (λ m. m.1) ms)
+  left_own [] = tt
+  left_own (m ∷ ms) = all_append _ _ _ (copies_own m.0 m.1) (left_own ms)
+
+  not_above : (p : Pid) (qs : List Pid) → text_cmp p.node node ≡ Less
+      → AllByRecursion (λ q. q.node ≡ node) qs
+      → AllByRecursion (λ q. is_gt (pid_cmp p q) ≡ false) qs
+  not_above p [] l own = tt
+  not_above p (q ∷ qs) l own = (grind (arith, l, own.0), not_above p qs l own.1)
+
+  -- behind processes of nodes below they ascend too
+  pub left_behind : (e : GroupEntry) → SortedMembers e → (ps : List Pid)
+      → AllByRecursion (λ p. text_cmp p.node node ≡ Less) ps → Ascends pid_cmp ps
+      → Ascends pid_cmp (ps ++ left_of e)
+  left_behind e s [] below a = left_ascends e s
+  left_behind e s (p ∷ ps) below a = (
+    all_append _ ps _ a.0 (not_above p (left_of e) below.0 (left_own (entries_of e.1))),
+    left_behind e s ps below.1 a.1,
+  )
 
   abbrev groups_in : List GroupChange → List (List ℕ)
   groups_in changes = map (λ c. c.group) changes

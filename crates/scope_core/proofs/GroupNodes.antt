@@ -1,17 +1,24 @@
 -- A node more in the list of a group, or one less.
 use Rattle.scope_core.proofs
 use proofs.Words.{all_from, AllByRecursion, ap, arith, Ascends, Bool, cond, Err, exact_bytes, false}
-use proofs.Words.{get_or, HoldsAt, how_many, how_many_is, IfOk, insert, is_among, is_gt}
+use proofs.Words.{get_or, HoldsAt, how_many, how_many_is, IfOk, IfSome, insert, is_among, is_gt}
 use proofs.Words.{IsBinarySearchResult, IsDistinct-head, IsDistinct-tail, IsListing, keys_of}
 use proofs.Words.{length, Less, List, lookup, ltb-true, named_groups, nat_lt, node_names, None}
 use proofs.Words.{occurrences, Ok, Option, refl, remove, Result, Rises, same, same_decides}
-use proofs.Words.{same_sym, Some, subst, sum_by-insert, sum_by-remove, sym, text_cmp, texts_total}
-use proofs.Words.{tied_itself, times_named, true, ℕ, [], ◌&&◌, ◌+◌, ◌<◌, ◌∙◌, ◌∷◌, ◌≡◌, ◌≤◌}
+use proofs.Words.{same_sym, slice_get, Some, subst, suc, sum_by-insert, sum_by-remove, sym}
+use proofs.Words.{text_cmp, texts_total, tied_itself, times_named, true, zero, ℕ, [], ◌&&◌, ◌+◌}
+use proofs.Words.{◌<◌, ◌∙◌, ◌∷◌, ◌≡◌, ◌≤◌}
 use proofs.Groups.{among_counts, below}
 use proofs.Rising.{none_pass}
 use proofs.Searches.{rises_with, rises_without}
 use Rattle.scope_core.specs.GroupNodes.{AreInOrder, IsNameGap, nodes_of}
+use Rattle.indexmap.proofs.CallerLemmas.{updates-with_value_at}
+use Rattle.indexmap.specs.IndexMap.{IndexMap, set_value_at, Updates, with_value_at}
+use Rattle.std.proofs.lemmas.Map.Made.{lookup_key_same}
+use Rattle.std.specs.Cmp.Lexicographic.{nat_list_eq_equiv}
 use Rattle.std.specs.List.{IsDistinct}
+use Rattle.std.specs.Map.{lookup_key}
+use Rattle.std.specs.Option.{option_map}
 use Rattle.std.specs.Prelude.{Vec}
 use Rattle.std.specs.declared.alloc.Global.{Global}
 
@@ -121,8 +128,52 @@ module _ (es new : Named) (group : List ℕ) (w : Option (Vec (List ℕ) Global)
       by true e = rw e here
       by false e = rw e (rise g)
 
-  pub set_none : items_of w ≡ [] → (n : List ℕ) → times_named (node_names new) group n ≡ 0
-  set_none e n = grind (arith, set_nodes group, same_decides group group)
+-- ---- the list at a place in the map
+
+pub record IsPlace (es : Named) (at : ℕ) (g k : List ℕ) (v : Vec (List ℕ) Global) : Type 0 where
+  pub key : lookup_key (same g) es ≡ Some k
+  pub value : lookup (same g) es ≡ Some v
+  pub there : slice_get es at ≡ Some (k, v)
+
+-- what is found at the place of what was looked up
+pub same_place : (es : Named) (at : ℕ) (g : List ℕ) {h k : List ℕ} {u v : Vec (List ℕ) Global}
+    → slice_get es at ≡ Some (h, u) → slice_get es at ≡ Some (k, v)
+    → Some h ≡ lookup_key (same g) es → Some u ≡ lookup (same g) es → IsPlace es at g k v
+same_place es at g first there key value = record {
+  key = sym key ∙ ap (option_map (λ p. p.0)) (sym first ∙ there);
+  value = sym value ∙ ap (option_map (λ p. p.1)) (sym first ∙ there);
+  there = there;
+}
+
+set_there : (es : Named) (i : ℕ) (k : List ℕ) (v w : Vec (List ℕ) Global)
+    → slice_get es i ≡ Some (k, v) → slice_get (set_value_at es i w) i ≡ Some (k, w)
+set_there [] i k v w h = absurd (grind (arith, h))
+set_there (e ∷ es) zero k v w h =
+    ap (option_map (λ (p : List ℕ × Vec (List ℕ) Global). (p.0, w))) h
+set_there (e ∷ es) (suc i) k v w h = set_there es i k v w h
+
+module _ {S : Type 0} (nodes : IndexMap (List ℕ) (Vec (List ℕ) Global) S) (at : ℕ)
+    (g k : List ℕ) (v w : Vec (List ℕ) Global) (once : IsDistinct same (keys_of nodes.entries))
+    (place : IsPlace nodes.entries at g k v) where
+  -- it is another
+  pub set_at : (q : List ℕ) → lookup (same q) (set_value_at nodes.entries at w)
+      ≡ cond (same g q) (Some w) (lookup (same q) nodes.entries)
+  set_at q =
+      let up = (updates-with_value_at nodes at w nat_list_eq_equiv once k v place.there).0 q in
+      grind (arith, up, lookup_key_same same_decides g nodes.entries k place.key)
+
+  -- it goes, with its group
+  pub gone_at : (new : IndexMap (List ℕ) (Vec (List ℕ) Global) S)
+      (r : Option (List ℕ × Vec (List ℕ) Global))
+      → r ≡ slice_get (set_value_at nodes.entries at w) at
+      → IfSome r (λ p. Updates same (with_value_at nodes at w) new p.0 None) → (q : List ℕ)
+      → lookup (same q) new.entries ≡ cond (same g q) None (lookup (same q) nodes.entries)
+  gone_at new r is gone q =
+      let first = is ∙ set_there nodes.entries at k v w place.there in
+      let up =
+      subst (λ o. IfSome o (λ p. Updates same (with_value_at nodes at w) new p.0 None)) first
+      gone in
+      grind (arith, up.0 q, set_at q, lookup_key_same same_decides g nodes.entries k place.key)
 
 pub found_nodes : (es : Named) (g : List ℕ) (v : Vec (List ℕ) Global) → lookup (same g) es ≡ Some v
     → v.items ≡ nodes_of (node_names es) g

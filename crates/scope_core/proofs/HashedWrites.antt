@@ -6,9 +6,12 @@ use proofs.Words.{is_some, is_there, IsHashed, key_cmp, key_of, length, List, li
 use proofs.Words.{None, Option, or_right, Pid, ProcessKey, refl, Row, row_at, row_in}
 use proofs.Words.{same_decides, same_pid, same_pid_decides, same_row, same_row_decides, set_value}
 use proofs.Words.{SmallMap, Some, stands, suc, sym}
-use proofs.Words.{take, take-append-drop, take_more, tally, text_cmp, true, unwrap_or, zero, ℕ, []}
+use proofs.Words.{length-append, take, take-append-drop, take_all, take_more, ◌-◌}
+use Rattle.std.proofs.lemmas.List.{take-append-le}
+use proofs.Words.{tally, text_cmp, true, unwrap_or, zero, ℕ, []}
 use proofs.Words.{◌&&◌, ◌++◌, ◌+◌, ◌<◌, ◌||◌, ◌∙◌, ◌∷◌, ◌≡◌}
-use proofs.HashedRows.{count_is, counted_from, Entries, Once, one_place, own_at, own_from}
+use proofs.HashedRows.{count_is, counted_from, Entries, Once, one_key, one_place, one_text}
+use proofs.HashedRows.{own_at, own_from, same_key_decides}
 use proofs.HashedRows.{rows_equal, some_cond, stands_is}
 
 -- ---- the index of groups
@@ -22,29 +25,26 @@ both true b = by b
 both false true = refl
 both false false = refl
 
+-- what was put in at two keys and taken out again is as it was, where nothing was there
+pub put_back : (group g : List ℕ) (key k : ProcessKey) (old : List ℕ → ProcessKey → Option ℕ)
+    (n : ℕ) (then now : Option ℕ) → old group key ≡ None
+    → then ≡ cond (eq_by_cmp text_cmp group g && eq_by_cmp key_cmp key k) (Some n) (old g k)
+    → now ≡ cond (eq_by_cmp text_cmp group g && eq_by_cmp key_cmp key k) None then → now ≡ old g k
+put_back group g key k old n then now none put took =
+    grind (
+      arith,
+      none,
+      put,
+      took,
+      one_text group g,
+      one_key key k,
+      same_decides group g,
+      same_key_decides key k,
+    )
+
 module _ (node g : List ℕ) (k : ProcessKey) (row : Row) (own : row.pid.node ≡ node) where
   abbrev here : Row
   here = row_at node g k
-
-  abbrev place : Bool
-  place = eq_by_cmp text_cmp row.group g && eq_by_cmp key_cmp (key_of row.pid) k
-
-  -- what was put in and taken out again is as it was, where it was none of the rows
-  pub back_group : (es : Entries) (n : ℕ) (was then now : Option ℕ)
-      → stands row (counted_in es) ≡ false
-      → was ≡ lookup (same_row here) es → then ≡ cond place (Some n) was
-      → now ≡ cond place None then → now ≡ lookup (same_row here) es
-  back_group es n was then now fresh old put took =
-      grind (
-        arith,
-        old,
-        put,
-        took,
-        one_place node g k row own,
-        same_row_decides row here,
-        stands_is row es,
-        fresh,
-      )
 
   -- a row that is there stands at its place
   pub named_still : (es : Entries) (was : Bool) → was ≡ has_row es here → has_row es row ≡ true
@@ -124,6 +124,13 @@ some_there g node k (e ∷ es) a h =
       same_decides e.0.group g,
       same_decides e.0.pid.node node,
     )
+
+pub taken_back : {A : Type 0} (xs : List A) (x : A)
+    → take (length (xs ++ x ∷ []) - 1) (xs ++ x ∷ []) ≡ xs
+taken_back xs x =
+    let all : length (xs ++ x ∷ []) - 1 ≡ length xs = grind (arith, length-append) in
+    ap (λ k. take k (xs ++ x ∷ [])) all
+    ∙ take-append-le (length xs) xs (x ∷ []) (omega arith) ∙ take_all (length xs) xs (omega arith)
 
 pub last_there : (es : Entries) (row : Row) (n : ℕ) → has_row (es ++ (row, n) ∷ []) row ≡ true
 last_there [] row n = grind (arith, rows_equal.refl row)

@@ -2,9 +2,10 @@
 use Rattle.scope_core.proofs
 use proofs.Words.{AllByRecursion, ap, arith, Bool, cond, Counted, Covers, Err, false, get_or}
 use proofs.Words.{GroupChange, has_members, how_many, how_many_append, is_eq, is_named, is_of_node}
-use proofs.Words.{is_row, is_some, is_there, IsDifference, Joins, length, List, list_any, lookup}
-use proofs.Words.{nat_lt, not, of_node, Ok, OnOk, Pid, refl, Result, Row, same, same_decides}
-use proofs.Words.{same_sym, subst, suc, sym, take, take_more, tally, Tells, text_cmp, true}
+use proofs.Words.{is_row, is_some, is_there, IsDifference, Joins, length, Less, List, list_any}
+use proofs.Words.{lookup, mentions, nat_lt, not, of_node, Ok, OnOk, Pid, refl, Result, Rises, Row}
+use proofs.Words.{same, same_decides, same_pid_decides, same_sym, subst, suc, sym, take, take_more}
+use proofs.Words.{tally, Tells, text_cmp, true}
 use proofs.Words.{without_node, zero, ℕ, [], ◌&&◌, ◌+◌, ◌<◌, ◌∙◌, ◌∷◌, ◌≡◌, ◌≤◌}
 use proofs.NodeLists.{lone_row, node_tally}
 use proofs.HashedRows.{one_text}
@@ -194,6 +195,43 @@ gather_more nodes i x l at once g rows old new so_far next p =
     step =
         simp (take_more nodes i x l, ← at)
         (how_many_append (λ m. same m p.node) (take i nodes) (x ∷ []) ∙ grind arith)
+
+above_at : (m : List ℕ) (ns : List (List ℕ)) (i : ℕ) (x : List ℕ) → i < length ns
+    → x ≡ get_or ns i x → AllByRecursion (λ n. text_cmp m n ≡ Less) ns → text_cmp m x ≡ Less
+above_at m [] i x l at a = absurd (omega (arith, l))
+above_at m (n ∷ ns) zero x l at a = subst (λ k. text_cmp m k ≡ Less) (sym at) a.0
+above_at m (n ∷ ns) (suc i) x l at a = above_at m ns i x (omega (arith, l)) at a.1
+
+-- the names before one that rise are below it
+below_at : (nodes : List (List ℕ)) (i : ℕ) (x : List ℕ) → i < length nodes → x ≡ get_or nodes i x
+    → Rises text_cmp nodes → (n : List ℕ) → 0 < how_many (λ m. same m n) (take i nodes)
+    → text_cmp n x ≡ Less
+below_at nodes zero x l at r n some = absurd (omega (arith, some))
+below_at [] (suc i) x l at r n some = absurd (omega (arith, l))
+below_at (m ∷ ns) (suc i) x l at r n some =
+    let first = above_at m ns i x (omega (arith, l)) at r.0 in
+    let rest = below_at ns i x (omega (arith, l)) at r.1 n in
+    grind (arith, first, rest, some, same_decides m n)
+
+-- what holds of each process that is mentioned holds of all
+all_mentioned : (P : Pid → Type 0) (ps : List Pid) → ((p : Pid) → 0 < mentions p ps → P p)
+    → AllByRecursion P ps
+all_mentioned P [] h = tt
+all_mentioned P (q ∷ ps) h = (
+  h q (grind (arith, same_pid_decides q q)),
+  all_mentioned P ps (λ p l. h p (grind (arith, l))),
+)
+
+-- the processes of the nodes before one are of names below it
+pub all_below : (nodes : List (List ℕ)) (i : ℕ) (x : List ℕ) → i < length nodes
+    → x ≡ get_or nodes i x → Rises text_cmp nodes → (g : List ℕ) (rows : List Counted)
+    (ps : List Pid)
+    → ((p : Pid) → mentions p ps
+    ≡ cond (nat_lt 0 (how_many (λ m. same m p.node) (take i nodes))) (tally (is_row g p) rows) 0)
+    → AllByRecursion (λ p. text_cmp p.node x ≡ Less) ps
+all_below nodes i x l at r g rows ps counts =
+    all_mentioned _ ps
+    (λ p some. below_at nodes i x l at r p.node (grind (arith, counts p, some)))
 
 -- nobody is missing: where no node is named there is no row
 pub all_gathered : (g : List ℕ) (p : Pid) (rows : List Counted) (named : ℕ)

@@ -17,6 +17,7 @@ pub mod Outcomes
 pub mod NestedMaps
 pub mod HashedRows
 pub mod HashedWrites
+pub mod RowCounts
 pub mod LoweredRows
 pub mod GroupRows
 pub mod GroupIndex

@@ -3,7 +3,7 @@ use Rattle.scope_core.proofs
 use proofs.Words.{AllByRecursion, and_parts, arith, Bool, cond, Counted, counted_cmp, false, filter}
 use proofs.Words.{how_many, in_one_group, is_gt, is_in, is_of_node, is_row, Less, List, map, not}
 use proofs.Words.{Pid, pid_cmp, refl, Rises, Row, rows_total, same_decides, same_pid_decides, tally}
-use proofs.Words.{text_cmp, tied_itself, true, without_node, ℕ, [], ◌<◌, ◌∷◌, ◌≡◌, ◌≤◌}
+use proofs.Words.{text_cmp, tied_itself, true, without_node, ℕ, [], ◌<◌, ◌∷◌, ◌≡◌}
 
 pub all_map : {A : Type 0} (P Q : A → Type 0) → ((x : A) → P x → Q x) → (xs : List A)
     → AllByRecursion P xs → AllByRecursion Q xs
@@ -57,11 +57,6 @@ pub groups_above : (c : Counted) (ds : List Counted)
 groups_above c ds b = grind (arith, all_map)
 
 module _ (keep : Counted → Bool) where
-  pub tally-filter_le : (test : Row → Bool) (cs : List Counted)
-      → tally test (filter keep cs) ≤ tally test cs
-  tally-filter_le test [] = omega arith
-  tally-filter_le test (c ∷ cs) = grind (arith, tally-filter_le test cs)
-
   -- where each that is kept fails the test, none is counted
   pub tally_none : (test : Row → Bool) → ((c : Counted) → keep c ≡ true → test c.row ≡ false)
       → (cs : List Counted) → tally test (filter keep cs) ≡ 0

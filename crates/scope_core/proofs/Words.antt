@@ -51,7 +51,7 @@ pub use specs.Beyond.{picked, times_beyond}
 pub use specs.Calls.{count_after_add, count_after_sync, Counts, IsAddFault, IsSyncFault, no_count}
 pub use specs.GroupNodes.{named_groups, node_names, times_named}
 pub use specs.Indexed.{Covers, has_members, is_named, is_there}
-pub use specs.Listed.{differs, heads, is_in, IsEmptied, last_of, pids_in, Tells}
+pub use specs.Listed.{changes_left_by, differs, heads, is_in, IsEmptied, last_of, pids_in, Tells}
 pub use specs.NodeLists.{all_rows, IsNodeList, of_node, rows_by_node}
 pub use specs.Table.{AreCounted, count_of, counted_cmp, is_of_node, is_row, IsKept, local_count}
 pub use specs.Table.{local_total, max_rows, node_total, Table, tally}
@@ -63,7 +63,7 @@ pub use Rattle.indexmap.proofs.CallerLemmas.{insert_entry-new}
 pub use Rattle.indexmap.specs.IndexMap.{insert_entry}
 pub use specs.Copies.{is_held, is_keyed, IsLastKey, keyed, keyed_maps, process_keys}
 pub use specs.HashedRows.{counted_in, entries_in, group_rows, has_row, IsHashed, key_cmp, key_of}
-pub use specs.HashedRows.{NodeTable, pid_of, row_at, stands, with_counts}
+pub use specs.HashedRows.{NodeTable, pid_of, row_at, stands}
 pub use specs.Kept.{AreListings, Forgets}
 pub use specs.LoweredRows.{IsLowered}
 pub use specs.SmallMap.{entries_of, find, find_in, found}

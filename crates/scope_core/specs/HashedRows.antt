@@ -1,5 +1,5 @@
 -- The rows of one node, in a map with two indexes.
-use Rattle.std.specs.Prelude.{◌≡◌, ℕ, Bool, List, map}
+use Rattle.std.specs.Prelude.{◌≡◌, ℕ, Bool, ◌&&◌, ◌==◌, cond, List, map, Option}
 use Rattle.std.specs.declared.cmp.Ordering.{Ordering}
 use Rattle.std.specs.Ordering.{nat_cmp, ordering_then}
 use Rattle.std.specs.Option.{is_some}
@@ -9,12 +9,13 @@ use Rattle.std.specs.BTreeMap.{BTreeMap}
 use Rattle.dist_types.specs.declared.pid.Pid.{Pid}
 use Rattle.dist_types.specs.declared.row.Row.{Row}
 use Rattle.dist_types.specs.Order.{text_cmp}
-use Rattle.dist_types.specs.Listing.{same_row}
+use Rattle.dist_types.specs.Listing.{same, same_row}
 use Rattle.scope_core.specs.declared.counted.Counted.{Counted}
+use Rattle.scope_core.specs.declared.counted.Membership.{Membership}
+use Rattle.scope_core.specs.declared.node_row.NodeRow.{NodeRow}
 use Rattle.scope_core.specs.declared.process_key.ProcessKey.{ProcessKey}
 use Rattle.scope_core.specs.declared.small_map.SmallMap.{SmallMap}
 use Rattle.scope_core.specs.SmallMap.{find_in}
-use Rattle.scope_core.specs.Table.{tally, is_row}
 
 -- what tells the process from others of its node
 abbrev pub key_of : Pid → ProcessKey
@@ -46,14 +47,33 @@ pub record NodeTable : Type 0 where
 abbrev pub counted_in : List (Row × ℕ) → List Counted
 counted_in es = map (λ e. record { row = e.0; count = e.1 }) es
 
+-- a node, and how often each of its rows is counted
+pub record NodeCounts : Type 0 where
+  pub node : List ℕ
+  pub entries : List (Row × ℕ)
+
+-- rows that are kept without the name of their node
+abbrev pub rows_at : List ℕ → List (NodeRow × ℕ) → List (Row × ℕ)
+rows_at node es = map (λ e. (row_at node e.0.group e.0.process, e.1)) es
+
+-- whether two of these are the same
+abbrev pub same_node_row : NodeRow → NodeRow → Bool
+same_node_row a b =
+    same a.group b.group
+    && (a.process.creation == b.process.creation && a.process.number == b.process.number)
+
+-- the row is found with this count or not at all, and the others as before
+abbrev pub Writes : Row → Option ℕ → List (Row × ℕ) → List (Row × ℕ) → Type 0
+Writes row o old new =
+    (r : Row) → lookup (same_row r) new ≡ cond (same_row row r) o (lookup (same_row r) old)
+
 -- counted rows, as entries of a map
 abbrev pub entries_in : List Counted → List (Row × ℕ)
 entries_in rows = map (λ c. (c.row, c.count)) rows
 
--- the rows of the process in the groups, each with its count among the counted ones
-abbrev pub with_counts : List Counted → Pid → List (List ℕ) → List Counted
-with_counts rows p gs =
-    map (λ g. record { row = record { group = g; pid = p }; count = tally (is_row g p) rows }) gs
+-- the row of the process in the group, with its count
+abbrev pub with_process : Pid → Membership → Counted
+with_process p m = record { row = record { group = m.group; pid = p }; count = m.count }
 
 -- whether the row is one of these
 abbrev pub has_row : List (Row × ℕ) → Row → Bool

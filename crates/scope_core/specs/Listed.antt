@@ -1,12 +1,12 @@
 -- What is read off the rows, in their order.
 use Rattle.std.specs.Prelude.{◌≡◌, ℕ, ◌-◌, Bool, true, cond, not, ◌&&◌, nat_lt, List, [], ◌∷◌}
-use Rattle.std.specs.Prelude.{Option, Some, None, slice_get, length}
-use Rattle.std.specs.List.{filter}
+use Rattle.std.specs.Prelude.{Option, Some, None, slice_get, length, replicate}
+use Rattle.std.specs.List.{filter, flat_map}
 use Rattle.dist_types.specs.declared.change.GroupChange.{GroupChange}
 use Rattle.scope_core.specs.declared.counted.Counted.{Counted}
 use Rattle.dist_types.specs.declared.pid.Pid.{Pid}
 use Rattle.dist_types.specs.Listing.{same, spread, IsPidListing}
-use Rattle.dist_types.specs.Difference.{IsDifference}
+use Rattle.dist_types.specs.Difference.{change_unless_empty, IsDifference}
 use Rattle.scope_core.specs.Table.{is_row, tally}
 
 -- whether this is a row of the group
@@ -32,6 +32,11 @@ heads last (c ∷ cs) =
 -- the processes of the rows of the group g, each as often as it is counted
 abbrev pub pids_in : List ℕ → List Counted → List Pid
 pids_in g rows = spread (λ c. c.row.pid) (λ c. c.count) (filter (is_in g) rows)
+
+-- the changes where the process leaves the groups, each as often as it is counted there
+abbrev pub changes_left_by : List Counted → Pid → List (List ℕ) → List GroupChange
+changes_left_by rows p gs =
+    flat_map (λ g. change_unless_empty g (replicate (tally (is_row g p) rows) p) []) gs
 
 -- the changes are each difference in which some rows leave, and others join
 abbrev pub Tells : List Counted → List Counted → List GroupChange → Type 0

@@ -1,9 +1,16 @@
 //! Rows with their counts.
-use dist_types::Row;
+use dist_types::{Group, Row};
 
 /// A row, and how often its process is in its group.
 #[derive(Debug, Drop)]
 pub struct Counted {
     pub row: Row,
+    pub count: u32,
+}
+
+/// A group, and how often a known process is in it.
+#[derive(Debug, Drop)]
+pub struct Membership {
+    pub group: Group,
     pub count: u32,
 }

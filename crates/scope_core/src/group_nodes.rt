@@ -99,21 +99,16 @@ impl GroupNodes {
     pub fn take(&mut self, group: &Group, node: &NodeName)
         ensures { (g n : List ℕ) → times_named self.new g n ≡ cond (same group.now g && same node.now n) 0 (times_named self.old g n) }
     {
-        let Some(nodes) = self.nodes.get_mut(group) else {
+        let Some((at, _, _)) = self.nodes.get_full(group) else {
             return;
         };
+        // By the place, so that the name is hashed once.
+        let (_, nodes) = self.nodes.pair_mut(at);
         remove(nodes, node);
+        // A group without nodes goes.
         if nodes.is_empty() {
-            self.forget(group);
+            self.nodes.swap_remove_index(at);
         }
-    }
-
-    /// A group without nodes goes.
-    fn forget(&mut self, group: &Group)
-        requires { (n : List ℕ) → times_named self.old group.now n ≡ 0 }
-        ensures { (g n : List ℕ) → times_named self.new g n ≡ times_named self.old g n }
-    {
-        self.nodes.swap_remove(group);
     }
 
     /// No nodes any more.

@@ -1,22 +1,21 @@
 //! The rows of one node in a hashed map, with an ordered index of its groups and one of its processes.
-ghost use Rattle.std.specs.Prelude.{◌≡◌, ◌++◌, ◌+◌, ◌||◌, Bool, [], ◌∷◌, take, length, ◌-◌, ◌≤◌, ◌<◌, cond, true, false, IfSome, IfOk, OnOk, OnErr};
+ghost use Rattle.std.specs.Prelude.{◌≡◌, ◌++◌, ◌+◌, ◌||◌, Bool, [], ◌∷◌, All, take, length, ◌-◌, ◌≤◌, ◌<◌, cond, true, false, IfSome, IfOk, OnOk, OnErr};
 ghost use Rattle.std.specs.Option.{IfNone};
 ghost use Rattle.std.specs.List.{AllByRecursion};
 ghost use Rattle.dist_types.specs.declared.row.Row.{Row};
 ghost use Rattle.dist_types.specs.Listing.{same, same_pid, Rises};
 ghost use Rattle.scope_core.specs.Table.{tally, is_row, counted_cmp, max_rows, AreCounted};
 ghost use Rattle.scope_core.specs.Added.{are_all_in, bare_rows, Joins, HasRoomFor};
-ghost use Rattle.scope_core.specs.HashedRows.{NodeTable, stands};
+ghost use Rattle.scope_core.specs.HashedRows.{NodeTable, stands, with_process};
 
-use crate::counted::Counted;
+use crate::counted::{Counted, Membership};
 use crate::lowering::can_lower;
-use crate::nested_map::{pop, put, set, take};
-use crate::node_indexes::{counts_of, forget, groups_of, processes_of};
+use crate::nested_map::{pop, set, take};
+use crate::node_indexes::{forget, groups_of, name, processes_of};
 use crate::process_key::ProcessKey;
-use crate::row_key::RowKey;
+use crate::row_counts::RowCounts;
 use crate::small_map::SmallMap;
-use dist_types::{Group, NodeName, OutOfMemory, Pid, Row, TryClone};
-use indexmap::IndexMap;
+use dist_types::{Group, NodeName, OutOfMemory, Pid, Row};
 use std::alloc::Global;
 use std::collections::BTreeMap;
 use std::marker::Model;
@@ -25,8 +24,7 @@ use std::marker::Model;
 #[derive(Debug, Drop)]
 pub struct HashedRows {
     pub(crate) alloc: Global,
-    pub(crate) node: NodeName,
-    pub(crate) counts: IndexMap<Row, u32>,
+    pub(crate) counts: RowCounts,
     /// For each group its processes, with the same counts.
     pub(crate) groups: BTreeMap<Group, SmallMap<ProcessKey, u32>>,
     /// For each process its groups.
@@ -38,9 +36,9 @@ impl Model for HashedRows {
 
     ghost Value = { NodeTable };
 
-    ghost view = { λ rows. record { node = rows.node; rows = counted_in rows.counts.entries } };
+    ghost view = { λ rows. record { node = rows.counts.node; rows = counted_in rows.counts.entries } };
 
-    ghost invariant = { λ rows. IsHashed rows.node rows.counts.entries rows.groups rows.processes };
+    ghost invariant = { λ rows. IsHashed rows.counts.node rows.counts.entries rows.groups rows.processes };
 }
 
 impl HashedRows {
@@ -54,8 +52,7 @@ impl HashedRows {
         let processes = processes_of(alloc, &rows)?;
         Ok(HashedRows {
             alloc,
-            node,
-            counts: counts_of(alloc, rows)?,
+            counts: RowCounts::of(alloc, node, rows)?,
             groups,
             processes,
         })
@@ -63,31 +60,26 @@ impl HashedRows {
 
     /// How often the process is in the group.
     pub fn count(&self, group: &Group, pid: &Pid) -> u32
+        requires { pid.now.node ≡ self.now.node }
         ensures { result ≡ tally (is_row group.now pid.now) self.now.rows }
     {
-        let at = RowKey { group, pid };
-        self.counts.get(at).copied().unwrap_or(0)
+        self.counts.get(group, pid)
     }
 
     /// Puts a new row last.
-    fn put(&mut self, row: Row, count: u32) -> Result<(), OutOfMemory>
-        requires own { row.pid.node ≡ self.old.node }
-        requires fresh { stands row self.old.rows ≡ false }
-        ensures ok { OnOk result (self.new ≡ record { node = self.old.node; rows = self.old.rows ++ record { row = row; count = count } ∷ [] }) }
+    fn put(&mut self, row: &Row, count: u32) -> Result<(), OutOfMemory>
+        requires own { row.now.pid.node ≡ self.old.node }
+        requires fresh { stands row.now self.old.rows ≡ false }
+        ensures ok { OnOk result (self.new ≡ record { node = self.old.node; rows = self.old.rows ++ record { row = row.now; count = count } ∷ [] }) }
         ensures same { OnErr result (self.new ≡ self.old) }
     {
         let alloc = self.alloc;
-        let key = ProcessKey::of(&row.pid);
-        let group = row.group.try_clone(alloc)?;
-        self.counts.reserve(1)?;
-        put(alloc, &mut self.groups, &row.group, key, count)?;
-        let named = put(alloc, &mut self.processes, &key, group, ());
+        self.counts.push(row, count)?;
+        let named = name(alloc, &mut self.groups, &mut self.processes, row, count);
         if named.is_err() {
-            take(&mut self.groups, &row.group, &key);
-            return Err(OutOfMemory);
+            self.counts.pop();
         }
-        self.counts.insert(row, count).unwrap();
-        Ok(())
+        named
     }
 
     /// Puts each row that isn't there yet last: all of them, or none. Those before the first that is there have their counts
@@ -120,27 +112,16 @@ impl HashedRows {
         let len = self.counts.len();
         let mut fresh = 0;
         for counted in more {
-            if self.counts.contains_key(&counted.row) {
+            if self.counts.contains(&counted.row) {
                 return Ok(fresh);
             }
-            if self.put_copy(&counted.row, counted.count).is_err() {
+            if self.put(&counted.row, counted.count).is_err() {
                 self.cut(len);
                 return Err(OutOfMemory);
             }
             fresh += 1;
         }
         Ok(fresh)
-    }
-
-    /// Puts a copy of a new row last.
-    fn put_copy(&mut self, row: &Row, count: u32) -> Result<(), OutOfMemory>
-        requires own { row.now.pid.node ≡ self.old.node }
-        requires fresh { stands row.now self.old.rows ≡ false }
-        ensures ok { OnOk result (self.new ≡ record { node = self.old.node; rows = self.old.rows ++ record { row = row.now; count = count } ∷ [] }) }
-        ensures same { OnErr result (self.new ≡ self.old) }
-    {
-        let copy = row.try_clone(self.alloc)?;
-        self.put(copy, count)
     }
 
     /// Puts each row that isn't there yet last, with the count 0: all of them, or none.
@@ -168,10 +149,10 @@ impl HashedRows {
         ensures node { self.new.node ≡ self.old.node }
         ensures same { OnErr result (self.new ≡ self.old) }
     {
-        if self.counts.contains_key(row) {
+        if self.counts.contains(row) {
             return Ok(());
         }
-        self.put_copy(row, 0)
+        self.put(row, 0)
     }
 
     /// Takes all rows out but so many of the first.
@@ -187,10 +168,15 @@ impl HashedRows {
     fn pop(&mut self)
         ensures { self.new ≡ record { node = self.old.node; rows = take (length self.old.rows - 1) self.old.rows } }
     {
-        let Some((row, _)) = self.counts.pop() else {
+        let Some(row) = self.counts.pop() else {
             return;
         };
-        forget(&mut self.groups, &mut self.processes, &row);
+        forget(
+            &mut self.groups,
+            &mut self.processes,
+            &row.group,
+            &row.process,
+        );
     }
 
     /// Gives a row that is there a count.
@@ -201,10 +187,7 @@ impl HashedRows {
         ensures counted { 0 < count → AreCounted self.old.rows → AreCounted self.new.rows }
         ensures node { self.new.node ≡ self.old.node }
     {
-        let Some(place) = self.counts.get_mut(row) else {
-            return;
-        };
-        *place = count;
+        self.counts.set(row, count);
         let key = ProcessKey::of(&row.pid);
         set(&mut self.groups, &row.group, &key, count);
     }
@@ -217,13 +200,14 @@ impl HashedRows {
         ensures rows { bare_rows self.new.rows ≡ bare_rows self.old.rows }
         ensures node { self.new.node ≡ self.old.node }
     {
-        let count = self.count(&row.group, &row.pid);
+        let count = self.counts.get(&row.group, &row.pid);
         self.set(row, count + more);
     }
 
     /// Whether each row stands in the list at most as often as it is counted.
     pub fn are_all_in(&mut self, gone: &[Row]) -> bool
-        requires { HasRoomFor [] self.old.rows }
+        requires own { All (λ r. r.pid.node ≡ self.old.node) gone.now }
+        requires few { HasRoomFor [] self.old.rows }
         ensures value { result ≡ are_all_in self.old.rows gone.now }
         ensures same { self.new ≡ self.old }
     {
@@ -238,7 +222,7 @@ impl HashedRows {
         ensures counted { AreCounted self.old.rows → AreCounted self.new.rows }
         ensures node { self.new.node ≡ self.old.node }
     {
-        let count = self.count(&gone.row.group, &gone.row.pid);
+        let count = self.counts.get(&gone.row.group, &gone.row.pid);
         if count > gone.count {
             self.set(&gone.row, count - gone.count);
             return;
@@ -253,24 +237,25 @@ impl HashedRows {
         let _len = self.counts.len();
     }
 
-    /// Takes a row out. The last one takes its place in the map.
+    /// Takes a row of the node out. The last one takes its place in the map.
     fn remove(&mut self, row: &Row)
+        requires { row.now.pid.node ≡ self.old.node }
         ensures tallies { (test : Row → Bool) → tally test self.new.rows + cond (test row.now) (tally (is_row row.now.group row.now.pid) self.old.rows) 0 ≡ tally test self.old.rows }
         ensures counted { AreCounted self.old.rows → AreCounted self.new.rows }
         ensures node { self.new.node ≡ self.old.node }
     {
-        let Some(_) = self.counts.swap_remove(row) else {
+        let Some(_) = self.counts.take(&row.group, &row.pid) else {
             return;
         };
-        forget(&mut self.groups, &mut self.processes, row);
+        let key = ProcessKey::of(&row.pid);
+        forget(&mut self.groups, &mut self.processes, &row.group, &key);
     }
 
-    /// Takes one of the rows of a process out.
-    pub fn pop_of(&mut self, pid: &Pid) -> Option<Counted>
+    /// Takes a process out of one of its groups.
+    pub fn pop_of(&mut self, pid: &Pid) -> Option<Membership>
         requires { pid.now.node ≡ self.old.node }
-        ensures gone { IfSome result (λ c. Joins (c ∷ []) self.new.rows self.old.rows) }
-        ensures process { IfSome result (λ c. c.row.pid ≡ pid.now) }
-        ensures fewer { IfSome result (λ c. length self.new.rows + 1 ≡ length self.old.rows) }
+        ensures gone { IfSome result (λ m. Joins (with_process pid.now m ∷ []) self.new.rows self.old.rows) }
+        ensures fewer { IfSome result (λ _. length self.new.rows + 1 ≡ length self.old.rows) }
         ensures counted { AreCounted self.old.rows → AreCounted self.new.rows }
         ensures none { IfNone result (tally (λ r. same_pid r.pid pid.now) self.old.rows ≡ 0) }
         ensures same { IfNone result (self.new ≡ self.old) }
@@ -281,8 +266,8 @@ impl HashedRows {
             return None;
         };
         take(&mut self.groups, &group, &key);
-        let at = RowKey { group: &group, pid };
-        let (row, count) = self.counts.swap_remove_entry(at).unwrap();
-        Some(Counted { row, count })
+        // The index names rows that are there.
+        let gone = self.counts.take(&group, pid).unwrap();
+        Some(gone)
     }
 }

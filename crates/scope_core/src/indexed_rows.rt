@@ -4,14 +4,16 @@ ghost use Rattle.std.specs.Option.{IfNone};
 ghost use Rattle.std.specs.List.{list_any, AllByRecursion};
 ghost use Rattle.dist_types.specs.declared.pid.Pid.{Pid};
 ghost use Rattle.dist_types.specs.Listing.{same, same_pid, how_many, mentions, Rises, Ascends, IsPidListing, IsGroupListing};
-ghost use Rattle.dist_types.specs.Order.{pid_cmp};
+ghost use Rattle.std.specs.declared.cmp.Ordering.TheVariants.{Less};
+ghost use Rattle.dist_types.specs.Order.{text_cmp, pid_cmp};
 ghost use Rattle.dist_types.specs.Difference.{IsDifference};
 ghost use Rattle.scope_core.specs.Table.{tally, is_row, is_of_node, counted_cmp, max_rows, IsKept};
 ghost use Rattle.scope_core.specs.Added.{without_node, are_all_in, Adds, Joins};
 ghost use Rattle.scope_core.specs.NodeLists.{of_node, IsNodeList};
+ghost use Rattle.scope_core.specs.HashedRows.{with_process};
 ghost use Rattle.scope_core.specs.Indexed.{has_members, is_named, Covers};
 
-use crate::counted::Counted;
+use crate::counted::{Counted, Membership};
 use crate::group_nodes::GroupNodes;
 use crate::indexing::{gathered, put_all, settle_all, unname};
 use crate::node_lists::NodeLists;
@@ -83,17 +85,6 @@ impl IndexedRows {
         }
     }
 
-    /// The rows of a process in their order.
-    pub fn of_process(&self, alloc: Global, pid: &Pid) -> Result<Vec<Counted>, OutOfMemory>
-        ensures kept { IfOk result (λ rows. IsKept rows.items) }
-        ensures counts { IfOk result (λ rows. (g : List ℕ) (p : Pid) → tally (is_row g p) rows.items ≡ cond (same_pid p pid.now) (tally (is_row g p) self.now) 0) }
-    {
-        match self.lists.get(&pid.node) {
-            Some(list) => list.rows().of_process(pid),
-            None => Ok(Vec::new(alloc)),
-        }
-    }
-
     /// Whether these are the rows of the node in their order.
     pub fn are_just(&self, node: &NodeName, rows: &[Row]) -> bool
         requires { All (λ r. r.pid.node ≡ node.now) rows.now }
@@ -113,7 +104,7 @@ impl IndexedRows {
         group: &Group,
     ) -> Result<(), OutOfMemory>
         ensures counts { OnOk result ((p : Pid) → mentions p pids.new.items ≡ mentions p pids.old.items + cond (same node.now p.node) (tally (is_row group.now p) self.now) 0) }
-        ensures ascends { OnOk result (pids.old.items ≡ [] → Ascends pid_cmp pids.new.items) }
+        ensures ascends { OnOk result (AllByRecursion (λ p. text_cmp p.node node.now ≡ Less) pids.old.items → Ascends pid_cmp pids.old.items → Ascends pid_cmp pids.new.items) }
     {
         self.lists.push_members(pids, node, group)
     }
@@ -157,11 +148,7 @@ impl IndexedRows {
         ensures { IfOk result (λ pids. IsPidListing (λ p. tally (is_row group.now p) self.now) pids.items) }
     {
         let nodes = self.index.of(group);
-        let mut pids = gathered(alloc, &self.lists, nodes, group)?;
-        // Those of one node come in order.
-        if nodes.len() > 1 {
-            pids.sort_unstable();
-        }
+        let pids = gathered(alloc, &self.lists, nodes, group)?;
         Ok(pids)
     }
 
@@ -224,6 +211,16 @@ impl IndexedRows {
         }
     }
 
+    /// The changes where a process leaves all groups.
+    pub fn left_by(&self, alloc: Global, pid: &Pid) -> Result<Vec<GroupChange>, OutOfMemory>
+        ensures { IfOk result (λ changes. IsDifference (λ g p. tally (is_row g p) self.now) (λ g p. cond (same_pid p pid.now) 0 (tally (is_row g p) self.now)) changes.items) }
+    {
+        match self.lists.get(&pid.node) {
+            Some(list) => list.rows().left_by(pid),
+            None => Ok(Vec::new(alloc)),
+        }
+    }
+
     /// Takes rows away, each as often as it is counted here.
     pub fn take_rows(&mut self, gone: &[Counted])
         requires kept { IsKept gone.now }
@@ -262,17 +259,16 @@ impl IndexedRows {
         }
     }
 
-    /// Takes one of the rows of a process out.
-    pub fn pop_of(&mut self, pid: &Pid) -> Option<Counted>
-        ensures gone { IfSome result (λ c. Joins (c ∷ []) self.new self.old) }
-        ensures process { IfSome result (λ c. c.row.pid ≡ pid.now) }
-        ensures fewer { IfSome result (λ c. length self.new < length self.old) }
+    /// Takes a process out of one of its groups.
+    pub fn pop_of(&mut self, pid: &Pid) -> Option<Membership>
+        ensures gone { IfSome result (λ m. Joins (with_process pid.now m ∷ []) self.new self.old) }
+        ensures fewer { IfSome result (λ _. length self.new < length self.old) }
         ensures none { IfNone result (tally (λ r. same_pid r.pid pid.now) self.old ≡ 0) }
         ensures same { IfNone result (self.new ≡ self.old) }
     {
         let (gone, is_last) = self.lists.pop_of(pid)?;
         if is_last {
-            self.index.take(&gone.row.group, &pid.node);
+            self.index.take(&gone.group, &pid.node);
         }
         Some(gone)
     }

@@ -1,7 +1,7 @@
 //! What keeps the nodes of each group as the rows have them.
-ghost use Rattle.std.specs.Prelude.{◌≡◌, ◌≤◌, ◌&&◌, ℕ, Bool, false, List, not, cond, nat_lt, length, IfOk, OnOk, OnErr};
-ghost use Rattle.dist_types.specs.Listing.{Ascends, same, how_many, mentions};
-ghost use Rattle.dist_types.specs.Order.{pid_cmp};
+ghost use Rattle.std.specs.Prelude.{◌≡◌, ◌≤◌, ◌&&◌, ℕ, Bool, false, List, not, cond, nat_lt, IfOk, OnOk, OnErr};
+ghost use Rattle.dist_types.specs.Listing.{Rises, Ascends, same, how_many, mentions};
+ghost use Rattle.dist_types.specs.Order.{text_cmp, pid_cmp};
 ghost use Rattle.dist_types.specs.declared.pid.Pid.{Pid};
 ghost use Rattle.scope_core.specs.GroupNodes.{times_named};
 ghost use Rattle.scope_core.specs.Table.{tally, is_row};
@@ -61,19 +61,18 @@ pub fn unname(index: &mut GroupNodes, rows: &HashedRows, node: &NodeName)
     }
 }
 
-/// The processes of a group, those of a node beside one another.
+/// The processes of a group in order, node by node: names are compared first.
 pub fn gathered(
     alloc: Global,
     lists: &NodeLists,
     nodes: &[NodeName],
     group: &Group,
 ) -> Result<Vec<Pid>, OutOfMemory>
-    requires { (n : List ℕ) → how_many (λ m. same m n) nodes.now ≤ 1 }
+    requires { Rises text_cmp nodes.now }
     ensures counts { IfOk result (λ pids. (p : Pid) → mentions p pids.items ≡ cond (nat_lt 0 (how_many (λ m. same m p.node) nodes.now)) (tally (is_row group.now p) lists.now) 0) }
-    ensures ascends { IfOk result
-        (λ pids. length nodes.now ≤ 1 → Ascends pid_cmp pids.items) }
+    ensures ascends { IfOk result (λ pids. Ascends pid_cmp pids.items) }
 {
-    let mut pids = Vec::new(alloc);
+    let mut pids = Vec::with_capacity(alloc, nodes.len())?;
     for node in nodes {
         lists.push_members(&mut pids, node, group)?;
     }

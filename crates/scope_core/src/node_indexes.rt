@@ -1,5 +1,5 @@
-//! The map of a node's rows and its two indexes, made of rows in order.
-ghost use Rattle.std.specs.Prelude.{◌≡◌, ◌&&◌, ◌||◌, ℕ, List, cond, false, None, IsTrue, IfSome, IfOk, OnOk};
+//! The two indexes of a node's rows, made of rows in order, and where one row comes or goes.
+ghost use Rattle.std.specs.Prelude.{◌≡◌, ◌&&◌, ◌||◌, ℕ, List, cond, false, None, Some, IsTrue, IfSome, IfOk, OnOk, OnErr};
 ghost use Rattle.std.specs.Option.{is_some};
 ghost use Rattle.std.specs.Ordering.{eq_by_cmp, is_eq, is_gt};
 ghost use Rattle.std.specs.declared.cmp.Ordering.TheVariants.{Less};
@@ -15,12 +15,11 @@ ghost use Rattle.scope_core.specs.Copies.{process_keys, keyed, keyed_maps, is_ke
 ghost use Rattle.scope_core.specs.HashedRows.{key_cmp, key_of, row_at, stands, entries_in};
 
 use crate::counted::Counted;
-use crate::nested_map::take;
+use crate::nested_map::{put, take};
 use crate::process_key::ProcessKey;
 use crate::reads::run_of;
 use crate::small_map::SmallMap;
 use dist_types::{Group, OutOfMemory, Row, TryClone};
-use indexmap::IndexMap;
 use std::alloc::Global;
 use std::collections::BTreeMap;
 
@@ -180,28 +179,40 @@ fn add_name(
     Ok(())
 }
 
-/// The map of rows in order.
-pub fn counts_of(alloc: Global, rows: Vec<Counted>) -> Result<IndexMap<Row, u32>, OutOfMemory>
-    requires { Rises counted_cmp rows.items }
-    ensures { IfOk result (λ counts. counts.entries ≡ entries_in rows.items) }
+/// Puts a new row into both indexes, or into none of them.
+pub fn name(
+    alloc: Global,
+    groups: &mut BTreeMap<Group, SmallMap<ProcessKey, u32>>,
+    processes: &mut BTreeMap<ProcessKey, SmallMap<Group, ()>>,
+    row: &Row,
+    count: u32,
+) -> Result<(), OutOfMemory>
+    requires { find_in text_cmp key_cmp groups.old row.now.group (key_of row.now.pid) ≡ None }
+    ensures groups { OnOk result ((g : List ℕ) (k : ProcessKey) → find_in text_cmp key_cmp groups.new g k ≡ cond (eq_by_cmp text_cmp row.now.group g && eq_by_cmp key_cmp (key_of row.now.pid) k) (Some count) (find_in text_cmp key_cmp groups.old g k)) }
+    ensures processes { OnOk result ((k : ProcessKey) (g : List ℕ) → find_in key_cmp text_cmp processes.new k g ≡ cond (eq_by_cmp key_cmp (key_of row.now.pid) k && eq_by_cmp text_cmp row.now.group g) (Some tt) (find_in key_cmp text_cmp processes.old k g)) }
+    ensures same_groups { OnErr result ((g : List ℕ) (k : ProcessKey) → find_in text_cmp key_cmp groups.new g k ≡ find_in text_cmp key_cmp groups.old g k) }
+    ensures same_processes { OnErr result ((k : ProcessKey) (g : List ℕ) → find_in key_cmp text_cmp processes.new k g ≡ find_in key_cmp text_cmp processes.old k g) }
 {
-    let mut counts = IndexMap::with_capacity(alloc, rows.len())?;
-    for Counted { row, count } in rows {
-        counts.insert(row, count)?;
+    let key = ProcessKey::of(&row.pid);
+    let group = row.group.try_clone(alloc)?;
+    put(alloc, groups, &row.group, key, count)?;
+    let named = put(alloc, processes, &key, group, ());
+    if named.is_err() {
+        take(groups, &row.group, &key);
     }
-    Ok(counts)
+    named
 }
 
 /// Takes a row out of both indexes.
 pub fn forget(
     groups: &mut BTreeMap<Group, SmallMap<ProcessKey, u32>>,
     processes: &mut BTreeMap<ProcessKey, SmallMap<Group, ()>>,
-    row: &Row,
+    group: &Group,
+    key: &ProcessKey,
 )
-    ensures groups { (g : List ℕ) (k : ProcessKey) → find_in text_cmp key_cmp groups.new g k ≡ cond (eq_by_cmp text_cmp row.now.group g && eq_by_cmp key_cmp (key_of row.now.pid) k) None (find_in text_cmp key_cmp groups.old g k) }
-    ensures processes { (k : ProcessKey) (g : List ℕ) → find_in key_cmp text_cmp processes.new k g ≡ cond (eq_by_cmp key_cmp (key_of row.now.pid) k && eq_by_cmp text_cmp row.now.group g) None (find_in key_cmp text_cmp processes.old k g) }
+    ensures groups { (g : List ℕ) (k : ProcessKey) → find_in text_cmp key_cmp groups.new g k ≡ cond (eq_by_cmp text_cmp group.now g && eq_by_cmp key_cmp key.now k) None (find_in text_cmp key_cmp groups.old g k) }
+    ensures processes { (k : ProcessKey) (g : List ℕ) → find_in key_cmp text_cmp processes.new k g ≡ cond (eq_by_cmp key_cmp key.now k && eq_by_cmp text_cmp group.now g) None (find_in key_cmp text_cmp processes.old k g) }
 {
-    let key = ProcessKey::of(&row.pid);
-    take(groups, &row.group, &key);
-    take(processes, &key, &row.group);
+    take(groups, group, key);
+    take(processes, key, group);
 }

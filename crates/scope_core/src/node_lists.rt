@@ -1,15 +1,18 @@
 //! The rows of a scope, node by node.
 ghost use Rattle.std.specs.Prelude.{◌≡◌, ◌+◌, ◌≤◌, ◌<◌, ◌∷◌, ℕ, List, [], not, All, cond, IfSome, OnOk, OnErr, length};
 ghost use Rattle.std.specs.Option.{IfNone};
+ghost use Rattle.std.specs.List.{AllByRecursion};
+ghost use Rattle.std.specs.declared.cmp.Ordering.TheVariants.{Less};
 ghost use Rattle.dist_types.specs.declared.pid.Pid.{Pid};
 ghost use Rattle.dist_types.specs.Listing.{same, same_pid, mentions, Rises, Ascends};
-ghost use Rattle.dist_types.specs.Order.{pid_cmp};
+ghost use Rattle.dist_types.specs.Order.{text_cmp, pid_cmp};
 ghost use Rattle.scope_core.specs.Table.{tally, is_row, is_of_node, counted_cmp, max_rows};
 ghost use Rattle.scope_core.specs.Added.{without_node, are_all_in, Joins};
+ghost use Rattle.scope_core.specs.HashedRows.{with_process};
 ghost use Rattle.scope_core.specs.Indexed.{has_members};
 ghost use Rattle.scope_core.specs.NodeLists.{of_node, IsNodeList};
 
-use crate::counted::Counted;
+use crate::counted::{Counted, Membership};
 use crate::node_rows::NodeRows;
 use dist_types::{Group, NodeName, OutOfMemory, Pid, Row, TryClone};
 use indexmap::IndexMap;
@@ -73,7 +76,7 @@ impl NodeLists {
         group: &Group,
     ) -> Result<(), OutOfMemory>
         ensures counts { OnOk result ((p : Pid) → mentions p pids.new.items ≡ mentions p pids.old.items + cond (same node.now p.node) (tally (is_row group.now p) self.now) 0) }
-        ensures ascends { OnOk result (pids.old.items ≡ [] → Ascends pid_cmp pids.new.items) }
+        ensures ascends { OnOk result (AllByRecursion (λ p. text_cmp p.node node.now ≡ Less) pids.old.items → Ascends pid_cmp pids.old.items → Ascends pid_cmp pids.new.items) }
     {
         match self.get(node) {
             Some(list) => list.rows().push_members(pids, group),
@@ -156,18 +159,17 @@ impl NodeLists {
         !list.rows().has_group(&gone.row.group)
     }
 
-    /// Takes one of the rows of a process out. Answers it, and whether its node has none of its group any more.
-    pub fn pop_of(&mut self, pid: &Pid) -> Option<(Counted, bool)>
-        ensures gone { IfSome result (λ r. Joins (r.0 ∷ []) self.new self.old) }
-        ensures process { IfSome result (λ r. r.0.row.pid ≡ pid.now) }
-        ensures last { IfSome result (λ r. r.1 ≡ not (has_members r.0.row.group pid.now.node self.new)) }
+    /// Takes a process out of one of its groups. Answers which, and whether its node has no process in it any more.
+    pub fn pop_of(&mut self, pid: &Pid) -> Option<(Membership, bool)>
+        ensures gone { IfSome result (λ r. Joins (with_process pid.now r.0 ∷ []) self.new self.old) }
+        ensures last { IfSome result (λ r. r.1 ≡ not (has_members r.0.group pid.now.node self.new)) }
         ensures fewer { IfSome result (λ r. length self.new < length self.old) }
         ensures none { IfNone result (tally (λ r. same_pid r.pid pid.now) self.old ≡ 0) }
         ensures same { IfNone result (self.new ≡ self.old) }
     {
         let list = self.lists.get_mut(&pid.node)?;
         let gone = list.pop_of(pid)?;
-        let is_last = !list.rows().has_group(&gone.row.group);
+        let is_last = !list.rows().has_group(&gone.group);
         Some((gone, is_last))
     }
 

@@ -1,13 +1,13 @@
 //! The rows of one node, and how many they are.
-ghost use Rattle.std.specs.Prelude.{◌≡◌, ◌+◌, ◌≤◌, ◌<◌, ◌∷◌, [], IfSome, IfOk, OnOk, OnErr, length};
+ghost use Rattle.std.specs.Prelude.{◌≡◌, ◌+◌, ◌≤◌, ◌<◌, ◌∷◌, [], All, IfSome, IfOk, OnOk, OnErr, length};
 ghost use Rattle.std.specs.Option.{IfNone};
 ghost use Rattle.dist_types.specs.Listing.{same_pid, total, Rises};
 ghost use Rattle.scope_core.specs.Table.{tally, is_row, counted_cmp, max_rows};
 ghost use Rattle.scope_core.specs.Added.{are_all_in, Joins};
-ghost use Rattle.scope_core.specs.HashedRows.{NodeTable};
+ghost use Rattle.scope_core.specs.HashedRows.{NodeTable, with_process};
 ghost use Rattle.scope_core.specs.NodeLists.{IsNodeList};
 
-use crate::counted::Counted;
+use crate::counted::{Counted, Membership};
 use crate::hashed_rows::HashedRows;
 use crate::reads::total_of;
 use dist_types::{NodeName, OutOfMemory, Pid, Row};
@@ -82,6 +82,7 @@ impl NodeRows {
 
     /// Whether each row stands in the list at most as often as it is counted. It takes no memory.
     pub fn are_all_in(&mut self, gone: &[Row]) -> bool
+        requires { All (λ r. r.pid.node ≡ self.old.node) gone.now }
         ensures value { result ≡ are_all_in self.old.rows gone.now }
         ensures same { self.new ≡ self.old }
     {
@@ -102,18 +103,17 @@ impl NodeRows {
         self.total -= gone.count as usize;
     }
 
-    /// Takes one of the rows of a process out.
-    pub fn pop_of(&mut self, pid: &Pid) -> Option<Counted>
+    /// Takes a process out of one of its groups.
+    pub fn pop_of(&mut self, pid: &Pid) -> Option<Membership>
         requires { pid.now.node ≡ self.old.node }
-        ensures gone { IfSome result (λ c. Joins (c ∷ []) self.new.rows self.old.rows) }
-        ensures process { IfSome result (λ c. c.row.pid ≡ pid.now) }
-        ensures fewer { IfSome result (λ c. length self.new.rows < length self.old.rows) }
+        ensures gone { IfSome result (λ m. Joins (with_process pid.now m ∷ []) self.new.rows self.old.rows) }
+        ensures fewer { IfSome result (λ _. length self.new.rows < length self.old.rows) }
         ensures none { IfNone result (tally (λ r. same_pid r.pid pid.now) self.old.rows ≡ 0) }
         ensures same { IfNone result (self.new ≡ self.old) }
         ensures node { self.new.node ≡ self.old.node }
     {
-        let counted = self.rows.pop_of(pid)?;
-        self.total -= counted.count as usize;
-        Some(counted)
+        let gone = self.rows.pop_of(pid)?;
+        self.total -= gone.count as usize;
+        Some(gone)
     }
 }

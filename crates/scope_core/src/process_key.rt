@@ -6,7 +6,7 @@ use dist_types::{NodeName, OutOfMemory, Pid, TryClone};
 use std::alloc::Global;
 
 /// What tells a process from others of its node.
-#[derive(Clone, Copy, Debug, PartialEq, Eq, PartialOrd, Ord)]
+#[derive(Clone, Copy, Debug, PartialEq, Eq, PartialOrd, Ord, Hash)]
 pub struct ProcessKey {
     pub creation: u32,
     pub number: u64,

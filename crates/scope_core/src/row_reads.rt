@@ -1,25 +1,27 @@
 //! What is read off the rows of one node, in their order.
-ghost use Rattle.std.specs.Prelude.{◌≡◌, ◌+◌, ◌-◌, [], cond, All, IsTrue, IsSome, IfOk, OnOk, List, ℕ};
+ghost use Rattle.std.specs.Prelude.{◌≡◌, ◌+◌, ◌-◌, cond, replicate, All, IsTrue, IsSome, IfOk, OnOk, List, ℕ};
+ghost use Rattle.std.specs.List.{AllByRecursion};
 ghost use Rattle.std.specs.List.Sorted.{IsStrictlySortedBy};
 ghost use Rattle.std.specs.Map.{keys_of};
 ghost use Rattle.std.specs.BTreeMap.{get};
+ghost use Rattle.std.specs.declared.cmp.Ordering.TheVariants.{Less};
 ghost use Rattle.dist_types.specs.declared.pid.Pid.{Pid};
 ghost use Rattle.dist_types.specs.Order.{text_cmp, pid_cmp};
 ghost use Rattle.dist_types.specs.Listing.{same, same_pid, how_many, mentions, Rises, Ascends};
 ghost use Rattle.dist_types.specs.Difference.{IsDifference};
-ghost use Rattle.scope_core.specs.Table.{tally, is_row, counted_cmp, AreCounted, IsKept};
-ghost use Rattle.scope_core.specs.Added.{row_in, HasRoomFor};
+ghost use Rattle.scope_core.specs.Table.{tally, is_row, counted_cmp, AreCounted};
 ghost use Rattle.scope_core.specs.Indexed.{has_members};
 ghost use Rattle.scope_core.specs.SmallMap.{entries_of};
-ghost use Rattle.scope_core.specs.HashedRows.{with_counts};
+ghost use Rattle.scope_core.specs.Listed.{changes_left_by};
 
-use crate::changes::push_change;
+use crate::changes::{one_change, push_change};
 use crate::counted::Counted;
 use crate::group_members::{behind_all, push_counted, push_pids};
 use crate::hashed_rows::HashedRows;
 use crate::process_key::ProcessKey;
+use crate::reads::push_copies;
 use crate::small_map::SmallMap;
-use dist_types::{Group, GroupChange, OutOfMemory, Pid, Row, TryClone};
+use dist_types::{Group, GroupChange, OutOfMemory, Pid, Row};
 use std::collections::BTreeMap;
 
 impl HashedRows {
@@ -44,12 +46,12 @@ impl HashedRows {
     /// Puts the processes of a group at the end of a list, each as often as it is counted.
     pub fn push_members(&self, pids: &mut Vec<Pid>, group: &Group) -> Result<(), OutOfMemory>
         ensures counts { OnOk result ((p : Pid) → mentions p pids.new.items ≡ mentions p pids.old.items + cond (same self.now.node p.node) (tally (is_row group.now p) self.now.rows) 0) }
-        ensures ascends { OnOk result (pids.old.items ≡ [] → Ascends pid_cmp pids.new.items) }
+        ensures ascends { OnOk result (AllByRecursion (λ p. text_cmp p.node self.now.node ≡ Less) pids.old.items → Ascends pid_cmp pids.old.items → Ascends pid_cmp pids.new.items) }
     {
         let Some(members) = self.groups.get(group) else {
             return Ok(());
         };
-        push_pids(self.alloc, &self.node, members, pids)
+        push_pids(self.alloc, self.counts.node(), members, pids)
     }
 
     /// The changes where all rows leave.
@@ -61,7 +63,7 @@ impl HashedRows {
         let mut changes = Vec::with_capacity(self.alloc, self.groups.len())?;
         for (group, members) in self.groups.iter() {
             let mut left = Vec::new(self.alloc);
-            push_pids(self.alloc, &self.node, members, &mut left)?;
+            push_pids(self.alloc, self.counts.node(), members, &mut left)?;
             // The index may name a group that has no process: it has no change.
             push_change(self.alloc, &mut changes, group, left, Vec::new(self.alloc))?;
         }
@@ -75,61 +77,59 @@ impl HashedRows {
     {
         let mut rows = Vec::with_capacity(self.alloc, self.counts.len())?;
         for (group, members) in self.groups.iter() {
-            push_counted(self.alloc, &self.node, group, members, &mut rows)?;
+            push_counted(self.alloc, self.counts.node(), group, members, &mut rows)?;
         }
         Ok(rows)
     }
 
-    /// The rows of a process in their order.
-    pub fn of_process(&self, pid: &Pid) -> Result<Vec<Counted>, OutOfMemory>
-        requires own { pid.now.node ≡ self.now.node }
-        requires counted { AreCounted self.now.rows }
-        requires few { HasRoomFor [] self.now.rows }
-        ensures kept { IfOk result (λ rows. IsKept rows.items) }
-        ensures counts { IfOk result (λ rows. (g : List ℕ) (p : Pid) → tally (is_row g p) rows.items ≡ cond (same_pid p pid.now) (tally (is_row g p) self.now.rows) 0) }
+    /// The changes where a process leaves all groups.
+    pub fn left_by(&self, pid: &Pid) -> Result<Vec<GroupChange>, OutOfMemory>
+        requires { pid.now.node ≡ self.now.node }
+        ensures { IfOk result (λ changes. (before after : List ℕ → Pid → ℕ)
+            → ((g : List ℕ) (p : Pid) → before g p - after g p ≡ cond (same_pid p pid.now) (tally (is_row g p) self.now.rows) 0) → ((g : List ℕ) (p : Pid) → after g p - before g p ≡ 0) → IsDifference before after changes.items) }
     {
         let Some(groups) = self.processes.get(&ProcessKey::of(pid)) else {
             return Ok(Vec::new(self.alloc));
         };
-        self.counted_all(groups, pid)
+        self.left_from(groups, pid)
     }
 
-    /// The rows of a process in these groups, each with its count.
-    fn counted_all(
+    /// The changes where a process leaves these groups.
+    fn left_from(
         &self,
         groups: &SmallMap<Group, ()>,
         pid: &Pid,
-    ) -> Result<Vec<Counted>, OutOfMemory>
-        ensures rows { IfOk result (λ rows. rows.items ≡ with_counts self.now.rows pid.now (keys_of (entries_of groups.now))) }
+    ) -> Result<Vec<GroupChange>, OutOfMemory>
+        requires { pid.now.node ≡ self.now.node }
+        ensures changes { IfOk result (λ changes. changes.items ≡ changes_left_by self.now.rows pid.now (keys_of (entries_of groups.now))) }
         ensures ordered { IfOk result (λ _. IsStrictlySortedBy text_cmp (keys_of (entries_of groups.now))) }
     {
         match groups {
             SmallMap::Empty => Ok(Vec::new(self.alloc)),
             SmallMap::One(group, _) => {
-                let counted = self.counted(group, pid)?;
-                Ok(vec![in self.alloc; counted]?)
+                let left = self.copies(group, pid)?;
+                one_change(self.alloc, group, left, Vec::new(self.alloc))
             }
             SmallMap::Many(map) => {
-                let mut rows = Vec::with_capacity(self.alloc, map.len())?;
+                let mut changes = Vec::with_capacity(self.alloc, map.len())?;
                 for (group, _) in map {
-                    rows.push(self.counted(group, pid)?)?;
+                    let left = self.copies(group, pid)?;
+                    push_change(self.alloc, &mut changes, group, left, Vec::new(self.alloc))?;
                 }
-                Ok(rows)
+                Ok(changes)
             }
         }
     }
 
-    /// The row of a group and a process, with its count.
-    fn counted(&self, group: &Group, pid: &Pid) -> Result<Counted, OutOfMemory>
-        ensures { IfOk result (λ c. c ≡ record { row = row_in group.now pid.now; count = tally (is_row group.now pid.now) self.now.rows }) }
+    /// Copies of a process, as many as it is counted in a group.
+    fn copies(&self, group: &Group, pid: &Pid) -> Result<Vec<Pid>, OutOfMemory>
+        requires { pid.now.node ≡ self.now.node }
+        ensures { IfOk result (λ pids. pids.items ≡ replicate (tally (is_row group.now pid.now) self.now.rows) pid.now) }
     {
-        Ok(Counted {
-            row: Row {
-                group: group.try_clone(self.alloc)?,
-                pid: pid.try_clone(self.alloc)?,
-            },
-            count: self.count(group, pid),
-        })
+        let count = self.count(group, pid) as usize;
+        let mut pids = Vec::with_capacity(self.alloc, count)?;
+        push_copies(self.alloc, &mut pids, pid, count)?;
+        Ok(pids)
     }
 
     /// Whether these are the rows of the node in their order, each as often as it is counted.

@@ -232,7 +232,7 @@ impl ScopeTable {
         ensures { Counts self.old self.new (count_after_exit self.old pid.now) }
     {
         while let Some(gone) = self.rows.pop_of(pid) {
-            self.listings.forget(&gone.row.group);
+            self.listings.forget(&gone.group);
         }
         self.own_rows = self.rows.total_of(&self.own);
     }
@@ -242,8 +242,7 @@ impl ScopeTable {
         ensures change { IfOk result (λ changes. IsDifference (count_of self.now) (count_after_exit self.now pid.now) changes.items) }
         ensures limits { local_total self.now ≤ max_rows }
     {
-        let rows = self.rows.of_process(self.alloc, pid)?;
-        let changes = changes_left(self.alloc, &rows)?;
+        let changes = self.rows.left_by(self.alloc, pid)?;
         Ok(changes)
     }
 

@@ -1,5 +1,6 @@
 use Rattle.scope_core.proofs
-use proofs.Words.{Adds, AllByRecursion, AreCounted, arith, Counted, counted_cmp, HasRoomFor, HoldsAt}
+use proofs.Words.{Adds, AllByRecursion, AreCounted, arith, Counted, counted_cmp, HasRoomFor}
+use proofs.Words.{HoldsAt}
 use proofs.Words.{is_of_node, length, Less, Rises, row_cmp, subst, sym, []}
 use proofs.Words.{◌-◌, ◌∙◌, ◌∷◌, ◌≡◌}
 use proofs.Counting.{new_last, new_tally}

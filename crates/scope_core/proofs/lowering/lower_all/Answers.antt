@@ -1,5 +1,5 @@
 use Rattle.scope_core.proofs
-use proofs.Words.{ap, arith, get_or, subst, sym, ◌+◌, ◌≡◌}
+use proofs.Words.{ap, arith, get_or, subst, sym, ◌+◌, ◌∙◌, ◌≡◌}
 use proofs.LoweredRows.{lowered_more}
 use Rattle.scope_core.proofs.lowering.lower_all.Goals as goal
 
@@ -13,7 +13,8 @@ loop-row-preserved c =
     let one = c.lower.ensures.lowered c.if-not-lower.false in
     let there = c.lower.ensures.there c.if-not-lower.false in (
       ap (λ i. i + 1) so_far.0,
+      c.lower.ensures.node ∙ so_far.1,
       lowered_more gone k row (omega (arith, c.loop-row-test.true, so_far.0)) here
-          c.lower.new.counts.entries c.loop-row.counts.entries c.args.counts.now.entries
-          so_far.1 one there,
+          c.lower.new.self.entries c.loop-row.counts.entries c.args.counts.now.entries
+          so_far.2 one there,
     )

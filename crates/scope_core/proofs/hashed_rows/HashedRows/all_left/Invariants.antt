@@ -7,7 +7,7 @@ use Rattle.scope_core.proofs.hashed_rows.HashedRows.all_left.Given as goal
 -- with those of the groups to come, all changes are there
 abbrev pub invariant-loop-group : goal.invariant-loop-group
 invariant-loop-group l =
-    let node = l.self-inside.node in
+    let node = l.self-inside.counts.node in
     let all = l.self-inside.groups.entries in
     (l.changes.items ++ all_gone node l.group-iterator ≡ all_gone node all)
     × (AllByRecursion SortedMembers l.group-iterator → AllByRecursion SortedMembers all)

@@ -34,5 +34,6 @@ returns c = λ yes.
     let es = table.groups.entries in
     let here = sym c.self.view_is in
     let mine = subst (λ (t : NodeTable). c.args.rows.now ≡ repeated t.node es ++ []) here all in
-    rw (← c.self.view_is) (all_repeated table.node table.counts.entries table.groups table.processes
+    rw (← c.self.view_is) (all_repeated table.counts.node table.counts.entries table.groups
+    table.processes
     c.self.invariant c.iter-group-items.ensures.ordered members c.args.rows.now mine)

@@ -7,7 +7,7 @@ use Rattle.scope_core.proofs.hashed_rows.HashedRows.groups.Goals as goal
 
 pub returns : goal.returns
 returns c = λ g h.
-    let node = c.self.inside.node in
+    let node = c.self.inside.counts.node in
     let es = c.self.inside.counts.entries in
     let some =
     subst (λ (t : NodeTable). has_members g t.node t.rows ≡ true) (sym c.self.view_is) h in

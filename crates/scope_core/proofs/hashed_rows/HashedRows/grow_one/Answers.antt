@@ -4,26 +4,26 @@ use proofs.Words.{◌≡◌}
 use proofs.HashedRows.{stands_is}
 use Rattle.scope_core.proofs.hashed_rows.HashedRows.grow_one.Goals as goal
 
-pub returns-then-contains_key-clause-ok : goal.returns-then-contains_key-clause-ok
-returns-then-contains_key-clause-ok c =
+pub returns-then-contains-clause-ok : goal.returns-then-contains-clause-ok
+returns-then-contains-clause-ok c =
     let there : stands c.args.row.now c.args.self.now.rows ≡ true =
     sym (ap (λ (t : NodeTable). stands c.args.row.now t.rows) c.self.view_is)
     ∙ stands_is c.args.row.now c.self.inside.counts.entries
-    ∙ sym c.contains_key.ensures ∙ c.if-contains_key.true in
+    ∙ sym c.contains.ensures ∙ c.if-contains.true in
     grind (arith, common_steps, there)
 
-pub put_copy-requires-clause-fresh : goal.put_copy-requires-clause-fresh
-put_copy-requires-clause-fresh c =
+pub put-requires-clause-fresh : goal.put-requires-clause-fresh
+put-requires-clause-fresh c =
     sym (ap (λ (t : NodeTable). stands c.args.row.now t.rows) c.self.view_is)
     ∙ stands_is c.args.row.now c.self.inside.counts.entries
-    ∙ sym c.contains_key.ensures ∙ c.if-contains_key.false
+    ∙ sym c.contains.ensures ∙ c.if-contains.false
 
 pub returns-clause-ok : goal.returns-clause-ok
 returns-clause-ok c =
     let absent : stands c.args.row.now c.args.self.now.rows ≡ false =
     sym (ap (λ (t : NodeTable). stands c.args.row.now t.rows) c.self.view_is)
     ∙ stands_is c.args.row.now c.self.inside.counts.entries
-    ∙ sym c.contains_key.ensures ∙ c.if-contains_key.false in
-    on_ok_weaker c.put_copy.result
+    ∙ sym c.contains.ensures ∙ c.if-contains.false in
+    on_ok_weaker c.put.result
     (λ put. ap (λ (t : NodeTable). t.rows) put ∙ grind (arith, absent))
-    c.put_copy.ensures.ok
+    c.put.ensures.ok

@@ -9,7 +9,7 @@ returns-in-None c =
     let g = c.args.group.now in
     let es = c.self.inside.counts.entries in
     let none =
-    none_there g c.self.inside.node es
+    none_there g c.self.inside.counts.node es
     (λ k. sym (c.self.invariant.by_group g k) ∙ grind (arith, c.in-None.ensures.value)) in
     rw (← c.self.view_is) (grind (arith, none))
 
@@ -24,7 +24,7 @@ returns-in-Some c = by c.is_empty.result refl
         let at =
         λ (k : ProcessKey). sym (c.self.invariant.by_group g k)
         ∙ grind (arith, c.in-Some.ensures.value, c.is_empty.ensures.none e k) in
-        let none = none_there g c.self.inside.node c.self.inside.counts.entries at in
+        let none = none_there g c.self.inside.counts.node c.self.inside.counts.entries at in
         rw (← c.self.view_is) (grind (arith, e, none))
     by false e =
         let g = c.args.group.now in
@@ -34,5 +34,6 @@ returns-in-Some c = by c.is_empty.result refl
         let at =
         ap is_some (sym (c.self.invariant.by_group g one.0))
         ∙ grind (arith, c.in-Some.ensures.value, one.1) in
-        let some = some_there g c.self.inside.node one.0 c.self.inside.counts.entries counted at in
+        let es = c.self.inside.counts.entries in
+        let some = some_there g c.self.inside.counts.node one.0 es counted at in
         rw (← c.self.view_is) (grind (arith, e, some))

@@ -11,9 +11,9 @@ returns-clause-rises c =
     let rows = c.loop-group.rows.items in
     let done = c.in-None.ensures.steps.0 in
     let sorted = c.loop-group.invariant.1 (subst (AllByRecursion SortedMembers) (sym done) tt) in
-    let ended = sym (append-nil rows) ∙ ap (λ i. rows ++ flat table.node i) (sym done) in
+    let ended = sym (append-nil rows) ∙ ap (λ i. rows ++ flat table.counts.node i) (sym done) in
     let ordered = c.iter-group-items.ensures.ordered in
-    let all = flat_rises table.node table.groups.entries ordered sorted in
+    let all = flat_rises table.counts.node table.groups.entries ordered sorted in
     subst (Rises counted_cmp) (sym (ended ∙ c.loop-group.invariant.0)) all
 
 pub returns-clause-counts : goal.returns-clause-counts
@@ -22,7 +22,7 @@ returns-clause-counts c = λ g p.
     let rows = c.loop-group.rows.items in
     let done = c.in-None.ensures.steps.0 in
     let sorted = c.loop-group.invariant.1 (subst (AllByRecursion SortedMembers) (sym done) tt) in
-    let ended = sym (append-nil rows) ∙ ap (λ i. rows ++ flat table.node i) (sym done) in
+    let ended = sym (append-nil rows) ∙ ap (λ i. rows ++ flat table.counts.node i) (sym done) in
     rw (← c.self.view_is) (ap (tally (is_row g p)) (ended ∙ c.loop-group.invariant.0)
-    ∙ index_tally table.node table.counts.entries table.groups table.processes
+    ∙ index_tally table.counts.node table.counts.entries table.groups table.processes
     c.self.invariant c.iter-group-items.ensures.ordered sorted g p)

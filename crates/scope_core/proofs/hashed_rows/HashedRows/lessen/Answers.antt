@@ -1,9 +1,45 @@
 use Rattle.scope_core.proofs
-use proofs.Words.{arith}
+use proofs.Words.{ap, arith, is_row, NodeTable, stands, sym, tally, ◌∙◌, ◌≡◌}
+use proofs.HashedRows.{count_is, own_at, stands_is}
 use proofs.HashedWrites.{tally_stands}
+use Rattle.scope_core.proofs.hashed_rows.HashedRows.lessen.Goals.{After-get-count, After-self}
 use Rattle.scope_core.proofs.hashed_rows.HashedRows.lessen.Goals as goal
+
+own : (c : After-self) → c.args.gone.now.row.pid.node ≡ c.self.inside.counts.node
+own c =
+    let row = c.args.gone.now.row in
+    let es = c.self.inside.counts.entries in
+    let there = tally_stands row c.args.self.now.rows
+    (omega (arith, c.requires.some, c.requires.counted)) in
+    own_at _ row es c.self.invariant.own
+    (sym (stands_is row es) ∙ ap (λ (t : NodeTable). stands row t.rows) c.self.view_is ∙ there)
+
+pub get-count-requires : goal.get-count-requires
+get-count-requires c = own (goal.at.get-count-requires c).After-self
 
 pub set-requires : goal.set-requires
 set-requires c =
     tally_stands c.args.gone.now.row c.args.self.now.rows
     (omega (arith, c.requires.some, c.requires.counted))
+
+pub remove-requires : goal.remove-requires
+remove-requires c =
+    own (goal.at.remove-requires c).After-self ∙ ap (λ (t : NodeTable). t.node) c.self.view_is
+
+-- it is counted as the map has it
+count : (c : After-get-count) → c.get-count.result
+    ≡ tally (is_row c.args.gone.now.row.group c.args.gone.now.row.pid) c.args.self.now.rows
+count c =
+    let row = c.args.gone.now.row in
+    c.get-count.ensures ∙ sym (count_is row c.self.inside.counts.entries c.self.invariant.once)
+    ∙ ap (λ (t : NodeTable). tally (is_row row.group row.pid) t.rows) c.self.view_is
+
+pub returns-then-count-gone-clause-taken : goal.returns-then-count-gone-clause-taken
+returns-then-count-gone-clause-taken c = λ test.
+    let is = count (goal.at.returns-then-count-gone-clause-taken c).After-get-count in
+    grind (arith, c.set.ensures.tallies test, is, c.if-count-gone.true, c.requires.counted)
+
+pub returns-clause-taken : goal.returns-clause-taken
+returns-clause-taken c = λ test.
+    let is = count (goal.at.returns-clause-taken c).After-get-count in
+    grind (arith, c.remove.ensures.tallies test, is, c.if-count-gone.false, c.requires.counted)

@@ -1,15 +1,27 @@
 use Rattle.scope_core.proofs
-use proofs.Words.{ap, has_row, List, None, Row, ℕ, ◌∙◌}
-use proofs.HashedRows.{own_at, some_cond}
-use proofs.HashedWrites.{hashed_write, last_there}
+use proofs.Words.{ap, Counted, counted_in, length, length-map, NodeTable, None, refl, Row, row_at}
+use proofs.Words.{sym, take, ℕ, ◌-◌, ◌∙◌}
+use Rattle.std.proofs.lemmas.List.{take-map}
+use Rattle.scope_core.specs.HashedRows.{NodeCounts}
+use proofs.HashedRows.{some_cond}
+use proofs.HashedWrites.{hashed_write}
 use Rattle.scope_core.proofs.hashed_rows.HashedRows.pop.Goals as goal
 
 pub invariant_of-self-2 : goal.invariant_of-self-2
 invariant_of-self-2 c =
-    let row = c.in-Some.row in
-    let there =
-    ap (λ (xs : List (Row × ℕ)). has_row xs row) c.in-Some.ensures.entries
-    ∙ last_there c.pop.new.self.entries row c.in-Some.field-0-1 in
-    hashed_write c.self.invariant row (own_at _ row _ c.self.invariant.own there) None _ _ _
-    c.in-Some.ensures.unique c.in-Some.ensures.updates.0 c.forget.ensures.groups
-    (λ k g. some_cond _ _ _ _ (c.forget.ensures.processes k g))
+    let row = row_at c.self.inside.counts.node c.in-Some.row.group c.in-Some.row.process in
+    rw (ap (λ (t : NodeCounts). t.node) c.pop.ensures.shorter)
+    (hashed_write c.self.invariant row refl None _ _ _ c.pop.ensures.once c.in-Some.ensures.written
+    c.forget.ensures.groups (λ k g. some_cond _ _ _ _ (c.forget.ensures.processes k g)))
+
+pub returns : goal.returns
+returns c =
+    let es = c.self.inside.counts.entries in
+    let node = c.self.inside.counts.node in
+    let shown : Row × ℕ → Counted = λ e. record { row = e.0; count = e.1 } in
+    ap (λ (t : NodeCounts). record { node = t.node; rows = counted_in t.entries })
+    c.pop.ensures.shorter
+    ∙ (λ i. record { node = node; rows = sym (take-map shown (length es - 1) es) i })
+    ∙ (λ i. record { node = node; rows = take (sym (length-map es shown) i - 1) (counted_in es) })
+    ∙ ap (λ (t : NodeTable).
+    record { node = t.node; rows = take (length t.rows - 1) t.rows }) c.self.view_is

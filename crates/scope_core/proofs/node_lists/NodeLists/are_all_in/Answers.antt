@@ -1,7 +1,7 @@
 use Rattle.scope_core.proofs
-use proofs.Words.{all_rows, ap, NodeTable, rows_by_node, sym, ◌∙◌}
+use proofs.Words.{All, all_rows, ap, NodeTable, rows_by_node, subst, sym, ◌∙◌, ◌≡◌}
 use proofs.NodeLists.{all_in_list, none_in}
-use proofs.NodeTables.{no_table, table_lists, table_rows, tables_same, tables_set}
+use proofs.NodeTables.{no_table, table_lists, table_node, table_rows, tables_same, tables_set}
 use Rattle.scope_core.proofs.node_lists.NodeLists.are_all_in.Goals as goal
 
 pub returns-in_default-clause-value : goal.returns-in_default-clause-value
@@ -37,3 +37,9 @@ returns-clause-same c =
     c.in-Some.list.now c.are_all_in.new.self (sym c.in-Some.ensures.value)
     (c.get_mut.follows.holds c.are_all_in.new.self).0
     c.are_all_in.ensures.same ∙ c.self.view_is
+
+pub are_all_in-requires : goal.are_all_in-requires
+are_all_in-requires c =
+    let node = table_node c.args.node.now c.self.inside.lists.entries c.in-Some.list.now
+    c.self.invariant.each (sym c.in-Some.ensures.value) in
+    subst (λ n. All (λ r. r.pid.node ≡ n) c.args.gone.now) (sym node) c.requires

@@ -68,4 +68,4 @@ returns-clause-last c =
     ∙ tables_members c.args.pid.now.node c.self.inside.lists.entries _
     c.in_ok-list.list.now c.pop_of.new.self (sym c.in_ok-list.ensures.value)
     (c.get_mut.follows.holds c.pop_of.new.self).0 c.self.invariant c.pop_of.ensures.node
-    c.in_ok-gone.gone.row.group)
+    c.in_ok-gone.gone.group)

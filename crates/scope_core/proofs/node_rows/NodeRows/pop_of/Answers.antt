@@ -5,12 +5,12 @@ use Rattle.scope_core.proofs.node_rows.NodeRows.pop_of.Goals as goal
 
 pub overflow_sub-self : goal.overflow_sub-self
 overflow_sub-self c =
-    let gone = c.in_ok-counted.ensures.gone (λ _. true) in
+    let gone = c.in_ok-gone.ensures.gone (λ _. true) in
     omega (arith, c.self.invariant.total, gone)
 
 pub invariant_of-self-2 : goal.invariant_of-self-2
 invariant_of-self-2 c =
-    let gone = c.in_ok-counted.ensures.gone in
+    let gone = c.in_ok-gone.ensures.gone in
     let was = c.self.inside.rows in
     let all = gone (λ _. true) in
     record {

@@ -1,6 +1,6 @@
 use Rattle.scope_core.proofs
-use proofs.Words.{AreListings, arith, false, is_row, Pid, same_pid, same_pid_decides, subst, sym}
-use proofs.Words.{tally, ◌∙◌, ◌≡◌}
+use proofs.Words.{AreListings, arith, is_row, same_pid_decides, subst, sym, tally, ◌∙◌}
+use Rattle.scope_core.specs.HashedRows.{with_process}
 use proofs.Kept.{none_of_process, others_stay, popped_listed}
 use Rattle.scope_core.proofs.table.ScopeTable.exit.Goals as goal
 
@@ -8,12 +8,11 @@ pub loop-gone-preserved : goal.loop-gone-preserved
 loop-gone-preserved c =
     let old = c.loop-gone.self-inside.rows in
     let new = c.pop_of.new.self in
-    let gone = c.in-Some.gone in
+    let gone = with_process c.args.pid.now c.in-Some.gone in
     let joins = c.in-Some.ensures.gone in
     record {
       own = c.loop-gone.invariant.own;
-      others = λ g p e. others_stay gone old new joins g p
-          (subst (λ (q : Pid). same_pid q p ≡ false) (sym c.in-Some.ensures.process) e)
+      others = λ g p e. others_stay gone old new joins g p e
           ∙ c.loop-gone.invariant.others g p e;
       listed = popped_listed gone old new joins c.loop-gone.self-inside.listings c.forget.new.self
           c.loop-gone.invariant.listed c.forget.ensures;

@@ -10,7 +10,7 @@ the_table c = record { own = c.self.inside.own; rows = c.self.inside.rows }
 own_listing : (c : In_ok-push_members)
     → IsPidListing (local_count (the_table c) c.args.group.now) c.push_members.new.pids.items
 own_listing c = record {
-  ascends = c.in_ok-push_members.ensures.ascends c.new-pids.ensures.items;
+  ascends = rw (c.new-pids.ensures.items) at c.in_ok-push_members.ensures.ascends tt tt;
   counts = λ p. grind (
     arith,
     c.in_ok-push_members.ensures.counts p,
