@@ -76,5 +76,5 @@ for groups in 1 65536; do
   turns 3 60 65536 "$groups" 2
   show "60 peers, 65,536 rows, groups: $groups"
 done
-turns 1 60 65536 1 0
+turns 5 60 65536 1 0
 show "growing to 60 times 65,536 rows"
