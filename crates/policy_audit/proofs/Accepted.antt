@@ -95,37 +95,20 @@ module _ (h : History) (l : ℕ) (body : List ℕ) where
         (all_hold (challenge_checks h l f) e).1.0,
   )
 
-  replied : (x : Option ReplyFrame)
-      → first_broken (option_map_or (λ f. digest_checks h l f.digest) x (always Rule.BadFrame))
-      ≡ None → (g : ReplyFrame) × (x ≡ Some g)
-      × (bytes_eq g.digest (digest_for h l (own_challenge l h.entries)) ≡ true)
-  replied None e = no_value e
-  replied (Some g) e = (
-    g,
-    refl,
-    unbroken (bytes_eq g.digest (digest_for h l (own_challenge l h.entries)))
-        (all_hold (digest_checks h l g.digest) e).0,
-  )
-
-  acked : (x : Option AckFrame)
-      → first_broken (option_map_or (λ f. digest_checks h l f.digest) x (always Rule.BadFrame))
-      ≡ None → (g : AckFrame) × (x ≡ Some g)
-      × (bytes_eq g.digest (digest_for h l (own_challenge l h.entries)) ≡ true)
-  acked None e = no_value e
-  acked (Some g) e = (
-    g,
-    refl,
-    unbroken (bytes_eq g.digest (digest_for h l (own_challenge l h.entries)))
-        (all_hold (digest_checks h l g.digest) e).0,
-  )
+  digested : {F : Type 0} (digest : F → List ℕ) (x : Option F)
+      → first_broken (option_map_or (λ f. digest_checks h l (digest f)) x (always Rule.BadFrame))
+      ≡ None → (g : F) × (x ≡ Some g)
+      × (bytes_eq (digest g) (digest_for h l (own_challenge l h.entries)) ≡ true)
+  digested digest None e = no_value e
+  digested digest (Some g) e = (g, refl, unbroken _ (all_hold (digest_checks h l (digest g)) e).0)
 
   -- no check of a frame is broken: it is one of the kind
   pub fits : (k : Awaited) → first_broken (frame_checks h l body k) ≡ None
       → Fits h (opened l h.entries) (taken l h.entries) body k
   fits AwaitName e = named (name_frame body) e
   fits AwaitAnswer e = answered (status_of body) e
-  fits AwaitReply e = replied (reply_frame body) e
+  fits AwaitReply e = digested (λ (f : ReplyFrame). f.digest) (reply_frame body) e
   fits AwaitStatus e = welcomed (is_peer_up h l) (status_of body) e
   fits AwaitChallenge e = asked (challenge_frame body) e
-  fits AwaitAck e = acked (ack_frame body) e
+  fits AwaitAck e = digested (λ (f : AckFrame). f.digest) (ack_frame body) e
   fits AwaitMessage e = tt

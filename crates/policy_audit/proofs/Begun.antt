@@ -1,14 +1,15 @@
 -- What is kept of a message whose parts are coming.
 use Rattle.policy_audit.proofs
-use proofs.Words.{Accepted, always, arith, awaits, Begun, begun, Bool, completed, cond, Entry}
-use proofs.Words.{eq-eqb, eqb-true, Event, false, first_broken, frame_checks, frame_taken, History}
-use proofs.Words.{is_accepted, is_from, is_open, is_whole, IsPlayed, IsPlayedIn, judgement}
-use proofs.Words.{kept_after, List, list_all, list_all-append, Message, Message2, message_checks}
-use proofs.Words.{None, opened, Opening, Option, option_and_then, option_map_or, PartKind, past}
-use proofs.Words.{refl, Refused, Row, rows_before, rows_kept, rows_so_far, Rule, same, Some, subst}
-use proofs.Words.{Taken, taken, true, Verdict, whole_checks, ℕ, [], ◌&&◌, ◌==◌, ◌∷◌, ◌≡◌}
+use proofs.Words.{Accepted, always, arith, awaits, Begun, begun, Bool, completed, cond}
+use proofs.Words.{Entry, eq-eqb, eqb-true, Event, false, first_broken, frame_checks, frame_taken}
+use proofs.Words.{History, is_accepted, is_from, is_open, is_whole, IsPlayed, IsPlayedIn}
+use proofs.Words.{judgement, kept_after, List, list_all, list_all-append, Message, Message2}
+use proofs.Words.{message_checks, None, opened, Opening, Option, option_and_then, option_map_or}
+use proofs.Words.{own, PartKind, past, refl, Row, rows_before, rows_kept, rows_so_far, Rule, same}
+use proofs.Words.{so_far, Some, subst, Taken, taken, true, Verdict, whole, whole_checks, ℕ}
+use proofs.Words.{[], ◌&&◌, ◌==◌, ◌∷◌, ◌≡◌}
 use Rattle.policy_audit.specs.Parted.{moves_parts}
-use proofs.Accepted.{accepted, lie, open_first}
+use proofs.Accepted.{accepted, open_first}
 use proofs.Walked.{but, fresh}
 use proofs.Finished.{given_kept, kept, whole_awaits, whole_kept}
 use proofs.Effects.{entry_link}
@@ -31,15 +32,7 @@ module _ (o : Opening) (es : List Entry) (e : Entry) (l : ℕ) where
 
   pub others : (is_accepted e.verdict && moves_parts l es e.event) ≡ false
       → begun o l (e ∷ es) ≡ begun o l es
-  others quiet = by e.event e.verdict quiet
-    where
-      by : (ev : Event) (v : Verdict) → (is_accepted v && moves_parts l es ev) ≡ false
-          → begun o l (but e ev v ∷ es) ≡ begun o l es
-      by (Event.Frame k body) (Accepted r) q = grind (arith, q)
-      by (Event.StopScope s) (Accepted r) q = lie q
-      by Event.Restart (Accepted r) q = lie q
-      by ev (Accepted r) q = refl
-      by ev (Refused r) q = refl
+  others quiet = grind arith
 
 -- ---- before its side is whole nothing begins on a link
 
@@ -64,8 +57,7 @@ are_peers l es rows = list_all (λ r. is_from l es r.pid) rows
 before_peers : (l : ℕ) (es : List Entry) (b : Option Begun) (kind : PartKind) (s : List ℕ)
     (number : ℕ) → are_peers l es (rows_kept b) ≡ true
     → are_peers l es (rows_before b kind s number) ≡ true
-before_peers l es None kind s number q = grind arith
-before_peers l es (Some b) kind s number q = grind arith
+before_peers l es b kind s number q = grind arith
 
 so_far_peers : (l : ℕ) (es : List Entry) (b : Option Begun) (kind : PartKind) (s : List ℕ)
     (number : ℕ) (rows : List Row) → are_peers l es (rows_kept b) ≡ true
@@ -101,7 +93,7 @@ kept_peers o (e ∷ es) legal l =
     by_event e.event e.verdict legal.0.judged (kept_peers o es legal.1 l)
   where
     new : (e.number == l) ≡ true → opened l es ≡ None
-    new q = subst (λ x. opened x es ≡ None) (eqb-true e.number l q) (fresh o es legal.1 e legal.0)
+    new q = grind (arith, eqb-true, fresh)
 
     by_event : (ev : Event) (v : Verdict) → v ≡ judgement (past o es) e.seat ev
         → are_peers l es (rows_kept (begun o l es)) ≡ true
@@ -142,12 +134,7 @@ kept_peers o (e ∷ es) legal l =
         by true n false w = grind (arith, none_begun o es legal.1 l w)
         by false n b w =
             (let it = entry_link es fr k l body refl n in grind (arith, so_far, it.given, it.peer))
-    by_event (Event.Opened c) (Accepted r) q so_far = grind (arith, new, none_begun o es legal.1 l)
-    by_event (Event.Dial n c) (Accepted r) q so_far = grind (arith, new, none_begun o es legal.1 l)
-    by_event (Event.StopScope t) (Accepted r) q so_far = grind arith
-    by_event Event.Restart (Accepted r) q so_far = refl
-    by_event ev (Accepted r) q so_far = so_far
-    by_event ev (Refused r) q so_far = so_far
+    by_event ev v q so_far = grind (arith, new, none_begun o es legal.1 l)
 
 -- ---- a message that a frame completes meets the rules as a whole
 
@@ -163,18 +150,14 @@ completed_holds h l (Message2.Discover s) m peers q is =
 completed_holds h l (Message2.Down s) m peers q is =
     subst (λ x. first_broken (whole_checks h l x) ≡ None) (some_is is) q
 completed_holds h l (Message2.Part kind s number false rows) m peers q is = cc
-completed_holds h l (Message2.Part PartKind.Sync s number true rows) m peers q is =
-    let all = so_far_peers l h.entries (begun h.opening l h.entries) PartKind.Sync s number rows
-    peers (part_peers h l PartKind.Sync s number true rows q) in
-    subst (λ x. first_broken (whole_checks h l x) ≡ None) (some_is is) (grind arith)
-completed_holds h l (Message2.Part PartKind.Join s number true rows) m peers q is =
-    let all = so_far_peers l h.entries (begun h.opening l h.entries) PartKind.Join s number rows
-    peers (part_peers h l PartKind.Join s number true rows q) in
-    subst (λ x. first_broken (whole_checks h l x) ≡ None) (some_is is) (grind arith)
-completed_holds h l (Message2.Part PartKind.Leave s number true rows) m peers q is =
-    let all = so_far_peers l h.entries (begun h.opening l h.entries) PartKind.Leave s number rows
-    peers (part_peers h l PartKind.Leave s number true rows q) in
-    subst (λ x. first_broken (whole_checks h l x) ≡ None) (some_is is) (grind arith)
+completed_holds h l (Message2.Part kind s number true rows) m peers q is =
+    subst (λ x. first_broken (whole_checks h l x) ≡ None) (some_is is)
+    (grind (
+      arith,
+      q,
+      so_far_peers l h.entries (begun h.opening l h.entries) kind s number rows peers
+          (part_peers h l kind s number true rows q),
+    ))
 
 pub said_holds : (h : History) → IsPlayed h
     → (l : ℕ) (body : List ℕ) (x : Option Message2) (m : Message)
@@ -183,4 +166,4 @@ pub said_holds : (h : History) → IsPlayed h
     → first_broken (whole_checks h l m) ≡ None
 said_holds h legal l body None m is q = cc
 said_holds h legal l body (Some f) m is q =
-    completed_holds h l f m (kept_peers h.opening h.entries legal l) q is
+    completed_holds h l f m (kept_peers _ _ legal l) q is

@@ -2,20 +2,19 @@
 use Rattle.policy_audit.proofs
 use proofs.Words.{AllByRecursion, ap, append-nil, arith, ascending, ascending_rises}
 use proofs.Words.{ascending_stands, bare_entry, Bool, Change, change, change_unless_empty, cond}
-use proofs.Words.{entered, Entry, entry_of, Event, events, events_of, exact_bytes, exact_pids}
-use proofs.Words.{false, first_of, flat_map, flat_map-append, GroupChange, groups_in, groups_named}
-use proofs.Words.{History, if_some, is_among, is_empty, is_full, is_local, is_running, IsChange}
-use proofs.Words.{IsDifference, IsListing, IsNext, IsPidListing, IsProper, Less, List}
-use proofs.Words.{list_any-append, listed, listed_by, listing, listing_counts, ltb-true, map}
-use proofs.Words.{mentions, nat_lt, not-false, one_of_many, option_map_or, or_parts, own, Pid}
-use proofs.Words.{pid_cmp, pids_named, pids_total, present_link, refl, Rises, row, rows_named, same}
-use proofs.Words.{same_decides, same_pid, same_pid_decides, same_row, scope_change, scopes_started}
-use proofs.Words.{starts, subst, sym, text_cmp, texts_total, total, true, unwrap_or, verdict}
-use proofs.Words.{with_entry, ℕ, [], ◌&&◌, ◌++◌, ◌+◌, ◌-◌, ◌<◌, ◌∙◌, ◌∷◌, ◌≡◌}
+use proofs.Words.{Entry, entry_of, Event, events, events_of, exact_bytes, exact_pids, false}
+use proofs.Words.{first_of, flat_map, flat_map-append, GroupChange, groups_in, groups_named}
+use proofs.Words.{History, if_some, is_among, is_empty, is_full, is_running, IsChange, IsDifference}
+use proofs.Words.{IsListing, IsNext, IsPidListing, IsProper, Less, List, list_any-append}
+use proofs.Words.{listed, listing, listing_counts, ltb-true, map, mentions, not-false, one_of_many}
+use proofs.Words.{or_parts, Pid, pid_cmp, pids_named, pids_total, refl, Rises, same, same_decides}
+use proofs.Words.{same_pid, same_pid_decides, scope_change, scopes_started, starts, subst, sym}
+use proofs.Words.{text_cmp, texts_total, total, true, unwrap_or, verdict, with_entry, ℕ, [], ◌&&◌}
+use proofs.Words.{◌++◌, ◌+◌, ◌-◌, ◌<◌, ◌∙◌, ◌∷◌, ◌≡◌}
 use proofs.Accepted.{lie}
 use proofs.LostWords.{change_unread}
 use proofs.OneDifference.{apart}
-use proofs.Named.{any_before, any_behind, group_named, has, listed_named, named_in, pid_named}
+use proofs.Named.{any_before, any_behind, group_named, listed_named, named_in, pid_named}
 
 -- ---- the difference in one scope
 
@@ -107,45 +106,39 @@ module _ (h k : History) where
   -- what either lists was named by the events of one of them
   before_named : (s g : List ℕ) (p : Pid) → 0 < listed h s g p
       → named_in s g p (events_of h k) ≡ true
-  before_named s g p q =
-      ap (has s g p) (flat_map-append (rows_named s) (events h.entries) (events k.entries))
-      ∙ any_before (λ r. same_row r (row g p)) (flat_map (rows_named s) (events h.entries))
-      (flat_map (rows_named s) (events k.entries)) (listed_named s g p h q)
+  before_named s g p q = grind (arith, flat_map-append, any_before, listed_named)
 
   after_named : (s g : List ℕ) (p : Pid) → 0 < listed k s g p
       → named_in s g p (events_of h k) ≡ true
-  after_named s g p q =
-      ap (has s g p) (flat_map-append (rows_named s) (events h.entries) (events k.entries))
-      ∙ any_behind (λ r. same_row r (row g p)) (flat_map (rows_named s) (events h.entries))
-      (flat_map (rows_named s) (events k.entries)) (listed_named s g p k q)
+  after_named s g p q = grind (arith, flat_map-append, any_behind, listed_named)
 
   more : (a b : ℕ) → 0 < a - b → 0 < a
   more a b q = omega (arith, q)
 
+  -- one side of it
+  module _ (c d : History)
+      (named : (s g : List ℕ) (p : Pid) → 0 < listed c s g p
+      → named_in s g p (events_of h k) ≡ true)
+      (s : List ℕ) where
+    side_is : (g : List ℕ) → IsPidListing (λ p. listed c s g p - listed d s g p)
+        (listing pid_cmp (λ p. listed c s g p - listed d s g p) (pids_named s g (events_of h k)))
+    side_is g = listing_counts pid_cmp same_pid pids_total exact_pids same_pid_decides _ _
+        (λ p q. pid_named s g p (events_of h k) (named s g p (more _ _ q)))
+
+    side_among : (g : List ℕ) (p : Pid) → 0 < listed c s g p - listed d s g p
+        → is_among g (ascending text_cmp (groups_named s (events_of h k))) ≡ true
+    side_among g p q =
+        ascending_stands text_cmp same texts_total exact_bytes same_decides g
+        (groups_named s (events_of h k))
+        ∙ group_named s g p (events_of h k) (named s g p (more _ _ q))
+
   scope_difference : (s : List ℕ) → IsDifference (listed h s) (listed k s) (scope_change h k s)
   scope_difference s =
-      difference (listed h s) (listed k s)
-      (λ g. listing pid_cmp (λ p. listed h s g p - listed k s g p)
-      (pids_named s g (events_of h k)))
-      (λ g. listing pid_cmp (λ p. listed k s g p - listed h s g p)
-      (pids_named s g (events_of h k)))
-      (λ g. listing_counts pid_cmp same_pid pids_total exact_pids same_pid_decides
-      (λ p. listed h s g p - listed k s g p) (pids_named s g (events_of h k))
-      (λ p q. pid_named s g p (events_of h k)
-      (before_named s g p (more (listed h s g p) (listed k s g p) q))))
-      (λ g. listing_counts pid_cmp same_pid pids_total exact_pids same_pid_decides
-      (λ p. listed k s g p - listed h s g p) (pids_named s g (events_of h k))
-      (λ p q. pid_named s g p (events_of h k)
-      (after_named s g p (more (listed k s g p) (listed h s g p) q))))
-      (ascending text_cmp (groups_named s (events_of h k)))
+      difference (listed h s) (listed k s) _ _ (side_is h k before_named s)
+      (side_is k h after_named s) (ascending text_cmp (groups_named s (events_of h k)))
       (ascending_rises text_cmp same texts_total exact_bytes same_decides
-      (groups_named s (events_of h k)))
-      (λ g p q. ascending_stands text_cmp same texts_total exact_bytes same_decides g
-      (groups_named s (events_of h k)) ∙ group_named s g p (events_of h k)
-      (before_named s g p (more (listed h s g p) (listed k s g p) q)))
-      (λ g p q. ascending_stands text_cmp same texts_total exact_bytes same_decides g
-      (groups_named s (events_of h k)) ∙ group_named s g p (events_of h k)
-      (after_named s g p (more (listed k s g p) (listed h s g p) q)))
+      (groups_named s (events_of h k))) (side_among h k before_named s)
+      (side_among k h after_named s)
 
 -- ---- scopes
 
@@ -153,32 +146,18 @@ module _ (h k : History) where
 pub was_started : (s : List ℕ) (es : List Event) → unwrap_or (first_of (starts s) es) false ≡ true
     → is_among s (flat_map scopes_started es) ≡ true
 was_started s [] q = lie (sym q)
-was_started s (Event.StartScope t ∷ es) q = grind (arith, was_started s es)
-was_started s (Event.StopScope t ∷ es) q = grind (arith, was_started s es)
-was_started s (e ∷ es) q = was_started s es q
+was_started s (e ∷ es) q = grind (arith, was_started s es)
 
 -- a scope that doesn't run lists nobody
 pub stopped_lists : (h : History) (s g : List ℕ) (p : Pid) → is_running h s ≡ false
     → listed h s g p ≡ 0
-stopped_lists h s g p q = by (is_local h p)
-  where
-    by : (b : Bool)
-        → cond b (own h s g p)
-        (cond (is_running h s) (option_map_or (listed_by h s g p) (present_link p.node h.entries) 0)
-        0) ≡ 0
-    by true = rw q
-    by false = rw q
+stopped_lists h s g p q = grind arith
 
 -- where each row of a scope is listed as often as before, there is no difference in it
 pub no_difference : (h k : History) (s : List ℕ)
     → ((g : List ℕ) (p : Pid) → listed h s g p ≡ listed k s g p)
     → IsDifference (listed h s) (listed k s) []
-no_difference h k s m = record {
-  groups = tt;
-  proper = tt;
-  left = λ g p. (let q : listed h s g p ≡ listed k s g p = m g p in omega (arith, q));
-  joined = λ g p. (let q : listed h s g p ≡ listed k s g p = m g p in omega (arith, q));
-}
+no_difference h k s m = grind (arith, m, proper)
 
 module _ (F : List ℕ → List GroupChange) where
   abbrev all_changes : List (List ℕ) → List Change
@@ -254,13 +233,16 @@ change_is h k = record {
         or_parts' : is_among s scopes ≡ false
             → (is_among s (flat_map scopes_started (events h.entries)) ≡ false)
             × (is_among s (flat_map scopes_started (events k.entries)) ≡ false)
-        or_parts' e =
-            or_parts _ _
-            (sym (sym e ∙ ascending_stands text_cmp same texts_total exact_bytes same_decides s
-            (flat_map scopes_started (events_of h k))
-            ∙ ap (is_among s) (flat_map-append scopes_started (events h.entries) (events k.entries))
-            ∙ list_any-append (λ t. same t s) (flat_map scopes_started (events h.entries))
-            (flat_map scopes_started (events k.entries))))
+        or_parts' e = grind (
+          arith,
+          or_parts,
+          ascending_stands,
+          texts_total,
+          exact_bytes,
+          same_decides,
+          flat_map-append,
+          list_any-append,
+        )
 
         absent : (es : List Entry) → is_among s (flat_map scopes_started (events es)) ≡ false
             → unwrap_or (first_of (starts s) (events es)) false ≡ false
@@ -274,21 +256,15 @@ no_change h k e = record { scopes = tt; some = tt; groups = λ s. no_difference 
 -- a change hangs on what is listed alone
 pub change_as : (h j k : History) → ((s g : List ℕ) (p : Pid) → listed j s g p ≡ listed k s g p)
     → (cs : List Change) → IsChange h j cs → IsChange h k cs
-change_as h j k same_rows cs c = record {
-  scopes = c.scopes;
-  some = c.some;
-  groups =
-      λ s. subst (λ f. IsDifference (listed h s) f (groups_in s cs)) (λ i g p. same_rows s g p i)
-      (c.groups s);
-}
+change_as h j k same_rows cs c = grind (arith, same_rows)
 
 -- the policy's entry is the next one
 pub next_is : (h : History) (seat : ℕ) (e : Event) → is_full h ≡ false
     → IsNext h (entry_of h seat e)
 next_is h seat e q = record {
   room =
-      ltb-true (entered h.entries) h.opening.entries
-      (not-false (nat_lt (entered h.entries) h.opening.entries) q);
+      ltb-true _ _
+      (not-false _ q);
   number = refl;
   verdict = refl;
   change =

@@ -1,19 +1,17 @@
 -- How few frames wait for a link whose side isn't whole, or that isn't open.
 use Rattle.policy_audit.proofs
-use proofs.Words.{Accepted, and_parts, ap, append-nil, arith, AwaitAck, AwaitAnswer, AwaitChallenge}
-use proofs.Words.{Awaited, AwaitMessage, AwaitName, AwaitReply, awaits, AwaitStatus, Bool, cond}
-use proofs.Words.{drops, ends, Entry, eq-eqb, eqb-true, Event, false, filter, frame_owes, History}
-use proofs.Words.{is_accepted, is_last, is_open, is_opened_by, is_up, is_whole, IsPlayed}
-use proofs.Words.{IsPlayedIn, IsStep, le-leb, length, length-append, List, listing, local_rows, map}
-use proofs.Words.{mentions, Message, min, nat_le, None, not, Opened, opened, Opening, Option}
-use proofs.Words.{or_parts, OutFrame, owed, own, past, pid_cmp, refl, refusal_owes, Refused, Reply}
-use proofs.Words.{row, Rule, running_scopes, same_pid, Some, Start, subst, sym, Taken, taken, true}
-use proofs.Words.{Verdict, waiting, waiting_in, was_up, whole_side, ℕ, [], ◌&&◌, ◌++◌, ◌+◌, ◌==◌}
-use proofs.Words.{◌||◌, ◌∙◌, ◌∷◌, ◌≡◌, ◌≤◌}
+use proofs.Words.{Accepted, and_parts, ap, append-nil, arith, AwaitAck, Awaited, AwaitMessage}
+use proofs.Words.{AwaitReply, awaits, Bool, cond, drops, Entry, eq-eqb, eqb-true, Event, false}
+use proofs.Words.{frame_owes, History, is_accepted, is_last, is_open, is_opened_by, is_up, is_whole}
+use proofs.Words.{IsPlayed, IsPlayedIn, IsStep, le-leb, length, length-append, List, nat_le}
+use proofs.Words.{None, Opened, opened, Opening, Option, or_parts, OutFrame, owed, past, refl}
+use proofs.Words.{refusal_owes, Refused, Reply, Rule, same, so_far, Some, Start, sym, Taken, taken}
+use proofs.Words.{true, Verdict, waiting, waiting_in, was_up, whole, whole_side, ℕ, []}
+use proofs.Words.{◌++◌, ◌+◌, ◌==◌, ◌∙◌, ◌∷◌, ◌≡◌, ◌≤◌}
 use proofs.Accepted.{lie}
 use proofs.Walked.{but, Far, far, fresh}
 use proofs.Finished.{is_message, whole_by}
-use proofs.KeptLinks.{all_untold, unopened_waiting, unowed, unseen, untold}
+use proofs.KeptLinks.{unopened_waiting, unowed, unspoken}
 use proofs.Onward.{ack_taken, frame_open, message_taken_on, newest, reply_taken, unwhole_awaits}
 use proofs.Onward.{whole_is_message}
 
@@ -21,13 +19,7 @@ use proofs.Onward.{whole_is_message}
 early_owes : (h : History) (l : ℕ) (body : List ℕ) (a : Awaited) → is_last a ≡ false
     → is_message a ≡ false
     → length (frame_owes h l body a) ≤ 2
-early_owes h l body AwaitName q m = grind arith
-early_owes h l body AwaitAnswer q m = grind arith
-early_owes h l body AwaitReply q m = lie q
-early_owes h l body AwaitStatus q m = grind arith
-early_owes h l body AwaitChallenge q m = grind arith
-early_owes h l body AwaitAck q m = lie q
-early_owes h l body AwaitMessage q m = lie m
+early_owes h l body a q m = grind arith
 
 -- a refused frame is owed one at most
 refusal_one : (r : Rule) → length (refusal_owes r) ≤ 1
@@ -66,13 +58,14 @@ module _ (o : Opening) (l : ℕ) where
 
     idle : (x : Entry) → taken l (x ∷ es) ≡ taken l es → owed h l x.number x.event x.verdict ≡ []
         → (is_open l (x ∷ es) ≡ true → is_open l es ≡ true) → Few es → Few (x ∷ es)
-    idle x same none opens few = subst
-        (λ ts. length (waiting_in o l (x ∷ es)) + cond
-        (is_open l (x ∷ es)) 1 0 ≤ length ts + length ts + 2) (sym same)
-        (no_more (drops l es x.verdict x.event) (is_open l (x ∷ es)) (is_open l es)
-        (waiting_in o l es)
-        (owed h l x.number x.event x.verdict)
-        (length (taken l es) + length (taken l es) + 2) none opens few)
+    idle x same none opens few = grind (
+      arith,
+      no_more (drops l es x.verdict x.event) (is_open l (x ∷ es)) (is_open l es)
+          (waiting_in o l es) (owed h l x.number x.event x.verdict)
+          (length (taken l es) + length (taken l es) + 2) none opens few,
+      opens,
+      few,
+    )
 
     down : is_whole l es ≡ false → is_up l es ≡ false
     down w = grind (arith, w)
@@ -123,11 +116,7 @@ module _ (o : Opening) (l : ℕ) where
           inner (early_owes h l body (awaits l es) (ap is_last q) (ap is_message q))
         where
           inner : length (frame_owes h l body (awaits l es)) ≤ 2 → Few (x ∷ es)
-          inner two =
-              sums (waiting_in o l (x ∷ es)) (waiting_in o l es) (frame_owes h l body (awaits l es))
-              (taken l (x ∷ es)) (taken l es) (record { body = body; before = es })
-              (is_open l (x ∷ es)) (is_open l es)
-              waits takes more opens two few
+          inner two = grind (arith, sums, waits, takes, more, opens, few)
 
       own_frame : (w : Bool) → is_whole l es ≡ w → is_whole l (x ∷ es) ≡ false
           → (w ≡ false → Few es) → Few (x ∷ es)
@@ -142,9 +131,7 @@ module _ (o : Opening) (l : ℕ) where
     module _ (e : Entry) where
       opens_by : (ev : Event) (v : Verdict) → is_opened_by l (but e ev v) ≡ false
           → is_open l (but e ev v ∷ es) ≡ true → is_open l es ≡ true
-      opens_by ev v old q =
-          (and_parts (not (ends l es v ev)) (is_open l es)
-          (sym (ap (λ b. b || (not (ends l es v ev) && is_open l es)) old) ∙ q)).1
+      opens_by ev v old q = grind (arith, and_parts)
 
       abbrev x : Event → Verdict → Entry
       x ev v = but e ev v
@@ -199,26 +186,9 @@ module _ (o : Opening) (l : ℕ) where
           framed k body r made so_far now (k == l) refl
       keeps_few (Event.Frame k body) (Refused r) made so_far now =
           refused k body r made now (so_far now) (is_open l es) refl
-      keeps_few (Event.StartScope s) (Accepted r) made so_far now =
-          quiet (Event.StartScope s) (Accepted r) refl refl
-          (unseen o es l (down now) (Message.Discover s)) (so_far now)
-      keeps_few (Event.StopScope s) (Accepted r) made so_far now =
-          quiet (Event.StopScope s) (Accepted r) refl refl
-          (unseen o es l (down now) (Message.Down s)) (so_far now)
-      keeps_few (Event.Exit p) (Accepted r) made so_far now =
-          quiet (Event.Exit p) (Accepted r) refl refl
-          (all_untold o es l (down now) (λ s. Message.Leave s)
-          (λ s. filter (λ w. same_pid w.pid p) (local_rows h s)) (running_scopes h))
+      keeps_few ev (Accepted r) made so_far now =
+          quiet ev (Accepted r) refl refl (unspoken o es l (down now) e.number ev (Accepted r) refl)
           (so_far now)
-      keeps_few (Event.Join s g ps) (Accepted r) made so_far now =
-          quiet (Event.Join s g ps) (Accepted r) refl refl
-          (untold o es l (down now) s (Message.Join s)
-          (map (row g) (listing pid_cmp (λ p. mentions p ps) ps))) (so_far now)
-      keeps_few (Event.Leave s g ps) (Accepted r) made so_far now =
-          quiet (Event.Leave s g ps) (Accepted r) refl refl
-          (untold o es l (down now) s (Message.Leave s)
-          (map (row g) (listing pid_cmp (λ p. min (mentions p ps) (own h s g p)) ps))) (so_far now)
-      keeps_few ev (Accepted r) made so_far now = quiet ev (Accepted r) refl refl refl (so_far now)
       keeps_few ev (Refused r) made so_far now = quiet ev (Refused r) refl refl refl (so_far now)
 
   few : (es : List Entry) → IsPlayedIn o es → is_whole l es ≡ false → Few es
@@ -237,44 +207,24 @@ module _ (o : Opening) (l : ℕ) where
     ends_now : (ev : Event) (v : Verdict) → is_open l es ≡ true
         → is_open l (but e ev v ∷ es) ≡ false
         → is_whole l (but e ev v ∷ es) ≡ true → waiting_in o l (but e ev v ∷ es) ≡ []
-    ends_now ev (Accepted r) was now whole = grind (arith, was, now)
-    ends_now (Event.Frame k body) (Refused r) was now whole = grind (arith, was, now, whole)
-    ends_now ev (Refused r) was now whole = lie (sym was ∙ now)
+    ends_now ev v was now whole = grind (arith, was, now, whole)
 
     -- where it was ended before, its side was whole before
     whole_was : (ev : Event) (v : Verdict) → IsStep (past o es) (but e ev v) → is_open l es ≡ false
         → is_opened_by l (but e ev v) ≡ false → is_whole l (but e ev v ∷ es) ≡ true
         → is_whole l es ≡ true
-    whole_was Event.Restart (Accepted r) made was old whole = lie (sym whole)
-    whole_was (Event.Opened c) (Accepted r) made was old whole = grind (arith, old, whole)
-    whole_was (Event.Dial n c) (Accepted r) made was old whole = grind (arith, old, whole)
     whole_was (Event.Frame k body) (Accepted r) made was old whole = by (k == l) refl
       where
         by : (b : Bool) → (k == l) ≡ b → is_whole l es ≡ true
-        by true m =
-            lie (sym
-            (frame_open (past o es) (but e (Event.Frame k body) (Accepted r)) made refl l body
-            (ap (λ j. Event.Frame j body) (eqb-true k l m))) ∙ was)
+        by true m = grind (arith, frame_open, eqb-true)
         by false m = grind (arith, whole, m)
-    whole_was ev (Accepted r) made was old whole = whole
-    whole_was ev (Refused r) made was old whole = whole
+    whole_was ev v made was old whole = grind (arith, old, whole)
 
     ended_next : IsStep (past o es) e
         → (is_open l es ≡ false → is_whole l es ≡ true → waiting_in o l es ≡ [])
         → is_open l (e ∷ es) ≡ false → is_whole l (e ∷ es) ≡ true → waiting_in o l (e ∷ es) ≡ []
-    ended_next made so_far now whole = by (is_open l es) refl
-      where
-        old : is_opened_by l e ≡ false
-        old =
-            (or_parts (is_opened_by l e) (not (ends l es e.verdict e.event) && is_open l es) now).0
-
-        by : (b : Bool) → is_open l es ≡ b → waiting_in o l (e ∷ es) ≡ []
-        by true was = ends_now e.event e.verdict was now whole
-        by false was =
-            none_left (drops l es e.verdict e.event) (waiting_in o l es)
-            (owed (past o es) l e.number e.event e.verdict)
-            (so_far was (whole_was e.event e.verdict made was old whole))
-            (unowed o es l was e e.event e.verdict made.judged old)
+    ended_next made so_far now whole =
+        grind (arith, so_far, or_parts, ends_now, none_left, whole_was, unowed)
 
   ended : (es : List Entry) → IsPlayedIn o es → is_open l es ≡ false → is_whole l es ≡ true
       → waiting_in o l es ≡ []
@@ -301,7 +251,7 @@ pub early : (h : History) → IsPlayed h → (l : ℕ) → is_whole l h.entries 
 early h legal l w =
     let frames =
     taken_few h.opening (opened l h.entries) (taken l h.entries)
-    (far h.opening h.entries legal l) w in
+    (far _ _ legal l) w in
     let waits = few h.opening l h.entries legal w in
     omega (arith, frames, waits)
 
@@ -312,8 +262,4 @@ early_few h legal l w = (let it = early h legal l w in omega (arith, it))
 -- at most six wait for a link that isn't open
 pub closed_few : (h : History) → IsPlayed h → (l : ℕ) → is_open l h.entries ≡ false
     → length (waiting h l) ≤ 6
-closed_few h legal l now = by (is_whole l h.entries) refl
-  where
-    by : (b : Bool) → is_whole l h.entries ≡ b → length (waiting h l) ≤ 6
-    by true whole = (let none = ended h.opening l h.entries legal now whole in grind (arith, none))
-    by false whole = early_few h legal l whole
+closed_few h legal l now = grind (arith, ended, early_few)

@@ -1,9 +1,9 @@
 -- What an entry does to the words of the policy, and what it leaves alone.
 use Rattle.policy_audit.proofs
-use proofs.Words.{Accepted, ap, arith, checks, cond, Entry, Event, false, first_broken, History}
-use proofs.Words.{is_accepted, is_running, IsSameLink, IsStep, judgement, just, leaves_rows, List}
-use proofs.Words.{listed, mentions, None, own, Pid, refl, Refused, Reply, same, same_decides}
-use proofs.Words.{same_pid, subst, sym, true, Verdict, ℕ, ◌&&◌, ◌+◌, ◌-◌, ◌==◌, ◌∙◌, ◌∷◌, ◌≡◌}
+use proofs.Words.{Accepted, arith, checks, cond, Entry, Event, false, first_broken, History}
+use proofs.Words.{is_accepted, is_running, IsSameLink, IsStep, judgement, just, leaves_rows}
+use proofs.Words.{List, listed, mentions, None, own, Pid, refl, Refused, Reply, same, same_decides}
+use proofs.Words.{same_pid, subst, sym, true, Verdict, ℕ, ◌&&◌, ◌+◌, ◌-◌, ◌==◌, ◌∷◌, ◌≡◌}
 use proofs.Accepted.{accepted, lie}
 use proofs.Walked.{but}
 
@@ -58,17 +58,10 @@ entry_exited h e q same_event a t f p = grind arith
 pub by_made : (h : History) (e : Entry) (ev : Event) (P : Entry → Type 0) → IsStep h e
     → is_accepted e.verdict ≡ true → e.event ≡ ev
     → ((r : Reply) → Accepted r ≡ judgement h e.seat ev → P (but e ev (Accepted r))) → P e
-by_made h e ev P made a q each = by e.event e.verdict made.judged a q
-  where
-    by : (x : Event) (v : Verdict) → v ≡ judgement h e.seat x → is_accepted v ≡ true → x ≡ ev
-        → P (but e x v)
-    by x (Accepted r) m a q =
-        subst (λ y. P (but e y (Accepted r))) (sym q) (each r (m ∙ ap (judgement h e.seat) q))
-    by x (Refused r) m a q = lie (sym a)
+by_made h e ev P made a q each =
+    by_accepted e ev (λ x. x.verdict ≡ judgement h x.seat x.event → P x) q a each made.judged
 
 -- an event that is accepted breaks no rule
 pub breaks_none : (h : History) (e : Entry) (ev : Event) → IsStep h e → is_accepted e.verdict ≡ true
     → e.event ≡ ev → first_broken (checks h e.seat ev) ≡ None
-breaks_none h e ev made a q =
-    by_made h e ev (λ x. first_broken (checks h e.seat ev) ≡ None) made a q
-    (λ r v. (accepted h e.seat ev r v).0)
+breaks_none h e ev made a q = grind (arith, accepted)

@@ -2,8 +2,8 @@
 use Rattle.policy_audit.proofs
 use Rattle.policy_audit.specs
 use proofs.Words.{Accepted, and_from, and_parts, ap, arith, beq, Bool, booleans_Decides, eq-eqb}
-use proofs.Words.{eqb-true, Event, GroupPids, List, OutFrame, Pid, pointwise, refl, Refused, Reply}
-use proofs.Words.{same, same_decides, same_pid, same_pid_decides, subst, sym, true, Update, Verdict}
+use proofs.Words.{eqb-true, Event, GroupPids, List, OutFrame, Pid, pointwise, refl, Refused}
+use proofs.Words.{Reply, same, same_decides, same_pid, same_pid_decides, sym, true, Update, Verdict}
 use proofs.Words.{ℕ, [], ◌&&◌, ◌==◌, ◌↔◌, ◌∷◌, ◌≡◌}
 use denote.Enum.Bare.{same_true, true_same}
 use Rattle.std.proofs.Common.{rules}
@@ -45,48 +45,40 @@ exact_event : (a b : Event) → event_eq.ghosts.eq a b ≡ true → a ≡ b
 exact_event Event.Restart Event.Restart q = refl
 exact_event (Event.SetCookie a) (Event.SetCookie b) q = ap Event.SetCookie (text a b q)
 exact_event (Event.SetCookieFor a c) (Event.SetCookieFor b d) q =
-    (let both = and_parts (same a b) (same c d) q in
-    λ i. Event.SetCookieFor (text a b both.0 i) (text c d both.1 i))
+    grind (arith, text a b, text c d)
 exact_event (Event.Allow a) (Event.Allow b) q = ap Event.Allow (texts a b q)
 exact_event (Event.StartScope a) (Event.StartScope b) q = ap Event.StartScope (text a b q)
 exact_event (Event.StopScope a) (Event.StopScope b) q = ap Event.StopScope (text a b q)
 exact_event Event.Spawn Event.Spawn q = refl
 exact_event (Event.Exit a) (Event.Exit b) q = ap Event.Exit (exact_pid a b q)
 exact_event (Event.Join a c x) (Event.Join b d y) q =
-    (let all = and_three (same a b) (same c d) (pointwise same_pid x y) q in
-    λ i. Event.Join (text a b all.0 i) (text c d all.1 i) (pids x y all.2 i))
+    grind (arith, text a b, text c d, pids x y)
 exact_event (Event.Leave a c x) (Event.Leave b d y) q =
-    (let all = and_three (same a b) (same c d) (pointwise same_pid x y) q in
-    λ i. Event.Leave (text a b all.0 i) (text c d all.1 i) (pids x y all.2 i))
+    grind (arith, text a b, text c d, pids x y)
 exact_event (Event.Members a c) (Event.Members b d) q =
-    (let both = and_parts (same a b) (same c d) q in
-    λ i. Event.Members (text a b both.0 i) (text c d both.1 i))
+    grind (arith, text a b, text c d)
 exact_event (Event.LocalMembers a c) (Event.LocalMembers b d) q =
-    (let both = and_parts (same a b) (same c d) q in
-    λ i. Event.LocalMembers (text a b both.0 i) (text c d both.1 i))
+    grind (arith, text a b, text c d)
 exact_event (Event.Groups a) (Event.Groups b) q = ap Event.Groups (text a b q)
 exact_event (Event.LocalGroups a) (Event.LocalGroups b) q = ap Event.LocalGroups (text a b q)
 exact_event (Event.Monitor a c) (Event.Monitor b d) q =
-    (let both = and_parts (same a b) (same c d) q in
-    λ i. Event.Monitor (text a b both.0 i) (text c d both.1 i))
+    grind (arith, text a b, text c d)
 exact_event (Event.MonitorScope a) (Event.MonitorScope b) q = ap Event.MonitorScope (text a b q)
 exact_event (Event.Demonitor a) (Event.Demonitor b) q = ap Event.Demonitor (eqb-true a b q)
 exact_event (Event.Updates a) (Event.Updates b) q = ap Event.Updates (eqb-true a b q)
 exact_event (Event.Dial a c) (Event.Dial b d) q =
-    (let both = and_parts (same a b) (c == d) q in
-    λ i. Event.Dial (text a b both.0 i) (eqb-true c d both.1 i))
+    grind (arith, text a b, eqb-true c d)
 exact_event (Event.Opened a) (Event.Opened b) q = ap Event.Opened (eqb-true a b q)
 exact_event (Event.Lost a) (Event.Lost b) q = ap Event.Lost (eqb-true a b q)
 exact_event (Event.Take a) (Event.Take b) q = ap Event.Take (eqb-true a b q)
 exact_event (Event.Disconnect a) (Event.Disconnect b) q = ap Event.Disconnect (text a b q)
 exact_event (Event.Frame a c) (Event.Frame b d) q =
-    (let both = and_parts (a == b) (same c d) q in
-    λ i. Event.Frame (eqb-true a b both.0 i) (text c d both.1 i))
+    grind (arith, eqb-true a b, text c d)
 exact_event a b q = lie (sym q)
 
 exact_group : (a b : GroupPids) → group_pids_eq.ghosts.eq a b ≡ true → a ≡ b
 exact_group a b q =
-    (let both = and_parts (same a.group b.group) (pointwise same_pid a.pids b.pids) q in
+    (let both = and_parts _ _ q in
     λ i. record { group = text a.group b.group both.0 i; pids = pids a.pids b.pids both.1 i })
 
 exact_update : (a b : Update) → update_eq.ghosts.eq a b ≡ true → a ≡ b
@@ -100,7 +92,7 @@ exact_update a b q =
     })
 
 exact_frame : (a b : OutFrame) → out_frame_eq.ghosts.eq a b ≡ true → a ≡ b
-exact_frame a b q = (let both = and_parts (beq a.wide b.wide) (same a.body b.body) q in
+exact_frame a b q = (let both = and_parts _ _ q in
     λ i. record { wide = bools a.wide b.wide both.0 i; body = text a.body b.body both.1 i })
 
 exact_reply : (a b : Reply) → reply_eq.ghosts.eq a b ≡ true → a ≡ b
@@ -108,17 +100,13 @@ exact_reply Reply.Done Reply.Done q = refl
 exact_reply (Reply.Pid p) (Reply.Pid r) q = ap Reply.Pid (exact_pid p r q)
 exact_reply (Reply.Link k) (Reply.Link l) q = ap Reply.Link (eqb-true k l q)
 exact_reply (Reply.Up n c v) (Reply.Up m d w) q =
-    (let all = and_three (same n m) (c == d) (beq v w) q in
-    λ i. Reply.Up (text n m all.0 i) (eqb-true c d all.1 i) (bools v w all.2 i))
+    grind (arith, text n m, eqb-true c d, bools v w)
 exact_reply (Reply.Pids ps) (Reply.Pids qs) q = ap Reply.Pids (pids ps qs q)
 exact_reply (Reply.Groups gs) (Reply.Groups hs) q = ap Reply.Groups (texts gs hs q)
 exact_reply (Reply.Ref k ps) (Reply.Ref l qs) q =
-    (let both = and_parts (k == l) (pointwise same_pid ps qs) q in
-    λ i. Reply.Ref (eqb-true k l both.0 i) (pids ps qs both.1 i))
+    grind (arith, eqb-true k l, pids ps qs)
 exact_reply (Reply.ScopeRef k gs) (Reply.ScopeRef l hs) q =
-    (let both = and_parts (k == l) (pointwise group_pids_eq.ghosts.eq gs hs) q in
-    λ i. Reply.ScopeRef (eqb-true k l both.0 i)
-    (exact_list group_pids_eq.ghosts.eq exact_group gs hs both.1 i))
+    grind (arith, eqb-true k l, exact_list group_pids_eq.ghosts.eq exact_group gs hs)
 exact_reply (Reply.Updates us) (Reply.Updates vs) q =
     ap Reply.Updates (exact_list update_eq.ghosts.eq exact_update us vs q)
 exact_reply (Reply.Out fs) (Reply.Out gs) q =
@@ -193,13 +181,10 @@ verdict_itself (Refused r) = true_same the_rule r r refl
 -- ---- both ways
 
 pub events_equal : (a b : Event) → (event_eq.ghosts.eq a b ≡ true) ↔ (a ≡ b)
-events_equal a b =
-    (exact_event a b, λ q. subst (λ x. event_eq.ghosts.eq a x ≡ true) q (event_itself a))
+events_equal a b = grind (arith, exact_event, event_itself)
 
 pub replies_equal : (a b : Reply) → (reply_eq.ghosts.eq a b ≡ true) ↔ (a ≡ b)
-replies_equal a b =
-    (exact_reply a b, λ q. subst (λ x. reply_eq.ghosts.eq a x ≡ true) q (reply_itself a))
+replies_equal a b = grind (arith, exact_reply, reply_itself)
 
 pub verdicts_equal : (a b : Verdict) → (verdict_eq.ghosts.eq a b ≡ true) ↔ (a ≡ b)
-verdicts_equal a b =
-    (exact_verdict a b, λ q. subst (λ x. verdict_eq.ghosts.eq a x ≡ true) q (verdict_itself a))
+verdicts_equal a b = grind (arith, exact_verdict, verdict_itself)

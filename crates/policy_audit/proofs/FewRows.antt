@@ -1,21 +1,17 @@
 -- A node has few own rows in each scope.
 use Rattle.policy_audit.proofs
-use proofs.Words.{Accepted, ap, arith, Bool, cond, Entry, Event, false, fewer_length, History}
+use proofs.Words.{Accepted, arith, Bool, cond, Entry, Event, false, fewer_length, History}
 use proofs.Words.{how_many_append, IsListing, join_checks, judgement, leb-true, length}
 use proofs.Words.{length-append, List, local_rows, map, mentions, nat_le, occurrences, Opening, own}
-use proofs.Words.{own_limit, past, Pid, refl, Refused, Reply, Row, row, same, same_decides}
-use proofs.Words.{same_row, same_row_decides, subst, suc, true, Verdict, ℕ, [], ◌++◌, ◌+◌, ◌∷◌, ◌≡◌}
-use proofs.Words.{◌≤◌}
+use proofs.Words.{own_limit, past, Pid, refl, Reply, Row, row, same, same_decides, same_row}
+use proofs.Words.{same_row_decides, subst, true, Verdict, ℕ, ◌++◌, ◌+◌, ◌∷◌, ◌≡◌, ◌≤◌}
 use Rattle.std.specs.Prelude.{◌⊎◌}
 use Rattle.std.proofs.Common.{inl, inr}
+use Rattle.std.proofs.lemmas.List.{length-map}
 use proofs.Accepted.{accepted, all_hold, unbroken}
 use proofs.Walked.{but}
 use proofs.Lists.{count_in_group}
 use proofs.OwnRows.{local_rows_are}
-
-length_map : {A B : Type 0} (f : A → B) (xs : List A) → length (map f xs) ≡ length xs
-length_map f [] = refl
-length_map f (x ∷ xs) = ap suc (length_map f xs)
 
 module _ (h : History) (s : List ℕ) where
   -- rows that are counted no more often than the own rows are no more than those
@@ -44,7 +40,7 @@ module _ (h : History) (s : List ℕ) where
             (local_rows h s) (map (row g) ps) in let joins = count_in_group r g ps in let some =
             counts r.group r.pid in omega (arith, now, was, both, joins, some)),
         length-append (local_rows h s) (map (row g) ps),
-        length_map (row g) ps,
+        length-map ps (row g),
       )
 
 module _ (o : Opening) (es : List Entry) (e : Entry) (s : List ℕ) where
@@ -76,14 +72,5 @@ module _ (o : Opening) (es : List Entry) (e : Entry) (s : List ℕ) where
       adds_none (Event.Join t g ps) (Accepted r) (λ f p. grind (arith, other))
 
   pub step : (ev : Event) (v : Verdict) → v ≡ judgement (past o es) e.seat ev → Grows (but e ev v)
-  step ev (Refused r) q = adds_none ev (Refused r) (λ f p. omega arith)
   step (Event.Join t g ps) (Accepted r) q = joins t g ps r q (same t s) refl
-  step (Event.Leave t g ps) (Accepted r) q =
-      adds_none (Event.Leave t g ps) (Accepted r) (λ f p. grind arith)
-  step (Event.Exit x) (Accepted r) q = adds_none (Event.Exit x) (Accepted r) (λ f p. grind arith)
-  step (Event.StartScope t) (Accepted r) q =
-      adds_none (Event.StartScope t) (Accepted r) (λ f p. grind arith)
-  step (Event.StopScope t) (Accepted r) q =
-      adds_none (Event.StopScope t) (Accepted r) (λ f p. grind arith)
-  step Event.Restart (Accepted r) q = adds_none Event.Restart (Accepted r) (λ f p. grind arith)
-  step ev (Accepted r) q = adds_none ev (Accepted r) (λ f p. omega arith)
+  step ev v q = adds_none ev v (λ f p. grind arith)

@@ -1,14 +1,14 @@
 -- What an accepted frame makes of its link: it completes the side, or leaves it whole or
 -- unfinished.
 use Rattle.policy_audit.proofs
-use proofs.Words.{ap, arith, Awaited, awaited_in, AwaitMessage, Bool, both_ways, ByDial, ByPeer}
-use proofs.Words.{Challenge, Entry, eqb-false, eqb-true, false, get_or, get_or-eq_default, given_in}
+use proofs.Words.{ap, arith, Awaited, awaited_in, AwaitMessage, Bool, ByDial, ByPeer, Challenge}
+use proofs.Words.{Entry, eqb-false, eqb-true, false, get_or, get_or-eq_default, given_in}
 use proofs.Words.{is_last, is_some, is_whole_in, le-leb, leb-true, length, length-append, List}
 use proofs.Words.{Name, nat_le, None, Opened, Opening, Option, option_and_then, option_map_or, refl}
 use proofs.Words.{Some, Start, suc, sym, Taken, true, was_up, whole_side, zero, ℕ, [], ◌++◌, ◌+◌}
 use proofs.Words.{◌==◌, ◌∙◌, ◌∷◌, ◌≡◌}
 use proofs.Accepted.{lie, peer_by}
-use proofs.Walked.{Far, Follow, Reach, Walk}
+use proofs.Walked.{Far, hello_of, Walk}
 
 -- whether the frames are a whole side
 abbrev pub whole_by : Option Opened → List Taken → Bool
@@ -21,10 +21,10 @@ abbrev pub given_by : Option Opened → List Taken → Option Name
 given_by oe ts = option_and_then (λ x. given_in x.start ts) oe
 
 pub two_of : {A : Type 0} (x y : A) (xs : List A) → nat_le 2 (length (x ∷ y ∷ xs)) ≡ true
-two_of x y xs = le-leb 2 (length (x ∷ y ∷ xs)) (omega arith)
+two_of x y xs = le-leb 2 _ (omega arith)
 
 pub three_of : {A : Type 0} (x y z : A) (xs : List A) → nat_le 3 (length (x ∷ y ∷ z ∷ xs)) ≡ true
-three_of x y z xs = le-leb 3 (length (x ∷ y ∷ z ∷ xs)) (omega arith)
+three_of x y z xs = le-leb 3 _ (omega arith)
 
 -- a message: what a link with a whole side awaits
 abbrev pub is_message : Awaited → Bool
@@ -56,7 +56,7 @@ pub whole_awaits : (oe : Option Opened) (ts : List Taken) → whole_by oe ts ≡
 whole_awaits None ts q = lie (sym q)
 whole_awaits (Some x) ts q =
     get_or-eq_default (whole_side x.start (was_up ts)) AwaitMessage
-    (leb-true (length (whole_side x.start (was_up ts))) (length ts) q)
+    (leb-true _ _ q)
 
 -- a link that awaits a message is whole
 pub message_whole : (oe : Option Opened) (ts : List Taken) → is_some oe ≡ true
@@ -68,17 +68,12 @@ module _ (m : Taken) where
   -- ---- a frame that is not the last of a side leaves it whole, or unfinished
 
   longer : (a n : ℕ) → (n + 1 == a) ≡ false → nat_le a (n + 1) ≡ nat_le a n
-  longer a n q =
-      both_ways (nat_le a (n + 1)) (nat_le a n)
-      (λ p. le-leb a n (omega (arith, leb-true a (n + 1) p, eqb-false (n + 1) a q)))
-      (λ p. le-leb a (n + 1) (omega (arith, leb-true a n p)))
+  longer a n q = grind (arith, le-leb, leb-true, eqb-false)
 
   stays_in : (s : Start) (ts : List Taken) → is_last (awaited_in s ts) ≡ false
       → is_whole_in s (ts ++ m ∷ []) ≡ is_whole_in s ts
   stays_in s [] q = grind arith
-  stays_in s (a ∷ ts) q =
-      rw length-append (longer (length (whole_side s (was_up (a ∷ [])))) (length (a ∷ ts))
-      (sym (last_is s (was_up (a ∷ [])) (length (a ∷ ts))) ∙ q))
+  stays_in s (a ∷ ts) q = grind (arith, length-append, longer, last_is)
 
   pub stays : (oe : Option Opened) (ts : List Taken) → is_last (awaited_by oe ts) ≡ false
       → whole_by oe (ts ++ m ∷ []) ≡ whole_by oe ts
@@ -103,6 +98,12 @@ module _ (m : Taken) where
 
   -- ---- the last frame of a side
 
+  -- it makes the side whole
+  ends_in : (s : Start) (ts : List Taken) → is_last (awaited_in s ts) ≡ true
+      → (is_whole_in s ts ≡ false) × (is_whole_in s (ts ++ m ∷ []) ≡ true)
+  ends_in s [] q = grind arith
+  ends_in s (a ∷ ts) q = grind (arith, last_is, le-leb, leb-true, eqb-true, length-append)
+
   -- what it makes: the peer and what it gave are known, and the side is whole
   pub record Completed (oe : Option Opened) (ts : List Taken) : Type 0 where
     pub peer : List ℕ
@@ -114,71 +115,32 @@ module _ (m : Taken) where
     pub is_whole : whole_by oe (ts ++ m ∷ []) ≡ true
 
   module _ (o : Opening) (bo : List Entry) where
-    let_in : (c : ℕ) (a : Taken) (ts : List Taken) → (f : Name)
-        → given_in (ByPeer c) (a ∷ []) ≡ Some f → (up : Bool) → was_up (a ∷ []) ≡ up
-        → Follow o c a up ts
-        → is_last (get_or (whole_side (ByPeer c) up) (length (a ∷ ts)) AwaitMessage) ≡ true
-        → Completed (Some (record { start = ByPeer c; before = bo })) (a ∷ ts)
-    let_in c a [] f named false u p q =
-        let name = ap (λ x. option_and_then {T = Name} {U = List ℕ} (λ g. Some g.name) x) named in
-        record {
-          peer = f.name;
-          gave = f;
-          was_of = name;
-          is_of = name;
-          was_given = named;
-          was_whole = ap (λ b. whole_after c b a []) u;
-          is_whole = ap (λ b. whole_after c b a (m ∷ [])) u;
-        }
-    let_in c a (b ∷ []) f named true u p q =
-        let name = ap (λ x. option_and_then {T = Name} {U = List ℕ} (λ g. Some g.name) x) named in
-        record {
-          peer = f.name;
-          gave = f;
-          was_of = name;
-          is_of = name;
-          was_given = named;
-          was_whole = ap (λ v. whole_after c v a (b ∷ [])) u;
-          is_whole = ap (λ v. whole_after c v a (b ∷ m ∷ [])) u;
-        }
-    let_in c a [] f named true u p q = lie (sym q)
-    let_in c a (b ∷ ts) f named false u p q = lie (sym q)
-    let_in c a (b ∷ r ∷ ts) f named true u p q = lie (sym q)
-
-    reached : (n : List ℕ) (c : ℕ) (ts : List Taken) → Reach o n c ts
-        → is_last (awaited_in (ByDial n c) ts) ≡ true
-        → Completed (Some (record { start = ByDial n c; before = bo })) ts
-    reached n c [] p q = lie (sym q)
-    reached n c (a ∷ []) p q = lie (sym q)
-    reached n c (a ∷ b ∷ []) p q =
-        let gave = ap (λ x. option_and_then {T = Challenge} {U =
-        Name} (λ f. Some (record {
-          flags = f.flags;
-          creation = f.creation;
-          name = f.name;
-          version = f.version;
-        })) x) p.1.1 in
-        record {
-          peer = n;
-          gave = record {
-            flags = p.1.0.flags;
-            creation = p.1.0.creation;
-            name = p.1.0.name;
-            version = p.1.0.version;
-          };
-          was_of = refl;
-          is_of = refl;
-          was_given = gave;
-          was_whole = refl;
-          is_whole = refl;
-        }
-    reached n c (a ∷ b ∷ r ∷ ts) p q = lie (sym q)
-
     completed_in : (s : Start) (ts : List Taken) → Walk o bo s ts → is_last (awaited_in s ts) ≡ true
         → Completed (Some (record { start = s; before = bo })) ts
     completed_in (ByPeer c) [] p q = lie (sym q)
-    completed_in (ByPeer c) (a ∷ ts) p q = let_in c a ts p.0.0 p.0.1 (was_up (a ∷ [])) refl p.1 q
-    completed_in (ByDial n c) ts p q = reached n c ts p.1 q
+    completed_in (ByPeer c) (a ∷ ts) p q =
+        let ends = ends_in (ByPeer c) (a ∷ ts) q in
+        let name = ap (λ x. option_and_then {T = Name} {U = List ℕ} (λ g. Some g.name) x) p.0.1 in
+        record {
+          peer = p.0.0.name;
+          gave = p.0.0;
+          was_of = name;
+          is_of = name;
+          was_given = p.0.1;
+          was_whole = ends.0;
+          is_whole = ends.1;
+        }
+    completed_in (ByDial n c) (a ∷ b ∷ []) p q = record {
+      peer = n;
+      gave = hello_of p.1.1.0;
+      was_of = refl;
+      is_of = refl;
+      was_given =
+          ap (λ x. option_and_then {T = Challenge} {U = Name} (λ f. Some (hello_of f)) x) p.1.1.1;
+      was_whole = refl;
+      is_whole = refl;
+    }
+    completed_in (ByDial n c) ts p q = lie (sym q)
 
   pub completed : (o : Opening) (oe : Option Opened) (ts : List Taken) → Far o oe ts
       → is_last (awaited_by oe ts) ≡ true → Completed oe ts

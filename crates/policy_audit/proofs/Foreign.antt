@@ -1,11 +1,11 @@
 -- The peer of a link never has the node's own name.
 use Rattle.policy_audit.proofs
 use proofs.Walked.{but, fresh}
-use proofs.Words.{Accepted, arith, awaits, checks, dial_checks, Entry, eqb-true, Event, false}
-use proofs.Words.{first_broken, frame_checks, History, is_accepted, is_name_up, is_open, is_some}
-use proofs.Words.{IsPlayed, IsPlayedIn, IsStep, judgement, List, None, Opened, opened, Opening}
-use proofs.Words.{Option, past, peer_of, present_link, refl, same, Some, sym, Taken, taken, true}
-use proofs.Words.{Verdict, ℕ, [], ◌++◌, ◌∷◌, ◌≡◌}
+use proofs.Words.{Accepted, arith, checks, Entry, eqb-true, Event, false}
+use proofs.Words.{first_broken, frame_checks, History, is_accepted, is_name_up, is_some}
+use proofs.Words.{IsPlayed, IsPlayedIn, IsStep, judgement, List, None, Opened}
+use proofs.Words.{Opening, Option, past, peer_of, present_link, refl, same, so_far, Some, sym}
+use proofs.Words.{Taken, true, Verdict, ℕ, [], ◌++◌, ◌∷◌, ◌≡◌}
 use proofs.Accepted.{accepted, all_hold, lie, no_value, open_first, peer_by, unbroken}
 use proofs.Finished.{awaited_by}
 use proofs.UpLinks.{agrees, none_taken}
@@ -29,20 +29,9 @@ foreign_in o (e ∷ es) legal l n q =
     by_event : (ev : Event) (v : Verdict) → v ≡ judgement (past o es) e.seat ev
         → ((j : ℕ) → peer_of j es ≡ Some n → same n o.name ≡ false)
         → peer_of l (but e ev v ∷ es) ≡ Some n → same n o.name ≡ false
-    by_event (Event.Dial m c) (Accepted r) v so_far q =
-        (let apart =
-        (all_hold (dial_checks (past o es) m)
-        (accepted (past o es) e.seat (Event.Dial m c) r v).0).0 in grind (arith, so_far l))
+    by_event (Event.Dial m c) (Accepted r) v so_far q = grind (arith, so_far, all_hold, accepted)
     by_event (Event.Frame k body) (Accepted r) v so_far q =
-        let fits = (open_first (is_open k es) (frame_checks (past o es) k body (awaits k es))
-        (accepted (past o es) e.seat (Event.Frame k body) r v).0).1 in
-        grind (
-          arith,
-          named_now (past o es) k (record { body = body; before = es }) n (opened k es)
-              (taken k es) fits,
-          so_far,
-          eqb-true k l,
-        )
+        grind (arith, so_far, open_first, accepted, named_now, eqb-true)
     by_event ev v _ so_far q =
         grind (arith, so_far l, none_taken o es legal.1 n e (fresh o es legal.1 e legal.0) l)
 
@@ -63,4 +52,4 @@ left_foreign h legal e made accepts n is =
     by : (x : Option ℕ) → present_link n h.entries ≡ x → is_some x ≡ true
         → same n h.opening.name ≡ false
     by None q s = lie (sym s)
-    by (Some l) q s = peer_foreign h legal l n ((agrees h.opening h.entries legal n l).0 q).1
+    by (Some l) q s = peer_foreign h legal l n ((agrees _ _ legal n l).0 q).1

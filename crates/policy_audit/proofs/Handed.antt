@@ -1,7 +1,7 @@
 -- The entries that are kept stand behind those that were handed out.
 use Rattle.policy_audit.specs
 use Rattle.std.proofs.Common.{arith, drop, length, List, max, reverse, slice_get, slice_index_or}
-use Rattle.std.proofs.Common.{subst, suc, sym, take, ℕ, [], ◌++◌, ◌+◌, ◌-◌, ◌∷◌, ◌≡◌, ◌≤◌}
+use Rattle.std.proofs.Common.{subst, suc, take, ℕ, [], ◌++◌, ◌+◌, ◌-◌, ◌∷◌, ◌≡◌, ◌≤◌}
 use Rattle.std.proofs.lemmas.Grind.{common_steps}
 use Rattle.std.proofs.lemmas.Bool.Decides.{nat_tests}
 use Rattle.std.proofs.lemmas.List.{length-reverse, reverse-append, reverse-reverse}
@@ -56,7 +56,4 @@ pub oldest : (past : List Entry) (pages : List (List Entry)) → IsPaged pages �
     → IsPageBehind (length past) (reverse (entries_in pages) ++ past) page
 oldest past [] paged two page is = absurd (omega (arith, two))
 oldest past (first ∷ []) paged two page is = absurd (omega (arith, two))
-oldest past (first ∷ next ∷ later) paged two page is =
-    let first_is : page ≡ first = is in
-    rw (first_is, later_kept (entries_in (first ∷ next ∷ later)) past)
-    (paged.0, sym (full_page first (entries_in (next ∷ later)) paged.0))
+oldest past (first ∷ next ∷ later) paged two page is = grind (arith, later_kept, full_page)

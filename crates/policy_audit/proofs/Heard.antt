@@ -1,13 +1,13 @@
 -- Who is heard in a scope: the scope runs, and the link has a whole side.
 use Rattle.policy_audit.proofs
 use proofs.Walked.{but, fresh}
-use proofs.Words.{Accepted, always, arith, awaits, Begun, begun, Bool, checks, completed, cond}
-use proofs.Words.{Entry, eqb-true, Event, false, first_broken, first_of, frame_checks, frame_taken}
-use proofs.Words.{hears, History, is_open, is_running, is_whole, IsPlayedIn, judgement, List}
-use proofs.Words.{Message, Message2, message_checks, None, opened, Opening, Option, option_and_then}
-use proofs.Words.{option_map_or, PartKind, past, refl, Refused, Rule, runs, Said, said_at, same}
-use proofs.Words.{same_decides, Some, Stopped, subst, sym, taken, Talk, talk, talk_of, tells, true}
-use proofs.Words.{unwrap_or, Verdict, ℕ, [], ◌&&◌, ◌++◌, ◌==◌, ◌∷◌, ◌≡◌}
+use proofs.Words.{Accepted, always, arith, awaits, Begun, begun, Bool, checks, completed}
+use proofs.Words.{cond, Entry, eqb-true, Event, false, first_broken, first_of, frame_checks}
+use proofs.Words.{frame_taken, hears, History, is_open, is_running, is_whole, IsPlayedIn}
+use proofs.Words.{judgement, List, Message, Message2, message_checks, None, opened, Opening, Option}
+use proofs.Words.{option_and_then, option_map_or, PartKind, past, refl, Rule, runs, Said, said_at}
+use proofs.Words.{same, same_decides, so_far, Some, Stopped, subst, sym, taken, Talk, talk, talk_of}
+use proofs.Words.{tells, true, unwrap_or, Verdict, ℕ, [], ◌&&◌, ◌++◌, ◌==◌, ◌∷◌, ◌≡◌}
 use proofs.Accepted.{accepted, lie, open_first}
 use proofs.Finished.{whole_awaits, whole_kept}
 
@@ -33,12 +33,10 @@ scope_of (Message.Down t) = t
 scope_runs : (h : History) (k : ℕ) (b : Option Begun) (f : Message2) (m : Message)
     → first_broken (message_checks h k f) ≡ None → completed b f ≡ Some m
     → is_running h (scope_of m) ≡ true
-scope_runs h k b (Message2.Discover t) m q is = grind arith
-scope_runs h k b (Message2.Part PartKind.Sync t number true rows) m q is = grind arith
-scope_runs h k b (Message2.Part PartKind.Join t number true rows) m q is = grind arith
-scope_runs h k b (Message2.Part PartKind.Leave t number true rows) m q is = grind arith
-scope_runs h k b (Message2.Part kind t number false rows) m q is = cc
-scope_runs h k b (Message2.Down t) m q is = grind arith
+scope_runs h k b (Message2.Part PartKind.Sync t number last rows) m q is = grind arith
+scope_runs h k b (Message2.Part PartKind.Join t number last rows) m q is = grind arith
+scope_runs h k b (Message2.Part PartKind.Leave t number last rows) m q is = grind arith
+scope_runs h k b f m q is = grind arith
 
 taken_runs : (h : History) (k : ℕ) (b : Option Begun) (x : Option Message2) (m : Message)
     → first_broken (option_map_or (message_checks h k) x (always Rule.BadFrame)) ≡ None
@@ -87,11 +85,7 @@ module _ (s : List ℕ) (asks : Talk → Option Bool)
             (eqb-true k l n) (accepted (past o es) e.seat (Event.Frame k body) r q).0) w) so_far
             h
         by a n b w h = so_far h
-    by_event (Event.StartScope t) (Accepted r) _ so_far h = grind arith
-    by_event (Event.StopScope t) (Accepted r) _ so_far h = grind (arith, stop)
-    by_event Event.Restart (Accepted r) _ so_far h = lie (sym h)
-    by_event ev (Accepted r) _ so_far h = so_far h
-    by_event ev (Refused r) _ so_far h = so_far h
+    by_event ev v _ so_far h = grind (arith, stop)
 
   yes_runs : (o : Opening) (es : List Entry) → IsPlayedIn o es → (l : ℕ)
       → says_yes (talk o l es) ≡ true → is_running (past o es) s ≡ true
@@ -121,15 +115,10 @@ heard_whole o [] legal l s h = lie (sym h)
 heard_whole o (e ∷ es) legal l s h = by_event e.event e.verdict (heard_whole o es legal.1 l s) h
   where
     new : (e.number == l) ≡ true → opened l es ≡ None
-    new q = subst (λ x. opened x es ≡ None) (eqb-true e.number l q) (fresh o es legal.1 e legal.0)
+    new q = grind (arith, eqb-true, fresh)
 
     by_event : (ev : Event) (v : Verdict) → (has_sync s (talk o l es) ≡ true → is_whole l es ≡ true)
         → has_sync s (talk o l (but e ev v ∷ es)) ≡ true → is_whole l (but e ev v ∷ es) ≡ true
     by_event (Event.Frame k body) (Accepted r) so_far h =
         grind (arith, whole_kept (record { body = body; before = es }) (opened l es) (taken l es))
-    by_event (Event.Opened c) (Accepted r) so_far h = grind (arith, new)
-    by_event (Event.Dial n c) (Accepted r) so_far h = grind (arith, new)
-    by_event (Event.StopScope t) (Accepted r) so_far h = grind arith
-    by_event Event.Restart (Accepted r) so_far h = lie (sym h)
-    by_event ev (Accepted r) so_far h = so_far h
-    by_event ev (Refused r) so_far h = so_far h
+    by_event ev v so_far h = grind (arith, new)

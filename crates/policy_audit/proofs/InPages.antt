@@ -4,7 +4,7 @@ use Rattle.std.proofs.Common.{arith, drop, false, get_or, length, List, None, re
 use Rattle.std.proofs.Common.{zero, ℕ, [], ◌%◌, ◌*◌, ◌++◌, ◌+◌, ◌/◌, ◌<◌, ◌∷◌, ◌≡◌, ◌≤◌}
 use Rattle.std.proofs.lemmas.Grind.{common_steps}
 use Rattle.std.proofs.lemmas.Option.{slice_get_past}
-use Rattle.std.proofs.lemmas.List.{append-nil, drop-append-le, drop_all, length-append, length-set}
+use Rattle.std.proofs.lemmas.List.{append-nil, drop-append-le, drop_all, length-append}
 use Rattle.std.proofs.lemmas.List.Elements.{filter-append}
 use Rattle.std.proofs.Math.Seq.{drop-append-add}
 use Rattle.std.specs.List.{filter, list_any, slice_get}
@@ -145,8 +145,7 @@ paged_more (page ∷ []) paged zero p is fits = fits
 paged_more (page ∷ []) paged (suc k) p is fits = grind arith
 paged_more (page ∷ next ∷ later) paged zero p is fits = grind arith
 paged_more (page ∷ next ∷ later) paged (suc k) p is fits =
-    full_before page (set (next ∷ later) k p) paged.0 (grind (arith, length-set (next ∷ later) k p))
-    (paged_more (next ∷ later) paged.1 k p (grind arith) fits)
+    grind (arith, full_before, paged_more (next ∷ later) paged.1 k p (grind arith) fits)
 
 -- a page behind full ones
 pub new_page : (pages : List (List Entry)) → IsPaged pages

@@ -1,20 +1,26 @@
 -- Which links have frames that wait, which are kept, and which numbers they have.
 use Rattle.policy_audit.proofs
-use proofs.Words.{Accepted, and_parts, ap, arith, awaits, Bool, cond, drops, entered, Entry}
-use proofs.Words.{eqb-true, Event, false, filter, first_of, flat_map, frame_owes, heard, History}
-use proofs.Words.{how_many, if_told, if_visible, is_empty, is_kept, is_open, is_opened_by}
-use proofs.Words.{is_running, is_some, is_up, is_whole, IsNumbered, IsPlayed, IsPlayedIn, judgement}
-use proofs.Words.{le-leb, leb-true, links, List, list_all, list_any, listing, local_rows, lt-ltb}
-use proofs.Words.{ltb-true, map, mentions, Message, min, Moment, nat_le, nat_lt, None, opened}
-use proofs.Words.{Opening, OutFrame, owed, own, own_name_frame, past, pid_cmp, present, refl}
-use proofs.Words.{refusal_owes, Refused, Reply, Row, row, Rule, running_scopes, same_pid, start_of}
-use proofs.Words.{started_where, subst, sym, talk, told, true, Verdict, waiting, waiting_in, ℕ, []}
-use proofs.Words.{◌&&◌, ◌++◌, ◌+◌, ◌<◌, ◌==◌, ◌∙◌, ◌∷◌, ◌≡◌, ◌≤◌}
+use proofs.Words.{Accepted, and_parts, ap, arith, awaits, Bool, cond, entered, Entry, eqb-true}
+use proofs.Words.{Event, false, filter, first_of, flat_map, frame_owes, heard, History, how_many}
+use proofs.Words.{if_told, if_visible, is_empty, is_kept, is_open, is_opened_by, is_running}
+use proofs.Words.{is_some, is_up, is_whole, IsNumbered, IsPlayed, IsPlayedIn, judgement}
+use proofs.Words.{le-leb, leb-true, links, List, list_all, list_any, local_rows, lt-ltb, ltb-true}
+use proofs.Words.{Message, Moment, nat_le, nat_lt, None, opened, Opening, OutFrame, owed}
+use proofs.Words.{own_name_frame, past, present, refl, refusal_owes, Refused, Reply, Row, Rule}
+use proofs.Words.{running_scopes, same_pid, so_far, start_of, started_where, sym, told, true}
+use proofs.Words.{Verdict, waiting, waiting_in, ℕ, [], ◌&&◌, ◌++◌, ◌+◌, ◌<◌, ◌==◌, ◌∙◌}
+use proofs.Words.{◌∷◌, ◌≡◌, ◌≤◌}
 use proofs.Accepted.{accepted, lie}
 use proofs.UpLinks.{other}
 use proofs.Walked.{but, frame_fits, open_opened, unborn}
-use proofs.Heard.{has_discover, has_sync, heard_runs, told_talk_runs}
+use proofs.Heard.{heard_runs, told_talk_runs}
 use proofs.Finished.{kept}
+
+-- the event owes frames to its own link
+abbrev pub is_of_link : Event → Bool
+is_of_link (Event.Dial n c) = true
+is_of_link (Event.Frame k body) = true
+is_of_link ev = false
 
 -- ---- what is owed to a link that isn't up: no message
 
@@ -35,6 +41,20 @@ module _ (o : Opening) (es : List Entry) (l : ℕ) (down : is_up l es ≡ false)
   pub unseen : (m : Message) → if_visible (past o es) l m ≡ []
   unseen m = grind arith
 
+  -- so events that aren't of a link owe nothing
+  pub unspoken : (number : ℕ) (ev : Event) (v : Verdict) → is_of_link ev ≡ false
+      → owed (past o es) l number ev v ≡ []
+  unspoken number (Event.StartScope s) (Accepted r) q = unseen (Message.Discover s)
+  unspoken number (Event.StopScope s) (Accepted r) q = unseen (Message.Down s)
+  unspoken number (Event.Exit p) (Accepted r) q =
+      all_untold (λ s. Message.Leave s)
+      (λ s. filter (λ w. same_pid w.pid p) (local_rows (past o es) s)) (running_scopes (past o es))
+  unspoken number (Event.Join s g ps) (Accepted r) q = untold s (Message.Join s) _
+  unspoken number (Event.Leave s g ps) (Accepted r) q = untold s (Message.Leave s) _
+  unspoken number (Event.Dial n c) (Accepted r) q = lie q
+  unspoken number (Event.Frame k body) v q = lie q
+  unspoken number ev v q = refl
+
 -- ---- what is owed to a link that isn't open: nothing, but the own Name at its Dial
 
 module _ (o : Opening) (es : List Entry) (l : ℕ) (closed : is_open l es ≡ false) where
@@ -45,10 +65,7 @@ module _ (o : Opening) (es : List Entry) (l : ℕ) (closed : is_open l es ≡ fa
       → Accepted r ≡ judgement (past o es) seat (Event.Frame k body) → (b : Bool) → (k == l) ≡ b
       → cond b (frame_owes (past o es) l body (awaits l es)) [] ≡ []
   accepted_frame seat k body r q false m = refl
-  accepted_frame seat k body r q true m =
-      lie (sym (subst (λ j. is_open j es ≡ true) (eqb-true k l m)
-      (frame_fits o es seat k body (accepted (past o es) seat (Event.Frame k body) r q).0).0)
-      ∙ closed)
+  accepted_frame seat k body r q true m = grind (arith, eqb-true, frame_fits, accepted)
 
   refused_frame : (seat k : ℕ) (body : List ℕ) (r : Rule)
       → Refused r ≡ judgement (past o es) seat (Event.Frame k body) → (b : Bool) → (k == l) ≡ b
@@ -57,22 +74,13 @@ module _ (o : Opening) (es : List Entry) (l : ℕ) (closed : is_open l es ≡ fa
 
   pub unowed : (e : Entry) (ev : Event) (v : Verdict) → v ≡ judgement (past o es) e.seat ev
       → is_opened_by l (but e ev v) ≡ false → owed (past o es) l e.number ev v ≡ []
-  unowed e (Event.StartScope s) (Accepted r) q other = unseen o es l down (Message.Discover s)
-  unowed e (Event.StopScope s) (Accepted r) q other = unseen o es l down (Message.Down s)
-  unowed e (Event.Exit p) (Accepted r) q other =
-      all_untold o es l down (λ s. Message.Leave s)
-      (λ s. filter (λ w. same_pid w.pid p) (local_rows (past o es) s)) (running_scopes (past o es))
-  unowed e (Event.Join s g ps) (Accepted r) q other =
-      untold o es l down s (Message.Join s) (map (row g) (listing pid_cmp (λ p. mentions p ps) ps))
-  unowed e (Event.Leave s g ps) (Accepted r) q other =
-      untold o es l down s (Message.Leave s)
-      (map (row g) (listing pid_cmp (λ p. min (mentions p ps) (own (past o es) s g p)) ps))
   unowed e (Event.Dial n c) (Accepted r) q other =
       ap (λ b. cond b (own_name_frame (past o es) ∷ []) []) other
   unowed e (Event.Frame k body) (Accepted r) q other =
       accepted_frame e.seat k body r q (k == l) refl
   unowed e (Event.Frame k body) (Refused r) q other = refused_frame e.seat k body r q (k == l) refl
-  unowed e ev v q other = refl
+  unowed e ev (Refused r) q other = refl
+  unowed e ev v q other = unspoken o es l down e.number ev v refl
 
 -- ---- a link with frames that wait was opened
 
@@ -92,9 +100,7 @@ unopened_waiting o (e ∷ es) legal l none =
     quiet : (ev : Event) (v : Verdict) → v ≡ judgement (past o es) e.seat ev
         → (opened l es ≡ None → waiting_in o l es ≡ []) → is_opened_by l (but e ev v) ≡ false
         → opened l es ≡ None → waiting_in o l (but e ev v ∷ es) ≡ []
-    quiet ev v q so_far other was =
-        dropped (drops l es v ev) (waiting_in o l es) (owed (past o es) l e.number ev v)
-        (so_far was) (unowed o es l (closed_if l es was) e ev v q other)
+    quiet ev v q so_far other was = grind (arith, so_far, dropped, unowed, closed_if, other)
 
     by_event : (ev : Event) (v : Verdict) → v ≡ judgement (past o es) e.seat ev
         → (opened l es ≡ None → waiting_in o l es ≡ []) → opened l (but e ev v ∷ es) ≡ None
@@ -182,13 +188,8 @@ below o (e ∷ es) legal =
         → list_all (λ x. nat_le x (entered (but e ev v ∷ es))) (links es) ≡ true → Falls (links es)
         → (e.number ≡ entered es + 1 → list_all (λ y. nat_lt y e.number) (links es) ≡ true)
         → Below (but e ev v ∷ es)
-    by_event (Event.Opened c) (Accepted r) here older falls newer =
-        grind (arith, here, older, falls, newer here, le-leb)
-    by_event (Event.Dial n c) (Accepted r) here older falls newer =
-        grind (arith, here, older, falls, newer here, le-leb)
-    by_event Event.Restart (Accepted r) here older falls newer = (refl, tt)
-    by_event ev (Accepted r) here older falls newer = (older, falls)
-    by_event ev (Refused r) here older falls newer = (older, falls)
+    by_event ev v here older falls newer =
+        grind (arith, here, older, falls, newer, le-leb)
 
 pub links_below : (h : History) → IsPlayed h
     → list_all (λ x. nat_le x (entered h.entries)) (links h.entries) ≡ true
@@ -204,11 +205,11 @@ pub told_runs : (h : History) → IsPlayed h → (l : ℕ) (s : List ℕ)
     → is_running h s ≡ true
 told_runs h legal l s t =
     told_talk_runs h.opening h.entries legal l s
-    (and_parts (is_up l h.entries) (has_discover s (talk h.opening l h.entries)) t).1
+    (and_parts _ _ t).1
 
 pub heard_runs' : (h : History) → IsPlayed h → (l : ℕ) (s : List ℕ)
     → heard h.opening l s h.entries ≡ true
     → is_running h s ≡ true
 heard_runs' h legal l s t =
-    heard_runs h.opening h.entries legal l s
-    (and_parts (is_up l h.entries) (has_sync s (talk h.opening l h.entries)) t).1
+    heard_runs _ _ legal l s
+    (and_parts _ _ t).1

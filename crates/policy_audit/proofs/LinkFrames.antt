@@ -6,8 +6,8 @@ use proofs.Words.{Entry, eq-eqb, eqb-true, Event, false, frame_ends, frame_owes,
 use proofs.Words.{is_accepted, is_empty, is_kept, is_last, is_name_up, is_open, is_peer}
 use proofs.Words.{is_unfinished_dial, is_up, is_whole, IsPlayed, IsStep, just, List, Name}
 use proofs.Words.{name_frame, named_by, None, not, OutFrame, peer_of, present_link, refl}
-use proofs.Words.{refusal_owes, Refused, Rule, same_decides, Some, subst, true, waiting, welcome, ℕ}
-use proofs.Words.{[], ◌&&◌, ◌++◌, ◌==◌, ◌≡◌}
+use proofs.Words.{refusal_owes, Refused, Rule, same_decides, Some, subst, true, waiting}
+use proofs.Words.{welcome, ℕ, [], ◌&&◌, ◌++◌, ◌==◌, ◌≡◌}
 use proofs.UpLinks.{agrees}
 use proofs.Onward.{frame_open}
 
@@ -54,7 +54,7 @@ module _ (h : History) (e : Entry) (yes : is_accepted e.verdict ≡ true) where
     present_open : (l : ℕ) → (j == l) ≡ true → is_open l es ≡ true
     present_open l q =
         subst (λ x. is_open x es ≡ true) (eqb-true j l q)
-        (and_parts (is_open j es) (is_whole j es) its.0).0
+        (and_parts _ _ its.0).0
 
     pub disconnected_links : (l : ℕ)
         → IsLinkNow k l (is_open l es && not (j == l)) (cond (j == l) [] (waiting h l))
@@ -109,9 +109,7 @@ module _ (h : History) (e : Entry) (made : IsStep h e) (yes : is_accepted e.verd
       (cond (is_open l h.entries && given_up_by j f h.entries l) []
       (cond (j == l) (waiting h l ++ welcome h l f.name) (waiting h l)))
       (is_kept h l && not (is_open l h.entries && given_up_by j f h.entries l))
-  named_links f a named l =
-      framed (given_up_by j f h.entries l) (welcome h l f.name) l (grind arith)
-      (λ m. grind (arith, eqb-true j l))
+  named_links f a named l = grind (arith, framed, eqb-true)
 
   -- the last frame of a side
   pub proved_links : (n : List ℕ) → is_last (awaits j h.entries) ≡ true
@@ -120,9 +118,7 @@ module _ (h : History) (e : Entry) (made : IsStep h e) (yes : is_accepted e.verd
       (cond (is_open l h.entries && replaced_by j n h.entries l) []
       (cond (j == l) (waiting h l ++ frame_owes h l body (awaits l h.entries)) (waiting h l)))
       (is_kept h l && not (is_open l h.entries && replaced_by j n h.entries l))
-  proved_links n last of l =
-      framed (replaced_by j n h.entries l) (frame_owes h l body (awaits l h.entries)) l
-      (grind arith) (λ m. refl)
+  proved_links n last of l = grind (arith, framed)
 
   -- any other: it ends none
   pub handshake_links : is_last (awaits j h.entries) ≡ false

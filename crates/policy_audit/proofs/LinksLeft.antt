@@ -57,15 +57,11 @@ module _ (h : History) (e : Entry) where
   module _ (yes : is_accepted e.verdict ≡ true) where
     pub lost_numbers : (j : ℕ) → e.event ≡ Event.Lost j
         → kept_numbers k ≡ filter (λ l. not (j == l)) (kept_numbers h)
-    lost_numbers j is =
-        kept_after h k (λ l. not (j == l)) (same_links (Event.Lost j) is refl)
-        (λ l. (lost_links h e yes j is l).kept_is)
+    lost_numbers j is = grind (arith, kept_after, same_links, lost_links)
 
     pub taken_numbers : (j : ℕ) → e.event ≡ Event.Take j
         → kept_numbers k ≡ filter (λ l. not (j == l && not (is_open l h.entries))) (kept_numbers h)
-    taken_numbers j is =
-        kept_after h k (λ l. not (j == l && not (is_open l h.entries)))
-        (same_links (Event.Take j) is refl) (λ l. (taken_links h e yes j is l).kept_is)
+    taken_numbers j is = grind (arith, kept_after, same_links, taken_links)
 
     pub disconnected_numbers : IsPlayed h → (n : List ℕ) (j : ℕ) → present_link n h.entries ≡ Some j
         → e.event ≡ Event.Disconnect n

@@ -6,8 +6,8 @@ use proofs.Words.{flat_map, how_many_append, in_one_group, is_among, is_empty, i
 use proofs.Words.{IsGroupListing, IsListing, IsPidListing, IsRowListing, Less, List, listing}
 use proofs.Words.{listing_counts, map, mentions, not, occurrences, one_of_many, Ordering}
 use proofs.Words.{ordering_then, Pid, pid_cmp, pids_total, refl, Rises, Row, row, row_cmp, same}
-use proofs.Words.{same_decides, same_pid, same_pid_decides, same_row, stands_in, subst, sym}
-use proofs.Words.{text_cmp, texts_total, total, true, ℕ, [], ◌++◌, ◌+◌, ◌<◌, ◌||◌, ◌∙◌, ◌∷◌, ◌≡◌}
+use proofs.Words.{same_decides, same_pid, same_pid_decides, same_row, stands_in, text_cmp}
+use proofs.Words.{texts_total, total, true, ℕ, [], ◌++◌, ◌+◌, ◌<◌, ◌||◌, ◌∙◌, ◌∷◌, ◌≡◌}
 use proofs.Named.{stands_occurs}
 
 -- ---- what a filter leaves
@@ -64,18 +64,20 @@ module _ (count : List ℕ → Pid → ℕ) (pids : List ℕ → List Pid) (name
       (pid_is g)
 
   pub groups_are : IsGroupListing count (filter has_members (ascending text_cmp named))
-  groups_are = record {
-    rises = filter_rises text_cmp has_members (ascending text_cmp named)
-        (ascending_rises text_cmp same texts_total exact_bytes same_decides named);
-    found = λ g q. (let one =
-        some_member (members_of g) (left_passes has_members g (ascending text_cmp named) q) in
-        (one.0, subst (λ n. 0 < n) (IsListing.counts (members_are g) one.0) one.1));
-    only = λ g p h. passes_left has_members g (ascending text_cmp named)
-        (ascending_stands text_cmp same texts_total exact_bytes same_decides g named
-        ∙ group_is g p h)
-        (member_some p (members_of g)
-        (subst (λ n. 0 < n) (sym (IsListing.counts (members_are g) p)) h));
-  }
+  groups_are = grind (
+    arith,
+    ascending_rises text_cmp same texts_total exact_bytes same_decides named,
+    filter_rises,
+    texts_total,
+    exact_bytes,
+    same_decides,
+    some_member,
+    left_passes,
+    members_are,
+    passes_left,
+    ascending_stands,
+    member_some,
+  )
 
 -- ---- rows
 

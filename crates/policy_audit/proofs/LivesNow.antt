@@ -1,15 +1,15 @@
 -- Which own processes live, after each Spawn, Exit and Restart.
 use Rattle.policy_audit.proofs
-use proofs.Words.{Accepted, and_parts, ap, arith, Bool, checks, cond, creation, Entry, eq-eqb}
+use proofs.Words.{Accepted, and_parts, ap, arith, Bool, cond, creation, Entry, eq-eqb}
 use proofs.Words.{eqb-false, eqb-true, Event, events, false, History, how_many, is_accepted}
-use proofs.Words.{is_exit, is_exit_of, is_local, IsPlayed, IsPlayedIn, IsStep, judgement, just}
-use proofs.Words.{le-leb, leb-true, List, list_any, lives, nat_eq, nat_le, not, Opening, past, Pid}
-use proofs.Words.{refl, same, same_decides, same_pid_decides, spawned, suc, true, Verdict, ℕ, []}
-use proofs.Words.{◌&&◌, ◌+◌, ◌<◌, ◌==◌, ◌∷◌, ◌≡◌}
+use proofs.Words.{is_exit, is_exit_of, is_local, IsPlayed, IsPlayedIn, IsStep, judgement}
+use proofs.Words.{just, le-leb, leb-true, List, list_any, lives, nat_eq, nat_le, not, Opening, past}
+use proofs.Words.{Pid, refl, same_decides, same_pid_decides, so_far, spawned, suc, true, Verdict}
+use proofs.Words.{ℕ, [], ◌&&◌, ◌+◌, ◌<◌, ◌∷◌, ◌≡◌}
 use proofs.Accepted.{accepted, all_hold, unbroken}
 use proofs.Walked.{but}
 use proofs.UpLinks.{and_both}
-use proofs.Effects.{breaks_none, by_accepted}
+use proofs.Effects.{breaks_none}
 
 -- the own process of that number
 abbrev pub own_pid : History → ℕ → Pid
@@ -17,13 +17,7 @@ own_pid h n = record { node = h.opening.name; creation = creation h; number = n 
 
 -- an own process is known by its number
 pub is_own_pid : (h : History) (p : Pid) → is_local h p ≡ true → p ≡ own_pid h p.number
-is_own_pid h p local = λ i. record {
-  node = (same_decides p.node h.opening.name).0
-      (and_parts (same p.node h.opening.name) (p.creation == creation h) local).0 i;
-  creation = eqb-true p.creation (creation h)
-      (and_parts (same p.node h.opening.name) (p.creation == creation h) local).1 i;
-  number = p.number;
-}
+is_own_pid h p local = grind (arith, same_decides, and_parts, eqb-true)
 
 pub lives_of : (h : History) (p : Pid) → is_local h p ≡ true
     → lives h p ≡ lives h (own_pid h p.number)
@@ -31,9 +25,7 @@ lives_of h p local = ap (lives h) (is_own_pid h p local)
 
 -- the node's own processes are local
 own_local : (h : History) (n : ℕ) → is_local h (own_pid h n) ≡ true
-own_local h n =
-    and_both (same h.opening.name h.opening.name) (creation h == creation h)
-    ((same_decides h.opening.name h.opening.name).1 refl) (eq-eqb (creation h) (creation h) refl)
+own_local h n = grind (arith, and_both, same_decides, eq-eqb)
 
 -- only a process that was spawned has ended
 unended : (o : Opening) (es : List Entry) → IsPlayedIn o es → (p : Pid)
@@ -47,10 +39,7 @@ unended o (e ∷ es) legal p above =
         → spawned (past o (but e ev v ∷ es)) < p.number
         → list_any (is_exit_of p) (events (but e ev v ∷ es)) ≡ false
     by_event (Event.Exit x) (Accepted r) q so_far b =
-        let lived = unbroken (lives (past o es) x)
-        (all_hold (checks (past o es) e.seat (Event.Exit x))
-        (accepted (past o es) e.seat (Event.Exit x) r q).0).1.0 in
-        grind (arith, same_pid_decides x p, leb-true)
+        grind (arith, unbroken, all_hold, accepted, same_pid_decides, leb-true)
     by_event ev v _ so_far b = grind arith
 
 -- whether a process lives, by its parts
@@ -72,19 +61,13 @@ module _ (h : History) (e : Entry) (made : IsStep h e) (yes : is_accepted e.verd
   pub lives_spawned : IsPlayed h → e.event ≡ Event.Spawn → (n : ℕ)
       → lives k (own_pid h n) ≡ cond (nat_eq (spawned h + 1) n) true (lives h (own_pid h n))
   lives_spawned legal is n =
-      by_accepted e Event.Spawn
-      (λ x. lives (just h x) (own_pid h n)
-      ≡ cond (nat_eq (spawned h + 1) n) true (lives h (own_pid h n))) is yes (λ r.
-      born_more (is_local h (own_pid h n)) (list_any (is_exit_of (own_pid h n)) (events h.entries))
-      n (spawned h) (own_local h n) (unended h.opening h.entries legal (own_pid h n)))
+      grind (arith, own_local h n, unended h.opening h.entries legal (own_pid h n), born_more)
 
   -- ---- an Exit
 
   module _ (p : Pid) (is : e.event ≡ Event.Exit p) where
     pub exited_local : is_local h p ≡ true
-    exited_local =
-        unbroken (is_local h p)
-        (all_hold (checks h e.seat (Event.Exit p)) (breaks_none h e (Event.Exit p) made yes is)).0
+    exited_local = grind (arith, unbroken, all_hold, breaks_none)
 
     pub spawned_exited : spawned k ≡ spawned h
     spawned_exited = grind arith

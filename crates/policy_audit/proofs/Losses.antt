@@ -1,17 +1,17 @@
 -- The losses of slow links, which come with an entry.
 use Rattle.policy_audit.proofs
-use proofs.Words.{Accepted, always, and_parts, ap, append-nil, arith, audited, awaits, Bool, Check}
-use proofs.Words.{checks, cond, entered, Entry, eqb-true, Event, false, filter, first_broken}
-use proofs.Words.{frame_checks, frame_taken, History, history, is_accepted, is_empty, is_entered}
-use proofs.Words.{is_full, is_local, is_open, is_running, is_slow, is_whole, IsLegal, IsLegalIn}
-use proofs.Words.{IsNext, IsNumbered, IsPlayed, IsPlayedIn, IsStep, judged, judgement, just, length}
-use proofs.Words.{links, List, list_all, listed, listed_by, lose, loss, lt-ltb, ltb-true}
-use proofs.Words.{max_waiting, Message2, message_checks, nat_lt, None, not, opened, Opening, Option}
-use proofs.Words.{option_map_or, own, PartKind, past, Pid, present_link, refl, refusal_owes}
-use proofs.Words.{Refused, Rule, slow_links, Some, subst, sym, taken, true, Verdict, waiting}
-use proofs.Words.{waiting_in, with_entry, ℕ, [], ◌&&◌, ◌<◌, ◌==◌, ◌↔◌, ◌∙◌, ◌∷◌, ◌≡◌, ◌≤◌}
+use proofs.Words.{Accepted, always, ap, append-nil, arith, audited, awaits, Bool, Check, checks}
+use proofs.Words.{cond, entered, Entry, eqb-true, Event, false, filter, first_broken, frame_checks}
+use proofs.Words.{frame_taken, History, history, is_accepted, is_empty, is_entered, is_local}
+use proofs.Words.{is_open, is_running, is_slow, is_whole, IsLegal, IsLegalIn, IsNext, IsPlayed}
+use proofs.Words.{IsPlayedIn, IsStep, judged, judgement, just, length, links, List, list_all}
+use proofs.Words.{listed, listed_by, lose, loss, lt-ltb, ltb-true, max_waiting, Message2}
+use proofs.Words.{message_checks, nat_lt, None, not, Opening, Option, option_map_or, own, past, Pid}
+use proofs.Words.{present_link, refl, refusal_owes, Refused, Rule, slow_links, Some, subst, sym}
+use proofs.Words.{true, Verdict, waiting, waiting_in, whole, with_entry, ℕ, [], ◌&&◌, ◌↔◌}
+use proofs.Words.{◌∙◌, ◌∷◌, ◌≡◌, ◌≤◌}
 use proofs.Finished.{whole_awaits}
-use proofs.Walked.{but, open_opened}
+use proofs.Walked.{open_opened}
 use proofs.Accepted.{lie}
 use proofs.KeptLinks.{Falls, links_fall, opened_linked}
 use proofs.KeptNumbers.{falls_left}
@@ -58,20 +58,7 @@ entry_played h e legal = by (is_accepted e.verdict)
 
 -- an entry that the policy makes is a step
 pub next_step : (h : History) (e : Entry) → IsNext h e → IsStep h e
-next_step h e next =
-    record { number = by e.event; judged = next.verdict ∙ room (is_full h) (has_room next.room) }
-  where
-    by : (ev : Event) → IsNumbered h e.number ev
-    by (Event.Lost l) = λ q. next.number
-    by ev = next.number
-
-    has_room : entered h.entries < h.opening.entries → is_full h ≡ false
-    has_room r = ap not (lt-ltb (entered h.entries) h.opening.entries r)
-
-    room : (b : Bool) → b ≡ false
-        → cond b (Refused Rule.EntriesFull) (judgement h e.seat e.event)
-        ≡ judgement h e.seat e.event
-    room b q = ap (λ x. cond x (Refused Rule.EntriesFull) (judgement h e.seat e.event)) q
+next_step h e next = grind (arith, lt-ltb)
 
 pub made_played : (o : Opening) (es : List Entry) → IsLegalIn o es → IsPlayed (history o es)
 made_played o [] legal = tt
@@ -79,8 +66,7 @@ made_played o (e ∷ es) legal =
     entry_played (history o es) e (next_step (history o es) e legal.0, made_played o es legal.1)
 
 pub legal_played : (h : History) → IsLegal h → IsPlayed h
-legal_played h legal =
-    subst IsPlayed (sym legal.whole) (made_played h.opening (audited h.entries) legal.entries)
+legal_played h legal = grind (arith, made_played)
 
 -- ---- one entry more
 
@@ -98,12 +84,7 @@ module _ (h : History) (e : Entry) where
   by_verdict : (P : History → Type 0)
       → P (past h.opening (lose (slow_links (just h e)) (e ∷ h.entries))) → P (just h e)
       → P (with_entry h e)
-  by_verdict P accepts refuses = by (is_accepted e.verdict)
-    where
-      by : (b : Bool)
-          → P (cond b (past h.opening (lose (slow_links (just h e)) (e ∷ h.entries))) (just h e))
-      by true = accepts
-      by false = refuses
+  by_verdict P accepts refuses = grind arith
 
   pub same_opening : (with_entry h e).opening ≡ h.opening
   same_opening = by_verdict (λ k. k.opening ≡ h.opening) refl refl
@@ -117,9 +98,7 @@ module _ (h : History) (e : Entry) where
       (lost_audited (e ∷ h.entries) (slow_links (just h e)) ∙ one_more real) (one_more real)
 
   behind_is : is_entered e ≡ true → behind (with_entry h e).entries ≡ h.entries
-  behind_is real =
-      by_verdict (λ k. behind k.entries ≡ h.entries)
-      (behind_losses e h.entries real (slow_links (just h e))) (behind_losses e h.entries real [])
+  behind_is real = grind (arith, behind_losses)
 
 pub history_opening : (o : Opening) (es : List Entry) → (history o es).opening ≡ o
 history_opening o [] = refl
@@ -150,15 +129,7 @@ legal_next h e real = (there, back)
         (subst (λ x. IsNext x e) (sym whole) all.0, record { entries = all.1; whole = whole })
 
     back : IsNext h e × IsLegal h → IsLegal k
-    back both = record {
-      entries =
-          subst (λ (x : Opening × List Entry). IsLegalIn x.0 x.1)
-          (λ i. (sym (same_opening h e) i, sym (audited_more h e real) i))
-          (subst (λ x. IsNext x e) both.1.whole both.0, both.1.entries);
-      whole =
-          ap (λ x. with_entry x e) both.1.whole
-          ∙ (λ i. history (sym (same_opening h e) i) (sym (audited_more h e real) i));
-    }
+    back both = grind (arith, same_opening, audited_more)
 
 -- ---- the entries of an audit
 
@@ -170,9 +141,7 @@ next_entered h e next = grind (arith, next.number, eqb-true e.number 0)
 pub made_audited : (o : Opening) (es : List Entry) → IsLegalIn o es
     → audited (history o es).entries ≡ es
 made_audited o [] legal = refl
-made_audited o (e ∷ es) legal =
-    audited_more (history o es) e (next_entered (history o es) e legal.0)
-    ∙ ap (λ xs. e ∷ xs) (made_audited o es legal.1)
+made_audited o (e ∷ es) legal = grind (arith, audited_more, next_entered, made_audited o es legal.1)
 
 -- there are as many as are counted
 pub entered_length : (es : List Entry) → entered es ≡ length (audited es)
@@ -187,33 +156,14 @@ made_entered o es legal =
 -- no more than the audit has room for
 made_room : (o : Opening) (es : List Entry) → IsLegalIn o es → length es ≤ o.entries
 made_room o [] legal = omega arith
-made_room o (e ∷ es) legal =
-    let room = legal.0.room in
-    let same = ap (λ x. x.entries) (history_opening o es) in
-    let many = made_entered o es legal.1 in
-    omega (arith, room, same, many)
+made_room o (e ∷ es) legal = grind (arith, history_opening, made_entered)
 
 pub legal_room : (h : History) → IsLegal h → entered h.entries ≤ h.opening.entries
-legal_room h legal =
-    let room = made_room h.opening (audited h.entries) legal.entries in
-    let many = entered_length h.entries in
-    omega (arith, room, many)
+legal_room h legal = grind (arith, made_room, entered_length)
 
 -- it is a history that the policy makes
 pub made_legal : (o : Opening) (es : List Entry) → IsLegalIn o es → IsLegal (history o es)
-made_legal o es legal =
-    record { entries = all; whole = λ i. history (opening_is i) (entries_are i) }
-  where
-    opening_is : o ≡ (history o es).opening
-    opening_is = sym (history_opening o es)
-
-    entries_are : es ≡ audited (history o es).entries
-    entries_are = sym (made_audited o es legal)
-
-    all : IsLegalIn (history o es).opening (audited (history o es).entries)
-    all =
-        subst (λ (x : Opening × List Entry). IsLegalIn x.0 x.1)
-        (λ i. (opening_is i, entries_are i)) legal
+made_legal o es legal = grind (arith, history_opening, made_audited)
 
 -- ---- few frames wait
 
@@ -235,16 +185,7 @@ module _ (h : History) (l : ℕ) where
   first_silent : (cs : List Check) → list_all (λ c. is_empty (refusal_owes c.rule)) cs ≡ true
       → (r : Rule) → first_broken cs ≡ Some r → refusal_owes r ≡ []
   first_silent [] all r q = cc
-  first_silent (c ∷ cs) all r q =
-      let both = and_parts (is_empty (refusal_owes c.rule))
-      (list_all (λ x. is_empty (refusal_owes x.rule)) cs) all in
-      by c.broken q both.0 (first_silent cs both.1 r)
-    where
-      by : (b : Bool) → cond b (Some c.rule) (first_broken cs) ≡ Some r
-          → is_empty (refusal_owes c.rule) ≡ true
-          → (first_broken cs ≡ Some r → refusal_owes r ≡ []) → refusal_owes r ≡ []
-      by true q none later = grind (arith, q, none)
-      by false q none later = later q
+  first_silent (c ∷ cs) all r q = grind (arith, q, first_silent cs)
 
   -- a message that is refused owes nothing
   refused_message : (x : Option Message2) (r : Rule)
@@ -252,12 +193,8 @@ module _ (h : History) (l : ℕ) where
       → refusal_owes r ≡ []
   refused_message None r q = grind arith
   refused_message (Some (Message2.Discover s)) r q = grind arith
-  refused_message (Some (Message2.Part PartKind.Sync s number last rows)) r q =
-      first_silent (message_checks h l (Message2.Part PartKind.Sync s number last rows)) refl r q
-  refused_message (Some (Message2.Part PartKind.Join s number last rows)) r q =
-      first_silent (message_checks h l (Message2.Part PartKind.Join s number last rows)) refl r q
-  refused_message (Some (Message2.Part PartKind.Leave s number last rows)) r q =
-      first_silent (message_checks h l (Message2.Part PartKind.Leave s number last rows)) refl r q
+  refused_message (Some (Message2.Part kind s number last rows)) r q =
+      first_silent (message_checks h l (Message2.Part kind s number last rows)) (grind arith) r q
   refused_message (Some (Message2.Down s)) r q = grind arith
 
   refused_up : (seat : ℕ) (body : List ℕ) (r : Rule) → is_open l h.entries ≡ true
@@ -269,7 +206,7 @@ module _ (h : History) (l : ℕ) where
       (ap (λ b. first_broken
       (cond b (frame_checks h l body (awaits l h.entries)) (always Rule.NoSuchLink))) opens
       ∙ ap (λ a. first_broken (frame_checks h l body a))
-      (whole_awaits (opened l h.entries) (taken l h.entries) whole)))
+      (whole_awaits _ _ whole)))
     where
       rule_of : (x : Option Rule) → Refused r ≡ judged h seat (Event.Frame l body) x → x ≡ Some r
       rule_of None q = grind arith
@@ -281,26 +218,7 @@ module _ (h : History) (l : ℕ) where
   -- a refused entry makes no link slow
   refused_few : (e : Entry) (r : Rule) → e.verdict ≡ Refused r → IsStep h e
       → is_slow h.opening h.entries l ≡ false → is_slow h.opening (e ∷ h.entries) l ≡ false
-  refused_few e r refuses made few =
-      subst (λ v. is_slow h.opening (but e e.event v ∷ h.entries) l ≡ false) (sym refuses)
-      (by e.event made.judged)
-    where
-      by : (ev : Event) → e.verdict ≡ judgement h e.seat ev
-          → is_slow h.opening (but e ev (Refused r) ∷ h.entries) l ≡ false
-      by (Event.Frame k body) q =
-          by_link (k == l) refl (is_open l h.entries) refl (is_whole l h.entries) refl
-        where
-          by_link : (b : Bool) → (k == l) ≡ b → (o : Bool) → is_open l h.entries ≡ o → (w : Bool)
-              → is_whole l h.entries ≡ w
-              → is_slow h.opening (but e (Event.Frame k body) (Refused r) ∷ h.entries) l ≡ false
-          by_link true m true opens true whole =
-              (let same = eqb-true k l m
-              in let none =
-              refused_up e.seat body r opens whole (sym refuses
-              ∙ subst (λ x. e.verdict ≡ judgement h e.seat (Event.Frame x body)) same q)
-              in grind (arith, append-nil, none))
-          by_link b m o opens w whole = grind (arith, append-nil, eqb-true k l)
-      by ev q = grind (arith, append-nil)
+  refused_few e r refuses made few = grind (arith, eqb-true, refused_up, append-nil)
 
 -- after an entry and its losses no link is slow
 pub few_next : (h : History) (e : Entry) → IsStep h e
@@ -338,13 +256,10 @@ few_next h e made few l = by (is_accepted e.verdict) refl
 pub made_few : (o : Opening) (es : List Entry) → IsLegalIn o es → (l : ℕ)
     → is_slow (history o es).opening (history o es).entries l ≡ false
 made_few o [] legal l = refl
-made_few o (e ∷ es) legal l =
-    few_next (history o es) e (next_step (history o es) e legal.0) (made_few o es legal.1) l
+made_few o (e ∷ es) legal l = grind (arith, few_next, next_step, made_few o es legal.1)
 
 pub legal_few : (h : History) → IsLegal h → (l : ℕ) → is_slow h.opening h.entries l ≡ false
-legal_few h legal l =
-    subst (λ k. is_slow k.opening k.entries l ≡ false) (sym legal.whole)
-    (made_few h.opening (audited h.entries) legal.entries l)
+legal_few h legal l = grind (arith, made_few)
 
 -- at most so many frames wait for an open link
 pub few_wait : (h : History) → IsLegal h → (l : ℕ) → is_open l h.entries ≡ true
@@ -376,20 +291,11 @@ lost_rows_gone o es ls s g p =
 
 pub lost_with : (h : History) (e : Entry) → is_accepted e.verdict ≡ true
     → (with_entry h e).entries ≡ lose (slow_links (just h e)) (just h e).entries
-lost_with h e accepts =
-    ap (λ b.
-    (cond b (past h.opening (lose (slow_links (just h e)) (e ∷ h.entries)))
-    (just h e)).entries) accepts
+lost_with h e accepts = grind arith
 
 pub slow_both : (h : History) (l : ℕ)
     → (is_one l (slow_links h) ≡ true) ↔ (is_slow h.opening h.entries l ≡ true)
 slow_both h l = (λ q. sym (slow_is_one h l) ∙ q, λ q. slow_is_one h l ∙ q)
 
 pub alone : (h : History) (e : Entry) → slow_links (just h e) ≡ [] → with_entry h e ≡ just h e
-alone h e none =
-    ap (λ ls. cond (is_accepted e.verdict) (past h.opening (lose ls (e ∷ h.entries)))
-    (just h e)) none ∙ by (is_accepted e.verdict)
-  where
-    by : (b : Bool) → cond b (past h.opening (e ∷ h.entries)) (just h e) ≡ just h e
-    by true = refl
-    by false = refl
+alone h e none = grind arith

@@ -1,10 +1,11 @@
 -- What is said after some losses of links.
 use Rattle.policy_audit.proofs
-use proofs.Words.{Accepted, ap, append-nil, arith, audited, Bool, Change, cond, entered, Entry}
-use proofs.Words.{false, heard, History, is_local, is_open, is_running, is_up, IsSameLink, just}
-use proofs.Words.{List, list_any, listed, listed_by, lose, None, not, Opening, Option}
-use proofs.Words.{option_map_or, own, past, Pid, present_link, refl, Refused, slow_links, Some, sym}
-use proofs.Words.{told, true, Verdict, waiting_in, with_entry, ℕ, [], ◌&&◌, ◌==◌, ◌∙◌, ◌∷◌, ◌≡◌}
+use proofs.Words.{Accepted, ap, append-nil, arith, audited, Bool, Change, cond, entered}
+use proofs.Words.{Entry, false, heard, History, is_local, is_open, is_running, is_up}
+use proofs.Words.{IsSameLink, just, List, list_any, listed, listed_by, lose, None, not, Opening}
+use proofs.Words.{Option, option_map_or, own, past, Pid, present_link, refl, Refused, slow_links}
+use proofs.Words.{Some, sym, told, true, Verdict, waiting_in, with_entry, ℕ}
+use proofs.Words.{[], ◌&&◌, ◌==◌, ◌∙◌, ◌∷◌, ◌≡◌}
 use proofs.Walked.{but}
 
 -- one of these links
@@ -30,29 +31,8 @@ module _ (es : List Entry) where
 
   -- of each link the same is said
   pub lost_same : (ls : List ℕ) (k : ℕ) → IsSameLink k es (lose ls es)
-  lost_same [] k =
-      record {
-        opened = refl;
-        taken = refl;
-        given = refl;
-        peer = refl;
-        awaits = refl;
-        whole = refl;
-        talk = λ o. refl;
-        begun = λ o. refl;
-      }
-  lost_same (l ∷ ls) k =
-      (let it = lost_same ls k
-      in record {
-        opened = it.opened;
-        taken = it.taken;
-        given = it.given;
-        peer = it.peer;
-        awaits = it.awaits;
-        whole = it.whole;
-        talk = it.talk;
-        begun = it.begun;
-      })
+  lost_same [] k = grind arith
+  lost_same (l ∷ ls) k = grind (arith, lost_same ls k)
 
   pub lost_up : (ls : List ℕ) (k : ℕ) → is_up k (lose ls es) ≡ (not (is_one k ls) && is_up k es)
   lost_up ls k = grind (arith, lost_open ls k, (lost_same ls k).whole)
@@ -77,17 +57,8 @@ module _ (es : List Entry) where
 
   pub lost_present : (ls : List ℕ) (n : List ℕ)
       → present_link n (lose ls es) ≡ left_link ls (present_link n es)
-  lost_present [] n = by (present_link n es)
-    where
-      by : (x : Option ℕ) → x ≡ left_link [] x
-      by None = refl
-      by (Some l) = refl
-  lost_present (l ∷ ls) n = by (present_link n es) (lost_present ls n)
-    where
-      by : (x : Option ℕ) → present_link n (lose ls es) ≡ left_link ls x
-          → present_link n (lose (l ∷ ls) es) ≡ left_link (l ∷ ls) x
-      by None q = grind (arith, q)
-      by (Some k) q = grind (arith, q)
+  lost_present [] n = grind arith
+  lost_present (l ∷ ls) n = grind (arith, lost_present ls n)
 
   -- who is listed by his present link, when that isn't one of these
   abbrev pub listed_left : Opening → List ℕ → List ℕ → List ℕ → Pid → ℕ

@@ -4,10 +4,10 @@ use proofs.Words.{and_parts, ap, arith, AwaitMessage, awaits, Bool, cond, Entry,
 use proofs.Words.{false, first_broken, frame_checks, frame_taken, heard, hears, History}
 use proofs.Words.{is_accepted, is_from, is_last, is_open, is_running, is_up, is_visible, is_whole}
 use proofs.Words.{IsPlayed, IsStep, just, List, list_all, listed, Message, None, not, occurrences}
-use proofs.Words.{opened, peer_of, Pid, present_link, refl, Row, row, rows_of, runs, Said, said_at}
-use proofs.Words.{same, same_decides, same_row, same_row_decides, same_sym, Some, stated_in, subst}
-use proofs.Words.{sym, Taken, taken, Talk, talk, true, whole_checks, ℕ, ◌&&◌, ◌+◌, ◌-◌, ◌∙◌, ◌∷◌}
-use proofs.Words.{◌≡◌}
+use proofs.Words.{opened, peer_of, Pid, present_link, Row, row, rows_of, runs, Said, said_at, same}
+use proofs.Words.{same_decides, same_row, same_row_decides, same_sym, Some, stated_in, subst, sym}
+use proofs.Words.{Taken, taken, Talk, talk, true, whole_checks, ℕ, ◌&&◌, ◌+◌, ◌-◌, ◌∙◌}
+use proofs.Words.{◌∷◌, ◌≡◌}
 use proofs.Effects.{breaks_none}
 use proofs.Accepted.{all_hold, Hold, open_first, unbroken}
 use proofs.UpLinks.{agrees, and_both, other}
@@ -45,20 +45,20 @@ module _ (h : History) (legal : IsPlayed h) (e : Entry) (made : IsStep h e)
     -- the link is open, and the message breaks no rule
     met : (is_open l es ≡ true) × (first_broken (whole_checks h l m) ≡ None)
     met =
-        let found = open_first (is_open l es) (frame_checks h l body (awaits l es))
-        (breaks_none h e (Event.Frame l body) made yes is) in
+        let found = open_first _ _
+        (breaks_none h e _ made yes is) in
         let kind = subst (λ a. first_broken (frame_checks h l body a) ≡ None) awaited found.1 in
         (found.0, said_holds h legal l body (frame_taken h.opening l es body) m says kind)
 
     whole : is_whole l es ≡ true
-    whole = message_whole (opened l es) (taken l es) (open_opened l es met.0)
+    whole = message_whole _ _ (open_opened l es met.0)
         (ap is_message awaited)
 
     up_link : is_up l es ≡ true
-    up_link = and_both (is_open l es) (is_whole l es) met.0 whole
+    up_link = and_both _ _ met.0 whole
 
     holds : Hold (whole_checks h l m)
-    holds = all_hold (whole_checks h l m) met.1
+    holds = all_hold _ met.1
 
     -- how often the link lists p, with that said on it
     abbrev said_so : List ℕ → List ℕ → Pid → List Talk → ℕ
@@ -66,8 +66,7 @@ module _ (h : History) (legal : IsPlayed h) (e : Entry) (made : IsStep h e)
         nest (is_running h t) (is_visible h l) (is_from l es p) (has_sync t ts) (stated_in t f p ts)
 
     present : (p : Pid) → same p.node n ≡ true → present_link p.node es ≡ Some l
-    present p its = ap (λ v. present_link v es) ((same_decides p.node n).0 its)
-        ∙ (agrees h.opening es legal n l).1 (up_link, of)
+    present p its = grind (arith, same_decides, agrees, up_link)
 
     was_said : (t f : List ℕ) (p : Pid) → same p.node n ≡ true
         → listed h t f p ≡ said_so t f p (talk h.opening l es)
@@ -105,46 +104,31 @@ module _ (h : History) (legal : IsPlayed h) (e : Entry) (made : IsStep h e)
         → (same p.node n ≡ false → same s t ≡ true → listed h t f p ≡ now)
         → listed (just h e) t f p ≡ cond (same t s) now (listed h t f p)
     changed s t f p now apart its others =
-        by (same p.node n) refl (same s t) refl ∙ ap (λ b. cond b now (listed h t f p))
-        (same_sym s t)
-      where
-        by : (a : Bool) → same p.node n ≡ a → (b : Bool) → same s t ≡ b
-            → listed (just h e) t f p ≡ cond b now (listed h t f p)
-        by true i true q = now_said t f p i ∙ its i q
-        by true i false q = now_said t f p i ∙ apart q ∙ sym (was_said t f p i)
-        by false i true q = elsewhere t f p i ∙ others i q
-        by false i false q = elsewhere t f p i
+        grind (arith, apart, its, others, same_sym, now_said, was_said, elsewhere)
 
   pub discovered_rows : (s : List ℕ) → said_at h.opening l es body ≡ Some (Message.Discover s)
       → (t f : List ℕ) (p : Pid) → listed (just h e) t f p ≡ listed h t f p
-  discovered_rows s says t f p =
-      inner_rows h legal e made yes l body is (ap is_last awaited) t f p (grind (arith, says))
+  discovered_rows s says t f p = grind (arith, inner_rows)
 
   -- a part that completes no message
   pub unsaid_rows : said_at h.opening l es body ≡ None
       → (t f : List ℕ) (p : Pid) → listed (just h e) t f p ≡ listed h t f p
-  unsaid_rows says t f p =
-      inner_rows h legal e made yes l body is (ap is_last awaited) t f p (grind (arith, says))
+  unsaid_rows says t f p = grind (arith, inner_rows)
 
   -- what the link says of itself in a scope that runs
   running_as : (s t : List ℕ) → same s t ≡ true → not (is_running h s) ≡ false
       → is_running h t ≡ true
   running_as s t q runs = ap (is_running h) (sym ((same_decides s t).0 q))
-      ∙ unbroken (is_running h s) runs
+      ∙ unbroken _ runs
 
   heard_as : (s t : List ℕ) → same s t ≡ true → not (heard h.opening l s es) ≡ false
       → has_sync t (talk h.opening l es) ≡ true
-  heard_as s t q hears =
-      ap (λ u. has_sync u (talk h.opening l es)) (sym ((same_decides s t).0 q))
-      ∙ (and_parts (is_up l es) (has_sync s (talk h.opening l es))
-      (unbroken (heard h.opening l s es) hears)).1
+  heard_as s t q hears = grind (arith, same_decides, and_parts, unbroken)
 
   -- a message names no process that isn't from its link
   none_from : (rows : List Row) → not (list_all (λ r. is_from l es r.pid) rows) ≡ false
       → (f : List ℕ) (p : Pid) → is_from l es p ≡ false → rows_of f p rows ≡ 0
-  none_from rows from f p out =
-      uncounted same_row (λ a b. (same_row_decides a b).0) (λ r. is_from l es r.pid) (row f p) rows
-      (unbroken (list_all (λ r. is_from l es r.pid) rows) from) out
+  none_from rows from f p out = grind (arith, uncounted, same_row_decides, unbroken)
 
   foreign_from : (p : Pid) → same p.node n ≡ false → is_from l es p ≡ false
   foreign_from p other = grind (arith, of, same_sym n p.node)
@@ -158,7 +142,7 @@ module _ (h : History) (legal : IsPlayed h) (e : Entry) (made : IsStep h e)
       let k = holds (Message.Sync s rows) says in
       changed (Message.Sync s rows) says s t f p
       (cond (same p.node n) (rows_of f p rows) (listed h t f p)) (λ q. grind arith)
-      (λ i q. said q (running_as s t q k.1.0) (unbroken (is_visible h l) k.0)
+      (λ i q. said q (running_as s t q k.1.0) (unbroken _ k.0)
       (none_from rows k.1.1.0 f p) ∙ ap (λ b. cond b (rows_of f p rows) (listed h t f p))
       (sym i))
       (λ i q. ap (λ b. cond b (rows_of f p rows) (listed h t f p)) (sym i))
@@ -184,7 +168,7 @@ module _ (h : History) (legal : IsPlayed h) (e : Entry) (made : IsStep h e)
       (stated_in t f p (talk h.opening l es)))) q
       ∙ more (is_running h t) (is_visible h l) (is_from l es p) (has_sync t (talk h.opening l es))
       (stated_in t f p (talk h.opening l es)) (rows_of f p rows) (running_as s t q k.1.0)
-      (unbroken (is_visible h l) k.0) (heard_as s t q k.1.1.0) (none_from rows k.1.1.1.0 f p)
+      (unbroken _ k.0) (heard_as s t q k.1.1.0) (none_from rows k.1.1.1.0 f p)
       ∙ ap (λ c. c + rows_of f p rows) (sym (was_said (Message.Join s rows) says t f p i)))
       (λ i q. omega (arith, none_from rows k.1.1.1.0 f p (foreign_from p i)))
 
@@ -202,7 +186,7 @@ module _ (h : History) (legal : IsPlayed h) (e : Entry) (made : IsStep h e)
       (stated_in t f p (talk h.opening l es)))) q
       ∙ less (is_running h t) (is_visible h l) (is_from l es p) (has_sync t (talk h.opening l es))
       (stated_in t f p (talk h.opening l es)) (rows_of f p rows) (running_as s t q k.1.0)
-      (unbroken (is_visible h l) k.0) (heard_as s t q k.1.1.0)
+      (unbroken _ k.0) (heard_as s t q k.1.1.0)
       ∙ ap (λ c. c - rows_of f p rows) (sym (was_said (Message.Leave s rows) says t f p i)))
       (λ i q. omega (arith, none_from rows k.1.1.1.0 f p (foreign_from p i)))
 
@@ -213,11 +197,4 @@ module _ (h : History) (legal : IsPlayed h) (e : Entry) (made : IsStep h e)
   downed_rows s says t f p =
       changed (Message.Down s) says s t f p (cond (same p.node n) 0 (listed h t f p))
       (λ q. grind arith)
-      (λ i q. said q ∙ ap (λ b. cond b 0 (listed h t f p)) (sym i))
-      (λ i q. ap (λ b. cond b 0 (listed h t f p)) (sym i))
-    where
-      said : same s t ≡ true
-          → nest (is_running h t) (is_visible h l) (is_from l es p)
-          (has_sync t (Said (Message.Down s) ∷ talk h.opening l es))
-          (stated_in t f p (Said (Message.Down s) ∷ talk h.opening l es)) ≡ 0
-      said q = grind arith
+      (λ i q. grind (arith, i, q)) (λ i q. grind (arith, i))

@@ -1,13 +1,13 @@
 -- Who is counted in a group was named by an event.
 use Rattle.policy_audit.proofs
 use proofs.Words.{Accepted, arith, Begun, begun, Bool, completed, cond, Entry, Event, events, false}
-use proofs.Words.{filter, flat_map, frame_taken, groups_named, History, is_among, is_running}
-use proofs.Words.{is_whole, joined, kept_after, link_version, List, list_any, list_any-append}
-use proofs.Words.{listed, map, mentions, Message2, message_taken, None, occurrences, Opening}
-use proofs.Words.{Option, option_and_then, option_map_or, own, PartKind, Pid, pids_named, refl}
-use proofs.Words.{Refused, Reply, Row, row, rows_before, rows_in_part, rows_named, rows_of}
-use proofs.Words.{rows_so_far, same, same_decides, same_pid, same_row, Some, stands_in, stated_in}
-use proofs.Words.{Talk, talk, talk_of, true, Verdict, ℕ, [], ◌&&◌, ◌++◌, ◌<◌, ◌==◌, ◌||◌, ◌∷◌, ◌≡◌}
+use proofs.Words.{filter, flat_map, frame_taken, groups_named, History, is_among, is_whole, joined}
+use proofs.Words.{kept_after, link_version, List, list_any, list_any-append, listed, map, mentions}
+use proofs.Words.{Message2, message_taken, None, occurrences, Opening, Option, option_and_then}
+use proofs.Words.{option_map_or, own, PartKind, Pid, pids_named, refl, Reply, Row, row, rows_before}
+use proofs.Words.{rows_in_part, rows_named, rows_of, rows_so_far, same, same_decides, same_pid}
+use proofs.Words.{same_row, Some, stands_in, stated_in, Talk, talk, talk_of, true, Verdict}
+use proofs.Words.{ℕ, [], ◌&&◌, ◌++◌, ◌<◌, ◌==◌, ◌∷◌, ◌≡◌, ◌||◌}
 use Rattle.std.specs.Prelude.{suc, zero}
 use proofs.Walked.{but}
 
@@ -54,12 +54,7 @@ module _ (s g : List ℕ) (p : Pid) where
 
   pub joined_named : (es : List Event) → 0 < joined s g p es → named_in es ≡ true
   joined_named [] h = absurd (omega arith)
-  joined_named (Event.Join t f ps ∷ es) h =
-      grind (arith, joined_named es, list_any-append, mentioned)
-  joined_named (Event.Frame l body ∷ es) h =
-      any_behind (λ r. same_row r (row g p)) (rows_named s (Event.Frame l body))
-      (flat_map (rows_named s) es) (joined_named es h)
-  joined_named (e ∷ es) h = grind (arith, joined_named es)
+  joined_named (e ∷ es) h = grind (arith, joined_named es, list_any-append, mentioned)
 
   -- what a message brings
   brought : (rows : List Row) → 0 < rows_of g p rows → has rows ≡ true
@@ -103,40 +98,19 @@ module _ (s g : List ℕ) (p : Pid) where
   stated_next b (Some (Message2.Down t)) ts h none = grind arith
   stated_next b (Some (Message2.Part kind t number false rows)) ts h none =
       absurd (omega (arith, h, none))
-  stated_next b (Some (Message2.Part PartKind.Sync t number true rows)) ts h none =
+  stated_next b (Some (Message2.Part kind t number true rows)) ts h none =
       grind (
         arith,
         none,
-        brought (rows_so_far b PartKind.Sync t number rows),
-        so_far_here b
-            PartKind.Sync t number rows,
+        brought (rows_so_far b kind t number rows),
+        so_far_here b kind t number rows,
       )
-  stated_next b (Some (Message2.Part PartKind.Join t number true rows)) ts h none =
-      grind (
-        arith,
-        none,
-        brought (rows_so_far b PartKind.Join t number rows),
-        so_far_here b
-            PartKind.Join t number rows,
-      )
-  stated_next b (Some (Message2.Part PartKind.Leave t number true rows)) ts h none =
-      grind (arith, none)
 
   -- a part that a link takes is read from its body by one of the two grammars
   part_named : (version : ℕ) (l : ℕ) (body : List ℕ)
       → has (rows_in_part s (message_taken version body)) ≡ true
       → has (rows_named s (Event.Frame l body)) ≡ true
-  part_named version l body h = by (version == 2) refl h
-    where
-      by : (two : Bool) → (version == 2) ≡ two
-          → has (rows_in_part s (cond two (message_taken 2 body) (message_taken 1 body))) ≡ true
-          → has (rows_named s (Event.Frame l body)) ≡ true
-      by true q h =
-          any_behind (λ r. same_row r (row g p)) (rows_in_part s (message_taken 1 body))
-          (rows_in_part s (message_taken 2 body)) h
-      by false q h =
-          any_before (λ r. same_row r (row g p)) (rows_in_part s (message_taken 1 body))
-          (rows_in_part s (message_taken 2 body)) h
+  part_named version l body h = grind (arith, any_behind, any_before)
 
   -- whoever is kept or stated was named
   record IsAllNamed (o : Opening) (l : ℕ) (es : List Entry) : Type 0 where
@@ -146,15 +120,11 @@ module _ (s g : List ℕ) (p : Pid) where
   -- another event behind it
   named_on : (ev : Event) (es : List Entry) → named_in (events es) ≡ true
       → has (rows_named s ev ++ flat_map (rows_named s) (events es)) ≡ true
-  named_on ev es h =
-      any_behind (λ r. same_row r (row g p)) (rows_named s ev) (flat_map (rows_named s) (events es))
-      h
+  named_on ev es h = grind (arith, any_behind)
 
   named_here : (ev : Event) (es : List Entry) → has (rows_named s ev) ≡ true
       → has (rows_named s ev ++ flat_map (rows_named s) (events es)) ≡ true
-  named_here ev es h =
-      any_before (λ r. same_row r (row g p)) (rows_named s ev) (flat_map (rows_named s) (events es))
-      h
+  named_here ev es h = grind (arith, any_before)
 
   frame_named : (o : Opening) (l k : ℕ) (body : List ℕ) (es : List Entry) → IsAllNamed o l es
       → (has (kept_here (begun o l es)) || has (rows_in_part s (frame_taken o l es body))) ≡ true
@@ -205,30 +175,10 @@ module _ (s g : List ℕ) (p : Pid) where
                 λ h. named_on (Event.Frame k body) es
                 (IsAllNamed.stated_is all (grind (arith, h, q)));
           }
-      by_event (Event.StopScope t) (Accepted r) all =
-          record {
-            kept_is = λ h. IsAllNamed.kept_is all (grind arith);
-            stated_is =
-                λ h. IsAllNamed.stated_is all (grind arith);
-          }
-      by_event (Event.Join t f ps) (Accepted r) all =
-          record {
-            kept_is =
-                λ h. named_on (Event.Join t f ps) es (IsAllNamed.kept_is all h);
-            stated_is =
-                λ h. named_on (Event.Join t f ps) es (IsAllNamed.stated_is all h);
-          }
-      by_event Event.Restart (Accepted r) all =
-          record { kept_is = λ h. h; stated_is = λ h. absurd (omega (arith, h)) }
-      by_event ev (Accepted r) all =
-          record { kept_is = IsAllNamed.kept_is all; stated_is = IsAllNamed.stated_is all }
-      by_event ev (Refused r) all =
-          record { kept_is = IsAllNamed.kept_is all; stated_is = IsAllNamed.stated_is all }
+      by_event ev v all = grind (arith, all, list_any-append)
 
   pub own_named : (h : History) → 0 < own h s g p → named_in (events h.entries) ≡ true
-  own_named h q =
-      joined_named (events h.entries)
-      (some_where (is_running h s) (joined s g p (events h.entries)) q)
+  own_named h q = grind (arith, joined_named, some_where)
 
   pub listed_named : (h : History) → 0 < listed h s g p → named_in (events h.entries) ≡ true
   listed_named h q = grind (arith, own_named h, spoken)

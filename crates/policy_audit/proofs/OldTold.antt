@@ -1,15 +1,14 @@
 -- Where a peer is told on a link of version 1, the scope has few own rows.
 use Rattle.policy_audit.proofs
-use proofs.Words.{Accepted, always, and_frame, and_parts, ap, arith, awaits, Begun, begun, Bool}
-use proofs.Words.{ByDial, ByPeer, completed, cond, ends, Entry, eqb-true, Event, false}
-use proofs.Words.{first_broken, frame_checks, frame_taken, given, History, is_accepted, is_old_told}
-use proofs.Words.{is_open, is_peer, is_some, is_up, is_whole, IsPlayed, IsPlayedIn, IsStep}
-use proofs.Words.{judgement, leb-true, length, link_version, links, List, list_any, local_rows}
-use proofs.Words.{max_rows, Message2, message_checks, Name, None, not, opened, Opening, Option}
-use proofs.Words.{option_and_then, option_map_or, own_limit, PartKind, past, refl, Refused, Rule}
-use proofs.Words.{said_at, same, same_decides, Some, Start, start_of, subst, sym, Taken, taken}
-use proofs.Words.{Talk, talk, talk_of, tells, told, true, Verdict, ℕ, [], ◌&&◌, ◌++◌, ◌==◌, ◌||◌}
-use proofs.Words.{◌∙◌, ◌∷◌, ◌≡◌, ◌≤◌}
+use proofs.Words.{Accepted, always, and_frame, and_parts, ap, arith, Begun, begun, Bool, ByDial}
+use proofs.Words.{ByPeer, completed, cond, Entry, eqb-true, Event, false, first_broken, frame_taken}
+use proofs.Words.{given, History, is_accepted, is_old_told, is_up, is_whole, IsPlayed, IsPlayedIn}
+use proofs.Words.{IsStep, leb-true, length, link_version, links, List, local_rows, max_rows}
+use proofs.Words.{Message2, message_checks, Name, None, not, not-true, opened, Opening}
+use proofs.Words.{Option, option_and_then, option_map_or, own_limit, past, refl, Rule, said_at}
+use proofs.Words.{same, same_decides, Some, Start, start_of, subst, sym, Taken, taken, Talk, talk}
+use proofs.Words.{talk_of, tells, told, true, Verdict, whole, ℕ, [], ◌&&◌, ◌++◌, ◌==◌, ◌∙◌}
+use proofs.Words.{◌∷◌, ◌≡◌, ◌≤◌}
 use Rattle.std.specs.Prelude.{◌⊎◌}
 use Rattle.std.proofs.Common.{inl, inr}
 use proofs.Accepted.{accepted, lie, open_first}
@@ -17,6 +16,7 @@ use proofs.Walked.{but, fresh, open_opened}
 use proofs.Finished.{given_by, given_kept, whole_awaits}
 use proofs.Effects.{entry_link}
 use proofs.Heard.{has_discover}
+use proofs.KeptNumbers.{some_of, which_of}
 use proofs.HeardNow.{only_stops, opening_heard, silent, stopped_heard}
 use proofs.NewLinks.{opened_apart}
 use proofs.KeptLinks.{opened_linked}
@@ -31,28 +31,8 @@ was_told : (ended opens whole said one : Bool)
     → (((opens && whole) && said) && one) ≡ true
 was_told ended opens whole said one q = grind arith
 
-from_not : (b : Bool) → not b ≡ true → b ≡ false
-from_not b q = grind arith
-
 abbrev version_of : Opening → Option Name → ℕ
 version_of o gave = cond (o.links == 2 && option_map_or (λ f. f.version) gave 1 == 2) 2 1
-
--- a test that one of these meets
-pub meets : (test : ℕ → Bool) (ls : List ℕ) (l : ℕ) → list_any (λ k. k == l) ls ≡ true
-    → test l ≡ true → list_any test ls ≡ true
-meets test [] l q t = lie (sym q)
-meets test (k ∷ ks) l q t = grind (arith, eqb-true k l, meets test ks l, t)
-
--- and one that meets it, where some do
-pub who_meets : (test : ℕ → Bool) (ls : List ℕ) → list_any test ls ≡ true
-    → (l : ℕ) × (test l ≡ true)
-who_meets test [] q = lie (sym q)
-who_meets test (k ∷ ks) q = by (test k) refl q (who_meets test ks)
-  where
-    by : (b : Bool) → test k ≡ b → (b || list_any test ks) ≡ true
-        → (list_any test ks ≡ true → (l : ℕ) × (test l ≡ true)) → (l : ℕ) × (test l ≡ true)
-    by true t q later = (k, t)
-    by false t q later = later q
 
 -- while such a peer is told, the limit is that of version 1
 pub old_limit : (o : Opening) (es : List Entry) (l : ℕ) (s : List ℕ) → old_told o l s es ≡ true
@@ -63,8 +43,7 @@ old_limit o es l s old =
       old,
       opened_linked l es,
       open_opened l es,
-      meets (λ k. old_told o k s es)
-          (links es) l,
+      some_of (λ k. old_told o k s es) l (links es),
     )
 
 module _ (o : Opening) (es : List Entry) (e : Entry) (l : ℕ) (s : List ℕ) where
@@ -79,9 +58,7 @@ module _ (o : Opening) (es : List Entry) (e : Entry) (l : ℕ) (s : List ℕ) wh
           → (has_discover s ts ≡ true) ⊎ (length (local_rows (past o es) s) ≤ max_rows)
       by true here = inr (grind (arith, holds, one, (same_decides t s).0 here, leb-true))
       by false other = inl (grind (arith, says, other))
-  asks b (Message2.Part PartKind.Sync t number last rows) ts holds says one = inl (grind arith)
-  asks b (Message2.Part PartKind.Join t number last rows) ts holds says one = inl (grind arith)
-  asks b (Message2.Part PartKind.Leave t number last rows) ts holds says one = inl (grind arith)
+  asks b (Message2.Part kind t number last rows) ts holds says one = inl (grind arith)
   asks b (Message2.Down t) ts holds says one = inl (grind arith)
 
   taken_asks : (b : Option Begun) (x : Option Message2) (ts : List Talk)
@@ -98,32 +75,21 @@ module _ (o : Opening) (es : List Entry) (e : Entry) (l : ℕ) (s : List ℕ) wh
 
   step_as : IsStep (past o es) e → {ev : Event} {v : Verdict} → e.event ≡ ev → e.verdict ≡ v
       → IsStep (past o es) (but e ev v)
-  step_as made is says =
-      subst (λ (x : Event × Verdict). IsStep (past o es) (but e x.0 x.1)) (λ i. (is i, says i)) made
+  step_as made is says = grind arith
 
   -- a new link is told nothing, and leaves the others
   opened_asked : (st : Start) (x : Entry) → is_accepted x.verdict ≡ true
       → start_of x.event ≡ Some st → IsStep (past o es) x → IsPlayedIn o es
       → old_told o l s (x ∷ es) ≡ true → old_told o l s es ≡ true
-  opened_asked st x accepts begins made legal old = by (x.number == l) refl
-    where
-      both : (told o l s (x ∷ es) ≡ true) × (not (link_version o l (x ∷ es) == 2) ≡ true)
-      both = and_parts (told o l s (x ∷ es)) (not (link_version o l (x ∷ es) == 2)) old
-
-      was : told o l s es ≡ true
-      was = sym (opening_heard (past o es) x accepts legal made st begins l s).told_is ∙ both.0
-
-      by : (b : Bool) → (x.number == l) ≡ b → old_told o l s es ≡ true
-      by false m =
-          let it = opened_apart es x l st accepts begins m in
-          let one = sym (ap (λ g. not (version_of o g == 2)) it.given) ∙ both.1 in
-          (λ i. was i && one i)
-      by true m =
-          let opens = (and_parts (is_open l es) (is_whole l es)
-          ((and_parts (is_up l es) (has_discover s (talk o l es)) was).0)).0 in
-          let none = subst (λ n. opened n es ≡ None) (eqb-true x.number l m)
-          (fresh o es legal x made) in
-          lie (sym (open_opened l es opens) ∙ ap is_some none)
+  opened_asked st x accepts begins made legal old = grind (
+    arith,
+    opening_heard (past o es) x accepts legal made st begins l s,
+    fresh o es legal x made,
+    and_parts,
+    opened_apart,
+    eqb-true,
+    open_opened,
+  )
 
   asked : IsPlayedIn o es → IsStep (past o es) e → (ev : Event) (v : Verdict) → e.event ≡ ev
       → e.verdict ≡ v → old_told o l s (but e ev v ∷ es) ≡ true → Few (but e ev v)
@@ -139,27 +105,25 @@ module _ (o : Opening) (es : List Entry) (e : Entry) (l : ℕ) (s : List ℕ) wh
       -- the rules that the message met
       met : (k == l) ≡ true → is_whole l es ≡ true → first_broken (option_map_or
           (message_checks (past o es) l) (frame_taken o l es body) (always Rule.BadFrame)) ≡ None
-      met n w =
-          let q : Accepted r ≡ judgement (past o es) e.seat (Event.Frame k body) =
-          sym says ∙ made.judged ∙ (λ i. judgement (past o es) e.seat (is i)) in
-          let here = (open_first (is_open k es) (frame_checks (past o es) k body (awaits k es))
-          (accepted (past o es) e.seat (Event.Frame k body) r q).0).1 in
-          let own = subst (λ j. first_broken (frame_checks (past o es) j body (awaits j es)) ≡ None)
-          (eqb-true k l n) here in
-          subst (λ a. first_broken (frame_checks (past o es) l body a) ≡ None)
-          (whole_awaits (opened l es) (taken l es) w) own
+      met n w = grind (
+        arith,
+        eqb-true k l n,
+        whole_awaits (opened l es) (taken l es) w,
+        open_first,
+        accepted,
+      )
 
       by : (a : Bool) → (k == l) ≡ a → (b : Bool) → is_whole l es ≡ b
           → old_told o l s (fr ∷ es) ≡ true → Few fr
       by true n true w old =
-          let both = and_parts (told o l s (fr ∷ es)) (not (link_version o l (fr ∷ es) == 2)) old in
-          let said = and_parts (is_up l (fr ∷ es)) (has_discover s (talk o l (fr ∷ es))) both.0 in
-          let opens = (and_parts (not (ends l es (Accepted r) (Event.Frame k body))) (is_open l es)
-          (and_parts (is_open l (fr ∷ es)) (is_whole l (fr ∷ es)) said.0).0).1 in
+          let both = and_parts _ _ old in
+          let said = and_parts _ _ both.0 in
+          let opens = (and_parts _ _
+          (and_parts _ _ said.0).0).1 in
           let gave : given l (fr ∷ es) ≡ given l es =
           ap (λ x. given_by (opened l es) (and_frame (taken l es) (cond x (Some moment) None))) n
           ∙ given_kept moment (opened l es) (taken l es) w in
-          let one = from_not (link_version o l es == 2)
+          let one = not-true _
           (sym (ap (λ g. not (version_of o g == 2)) gave) ∙ both.1) in
           let told_now = sym (ap (λ x. has_discover s (cond x (talk_of (said_at o l es body)) []
           ++ talk o l es)) (λ i. n i && w i)) ∙ said.1 in
@@ -178,20 +142,12 @@ module _ (o : Opening) (es : List Entry) (e : Entry) (l : ℕ) (s : List ℕ) wh
           let stops = silent s (tells s) (λ u. refl) (talk o l es) (only_stops o es legal l w) in
           let same = ap (λ x. has_discover s (cond x (talk_of (said_at o l es body)) []
           ++ talk o l es)) (λ i. n i && w i) in
-          let told_now = (and_parts (told o l s (fr ∷ es)) (not (link_version o l (fr ∷ es) == 2))
+          let told_now = (and_parts _ _
           old).0 in
-          let says_so = (and_parts (is_up l (fr ∷ es)) (has_discover s (talk o l (fr ∷ es)))
+          let says_so = (and_parts _ _
           told_now).1 in
           lie (sym says_so ∙ same ∙ stops)
-      by false n b w old =
-          let it = entry_link es fr k l body refl n in
-          inl (was_told (ends l es (Accepted r) (Event.Frame k body)) (is_open l es) (is_whole l es)
-          (has_discover s (talk o l es)) (not (link_version o l es == 2))
-          (sym (λ i. ((is_open l (fr ∷ es) && it.whole i) && has_discover s (it.talk o i))
-          && not (version_of o (it.given i) == 2)) ∙ old))
-  asked legal made (Event.Frame k body) (Refused r) is says old =
-      inl (was_told (k == l && not (is_whole l es)) (is_open l es) (is_whole l es)
-      (has_discover s (talk o l es)) (not (link_version o l es == 2)) old)
+      by false n b w old = grind (arith, entry_link, was_told)
   asked legal made (Event.Opened c) (Accepted r) is says old =
       inl (opened_asked (ByPeer c) (but e (Event.Opened c) (Accepted r)) refl refl
       (step_as made is says) legal old)
@@ -204,15 +160,7 @@ module _ (o : Opening) (es : List Entry) (e : Entry) (l : ℕ) (s : List ℕ) wh
       (not (link_version o l es == 2)) old in
       let was = (and_parts (told o l s es) (not (same t s)) (sym it.told_is ∙ both.0)).0 in
       inl (λ i. was i && both.1 i)
-  asked legal made (Event.Lost k) (Accepted r) is says old =
-      inl (was_told (k == l) (is_open l es) (is_whole l es)
-      (has_discover s (talk o l es)) (not (link_version o l es == 2)) old)
-  asked legal made (Event.Disconnect n) (Accepted r) is says old =
-      inl (was_told (is_whole l es && is_peer n l es) (is_open l es) (is_whole l es)
-      (has_discover s (talk o l es)) (not (link_version o l es == 2)) old)
-  asked legal made Event.Restart (Accepted r) is says old = lie (grind (arith, old))
-  asked legal made ev (Accepted r) is says old = inl old
-  asked legal made ev (Refused r) is says old = inl old
+  asked legal made ev v is says old = inl (grind (arith, old))
 
 -- the limit where nobody is told by version 1
 abbrev most : Opening → ℕ
@@ -246,8 +194,7 @@ few_old o (e ∷ es) legal l s old =
         → length (local_rows (past o (e ∷ es)) s) ≤ max_rows
     by grows (inr few) before = few
     by (inl no_more) (inl was) before = (let few = before was in omega (arith, few, no_more))
-    by (inr room) (inl was) before =
-        subst (λ n. length (local_rows (past o (e ∷ es)) s) ≤ n) (old_limit o es l s was) room
+    by (inr room) (inl was) before = grind (arith, old_limit)
 
 few_in : (o : Opening) (es : List Entry) → IsPlayedIn o es → (s : List ℕ)
     → length (local_rows (past o es) s) ≤ own_limit (past o es) s
@@ -256,7 +203,7 @@ few_in o es legal s = by (is_old_told (past o es) s) refl
     by : (b : Bool) → is_old_told (past o es) s ≡ b
         → length (local_rows (past o es) s) ≤ own_limit (past o es) s
     by true some =
-        let who = who_meets (λ l. old_told o l s es) (links es) some in
+        let who = which_of (λ l. old_told o l s es) (links es) some in
         subst (λ n. length (local_rows (past o es) s) ≤ n) (sym (old_limit o es who.0 s who.1))
         (few_old o es legal who.0 s who.1)
     by false none = (let few = few_most o es legal s in grind (arith, few, none))

@@ -1,9 +1,9 @@
 -- There is one difference between two counts.
 use Rattle.policy_audit.proofs
 use proofs.Words.{after, AllByRecursion, ap, arith, Ascends, cond, Equal, exact_bytes, exact_pids}
-use proofs.Words.{false, Greater, GroupChange, is_empty, IsDifference, IsProper, Less, List, map}
-use proofs.Words.{mentions, Ordering, ordering_reverse, Pid, pid_cmp, pids_total, refl, Rises, same}
-use proofs.Words.{same_ascending, same_decides, same_pid, same_pid_decides, sym, text_cmp}
+use proofs.Words.{false, Greater, GroupChange, is_empty, IsDifference, IsProper, Less, List}
+use proofs.Words.{map, mentions, Ordering, ordering_reverse, Pid, pid_cmp, pids_total, refl, Rises}
+use proofs.Words.{same, same_ascending, same_decides, same_pid, same_pid_decides, sym, text_cmp}
 use proofs.Words.{texts_total, tied_itself, total, true, ℕ, [], ◌&&◌, ◌+◌, ◌∙◌, ◌∷◌, ◌≡◌}
 use proofs.Accepted.{lie}
 
@@ -40,21 +40,12 @@ module _ (side : GroupChange → List Pid) where
   pub times_first : (c : GroupChange) (cs : List GroupChange)
       → Rises text_cmp (map (λ d. d.group) (c ∷ cs)) → (p : Pid)
       → times c.group p (c ∷ cs) ≡ mentions p (side c)
-  times_first c cs r p =
-      ap (λ b. cond b (mentions p (side c)) 0 + times c.group p cs)
-      ((same_decides c.group c.group).1 refl) ∙ (let rest = times_above c.group p cs r.0 in
-      omega (arith, rest))
+  times_first c cs r p = grind (arith, same_decides, times_above)
 
   pub times_rest : (c d : GroupChange) (cs ds : List GroupChange) → c ≡ d
       → ((g : List ℕ) (p : Pid) → times g p (c ∷ cs) ≡ times g p (d ∷ ds)) → (g : List ℕ) (p : Pid)
       → times g p cs ≡ times g p ds
-  times_rest c d cs ds s m g p =
-      let heads : cond (same c.group g) (mentions p (side c)) 0
-      ≡ cond (same d.group g) (mentions p (side d)) 0 =
-      ap (λ x. cond (same x.group g) (mentions p (side x)) 0) s in
-      let all : cond (same c.group g) (mentions p (side c)) 0 + times g p cs
-      ≡ cond (same d.group g) (mentions p (side d)) 0 + times g p ds = m g p in
-      omega (arith, heads, all)
+  times_rest c d cs ds s m g p = grind (arith, m)
 
 abbrev lefts : GroupChange → List Pid
 lefts c = c.left

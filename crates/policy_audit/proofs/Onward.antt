@@ -1,16 +1,15 @@
 -- What an accepted frame makes of its own link.
 use Rattle.policy_audit.proofs
-use proofs.Words.{ap, arith, AwaitAck, AwaitAnswer, AwaitChallenge, Awaited, awaited_in}
-use proofs.Words.{AwaitMessage, AwaitName, AwaitReply, awaits, AwaitStatus, Bool, ByDial, ByPeer}
-use proofs.Words.{Challenge, challenge_frame, cond, ends, Entry, eq-eqb, Event, false, get_or}
-use proofs.Words.{given, History, is_accepted, is_name_up, is_open, is_some, is_whole, IsStep}
-use proofs.Words.{length, List, Name, name_frame, None, Opened, opened, Option, peer_of, refl, Some}
-use proofs.Words.{Start, subst, sym, Taken, taken, true, was_up, whole_side, ℕ, [], ◌++◌, ◌↔◌, ◌∙◌}
-use proofs.Words.{◌∷◌, ◌≡◌}
+use proofs.Words.{arith, AwaitAck, AwaitAnswer, AwaitChallenge, Awaited, awaited_in, AwaitMessage}
+use proofs.Words.{AwaitName, AwaitReply, awaits, AwaitStatus, Bool, ByDial, ByPeer, Challenge}
+use proofs.Words.{challenge_frame, cond, ends, Entry, eq-eqb, Event, false, get_or, given, History}
+use proofs.Words.{is_accepted, is_name_up, is_open, is_some, is_whole, IsStep, length, List, Name}
+use proofs.Words.{name_frame, None, Opened, opened, Option, peer_of, refl, Some, Start, subst, sym}
+use proofs.Words.{Taken, taken, true, was_up, whole_side, ℕ, [], ◌++◌, ◌↔◌, ◌∷◌, ◌≡◌}
 use proofs.Accepted.{accepted, lie, peer_by}
 use proofs.Finished.{awaited_by, given_by, is_message, message_whole, three_of, two_of}
 use proofs.Finished.{whole_awaits, whole_by}
-use proofs.Effects.{by_made}
+pub use proofs.Walked.{hello_of}
 use proofs.Walked.{frame_fits, open_opened}
 
 -- ---- over plain frames
@@ -23,10 +22,6 @@ record Made (m : Taken) (oe : Option Opened) (ts : List Taken) (gave : Option Na
   peer : peer_by oe (ts ++ m ∷ []) ≡ of
   awaits : awaited_by oe (ts ++ m ∷ []) ≡ next
   whole : whole_by oe (ts ++ m ∷ []) ≡ ends
-
--- flags, creation and name in a Challenge
-abbrev pub hello_of : Challenge → Name
-hello_of f = record { flags = f.flags; creation = f.creation; name = f.name; version = f.version }
 
 module _ (m : Taken) where
   -- what one frame more makes, by what was awaited
@@ -89,9 +84,7 @@ module _ (h : History) (e : Entry) (made : IsStep h e) (yes : is_accepted e.verd
 
   -- its link is open
   pub frame_open : is_open l es ≡ true
-  frame_open = by_made h e (Event.Frame l body) (λ x. is_open l es ≡ true) made yes is
-      (λ r q. (frame_fits h.opening es e.seat l body
-      (accepted h e.seat (Event.Frame l body) r q).0).0)
+  frame_open = grind (arith, frame_fits, accepted)
 
   -- it is the newest of the link's frames
   same_opening : opened l (e ∷ es) ≡ opened l es
@@ -111,9 +104,7 @@ module _ (h : History) (e : Entry) (made : IsStep h e) (yes : is_accepted e.verd
   pub name_taken : (f : Name) → awaits l es ≡ AwaitName → name_frame body ≡ Some f
       → IsOnward l es e (Some f) (Some f.name) (cond (is_name_up f.name es) AwaitAnswer AwaitReply)
       false
-  name_taken f q named =
-      onward (Some f) (Some f.name) (cond (is_name_up f.name es) AwaitAnswer AwaitReply) false
-      (it_makes AwaitName q f named)
+  name_taken f q named = grind (arith, onward)
 
   pub answer_taken : awaits l es ≡ AwaitAnswer
       → IsOnward l es e (given l es) (peer_of l es) AwaitReply false
@@ -130,8 +121,7 @@ module _ (h : History) (e : Entry) (made : IsStep h e) (yes : is_accepted e.verd
   pub challenge_taken : (f : Challenge) → awaits l es ≡ AwaitChallenge
       → challenge_frame body ≡ Some f
       → IsOnward l es e (Some (hello_of f)) (peer_of l es) AwaitAck false
-  challenge_taken f q asked =
-      onward (Some (hello_of f)) (peer_of l es) AwaitAck false (it_makes AwaitChallenge q f asked)
+  challenge_taken f q asked = grind (arith, onward)
 
   pub ack_taken : awaits l es ≡ AwaitAck
       → IsOnward l es e (given l es) (peer_of l es) AwaitMessage true
@@ -147,10 +137,7 @@ module _ (h : History) (e : Entry) (made : IsStep h e) (yes : is_accepted e.verd
 module _ (l : ℕ) (es : List Entry) (opens : is_open l es ≡ true) where
   -- a message, exactly where its side is whole
   pub whole_is_message : (is_whole l es ≡ true) ↔ (awaits l es ≡ AwaitMessage)
-  whole_is_message = (
-    λ w. whole_awaits (opened l es) (taken l es) w,
-    λ q. message_whole (opened l es) (taken l es) (open_opened l es opens) (ap is_message q),
-  )
+  whole_is_message = grind (arith, open_opened l es opens, whole_awaits, message_whole)
 
   pub unwhole_awaits : is_whole l es ≡ false → is_message (awaits l es) ≡ false
   unwhole_awaits w =
@@ -198,37 +185,26 @@ dials_in : (n : List ℕ) (c : ℕ) (ts : List Taken)
 dials_in n c (a ∷ b ∷ r ∷ ts) = refl
 dials_in n c ts = refl
 
+some_value : {A : Type 0} (o : Option A) → is_some o ≡ true → (x : A) × (o ≡ Some x)
+some_value None q = lie (sym q)
+some_value (Some x) q = (x, refl)
+
 module _ (l : ℕ) (es : List Entry) (opens : is_open l es ≡ true) where
+  started : (x : Opened) × (opened l es ≡ Some x)
+  started = some_value (opened l es) (open_opened l es opens)
+
   pub by_peer : is_acceptors (awaits l es) ≡ true → IsByPeer l es
-  by_peer q = by (opened l es) refl
+  by_peer q = by started.0.start started.1
     where
-      by : (x : Option Opened) → opened l es ≡ x → IsByPeer l es
-      by None o = lie (sym (open_opened l es opens) ∙ ap is_some o)
-      by (Some x) o = kind x.start o
-        where
-          kind : (s : Start) → opened l es ≡ Some (record { start = s; before = x.before })
-              → IsByPeer l es
-          kind (ByPeer c) o = record { challenge = c; before = x.before; opened = o }
-          kind (ByDial n c) o =
-              lie (sym q ∙ ap (λ y. is_acceptors (awaited_by y (taken l es))) o
-              ∙ dials_in n c (taken l es))
+      by : (s : Start) → opened l es ≡ Some (record { start = s; before = started.0.before })
+          → IsByPeer l es
+      by (ByPeer c) o = record { challenge = c; before = started.0.before; opened = o }
+      by (ByDial n c) o = grind (arith, dials_in)
 
   pub by_dial : is_diallers (awaits l es) ≡ true → IsByDial l es
-  by_dial q = by (opened l es) refl
+  by_dial q = by started.0.start started.1
     where
-      by : (x : Option Opened) → opened l es ≡ x → IsByDial l es
-      by None o = lie (sym (open_opened l es opens) ∙ ap is_some o)
-      by (Some x) o = kind x.start o
-        where
-          kind : (s : Start) → opened l es ≡ Some (record { start = s; before = x.before })
-              → IsByDial l es
-          kind (ByPeer c) o =
-              lie (sym q ∙ ap (λ y. is_diallers (awaited_by y (taken l es))) o
-              ∙ peers_in c (taken l es))
-          kind (ByDial n c) o = record {
-            peer = n;
-            challenge = c;
-            before = x.before;
-            opened = o;
-            peer_is = ap (λ y. peer_by y (taken l es)) o;
-          }
+      by : (s : Start) → opened l es ≡ Some (record { start = s; before = started.0.before })
+          → IsByDial l es
+      by (ByPeer c) o = grind (arith, peers_in)
+      by (ByDial n c) o = grind arith

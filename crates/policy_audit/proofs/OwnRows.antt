@@ -3,12 +3,12 @@
 use Rattle.policy_audit.proofs
 use proofs.Words.{Accepted, ap, arith, Ascends, Bool, cond, Entry, Event, events, exact_rows, false}
 use proofs.Words.{filter, groups_named, History, is_gt, is_local, IsListing, IsPidListing, IsPlayed}
-use proofs.Words.{IsPlayedIn, IsRowListing, join_checks, joined, judgement, List, list_all, listed}
-use proofs.Words.{local_groups, local_members, local_rows, map, None, occurrences, one_listing}
-use proofs.Words.{Opening, Option, Ordering, own, past, Pid, pids_named, present_link, refl, Row}
-use proofs.Words.{row, row_cmp, rows_total, same, same_decides, same_pid, same_pid_decides}
-use proofs.Words.{same_row, same_row_decides, same_sym, Some, stands_in, sym, true, Verdict, ℕ, []}
-use proofs.Words.{◌<◌, ◌∙◌, ◌∷◌, ◌≡◌}
+use proofs.Words.{IsPlayedIn, IsRowListing, joined, judgement, List, listed, local_groups}
+use proofs.Words.{local_members, local_rows, map, None, occurrences, one_listing, Opening, Option}
+use proofs.Words.{Ordering, own, past, Pid, pids_named, present_link, refl, Row, row, row_cmp}
+use proofs.Words.{rows_total, same, same_decides, same_pid, same_pid_decides, same_row}
+use proofs.Words.{same_row_decides, same_sym, so_far, Some, stands_in, sym, true, Verdict}
+use proofs.Words.{ℕ, [], ◌<◌, ◌∷◌, ◌≡◌, ◌∙◌}
 use proofs.Accepted.{accepted, all_hold, lie, unbroken}
 use proofs.Walked.{but}
 use proofs.UpLinks.{agrees}
@@ -28,7 +28,7 @@ no_own_link h legal = by (present_link h.opening.name h.entries) refl
     by (Some l) q =
         lie (sym ((same_decides h.opening.name h.opening.name).1 refl)
         ∙ peer_foreign h legal l h.opening.name
-        ((agrees h.opening h.entries legal h.opening.name l).0 q).1)
+        ((agrees _ _ legal h.opening.name l).0 q).1)
 
 -- nobody is joined but the processes of this node and its present creation
 unjoined : (o : Opening) (es : List Entry) → IsPlayedIn o es → (s g : List ℕ) (p : Pid)
@@ -42,14 +42,7 @@ unjoined o (e ∷ es) legal s g p foreign =
         → is_local (past o (but e ev v ∷ es)) p ≡ false
         → joined s g p (events (but e ev v ∷ es)) ≡ 0
     by_event (Event.Join t u ps) (Accepted r) q so_far f =
-        let all = unbroken (list_all (is_local (past o es)) ps)
-        (all_hold (join_checks (past o es) t u ps)
-        (accepted (past o es) e.seat (Event.Join t u ps) r q).0).1.0 in
-        grind (
-          arith,
-          uncounted same_pid (λ y x. (same_pid_decides y x).0) (is_local (past o es)) p
-              ps all,
-        )
+        grind (arith, unbroken, all_hold, accepted, uncounted, same_pid_decides)
     by_event ev v _ so_far f = grind arith
 
 pub foreign_own : (h : History) → IsPlayed h → (s g : List ℕ) (p : Pid) → is_local h p ≡ false
@@ -78,11 +71,7 @@ one_row_listing count xs ys a b =
 -- the rows of one group
 pub rows_in_group : (g : List ℕ) (count : Pid → ℕ) (ps : List Pid) → IsPidListing count ps
     → IsRowListing (λ f q. cond (same f g) (count q) 0) (map (row g) ps)
-rows_in_group g count ps a = record {
-  ascends = rows_of_group g ps (IsListing.ascends a);
-  counts = λ r. count_in_group r g ps
-      ∙ (λ i. cond (same_sym g r.group i) (IsListing.counts a r.pid i) 0);
-}
+rows_in_group g count ps a = grind (arith, rows_of_group, count_in_group, same_sym)
 
 filter_ascends : {A : Type 0} (R : A → A → Ordering) (test : A → Bool) (xs : List A) → Ascends R xs
     → Ascends R (filter test xs)

@@ -15,9 +15,8 @@ use specs.Hearing.{Talk}
 use specs.Parted.{AreUndisturbed, disturbs, message_in, messages, scope_of, taken_behind, takes}
 use Rattle.link_frames.specs.Parts.{AreInOrder, begun_by, comes_next, completed_by, parts}
 use Rattle.link_frames.proofs.PartOrders.{alone_in_order, AreAbout, begins_about, begins_in_order}
-use Rattle.link_frames.proofs.PartOrders.{begun_by_more, completed_by_more, first_begins}
-use Rattle.link_frames.proofs.PartOrders.{first_completes, IsKeptOf, kept_about, last_in_order}
-use Rattle.link_frames.proofs.PartOrders.{parts_about, parts_alone, scope_said}
+use Rattle.link_frames.proofs.PartOrders.{begun_by_more, completed_by_more, IsKeptOf, kept_about}
+use Rattle.link_frames.proofs.PartOrders.{last_in_order, parts_about, parts_alone, scope_said}
 use proofs.Walked.{but}
 
 reverse_more : {A : Type 0} (xs : List A) (o : Option A)
@@ -46,22 +45,11 @@ module _ (o : Opening) (l : ℕ) (s : List ℕ) (es : List Entry) where
       where
         by : (fs ≡ []) ⊎ (begun o l now ≡ begun_by None fs)
             → begun_after (begun o l now) f ≡ begun_after (begun_by None fs) f
-        by (inl none) =
-            first_begins (begun o l now) f
-            (subst (λ x. comes_next (begun_by None x) f ≡ true) none next)
-            ∙ ap (λ x. begun_after (begun_by None x) f) (sym none)
+        by (inl none) = grind arith
         by (inr same) = ap (λ b. begun_after b f) same
 
     completes_more : completed (begun o l now) f ≡ completed (begun_by None fs) f
-    completes_more = by (IsCarried.keeps it)
-      where
-        by : (fs ≡ []) ⊎ (begun o l now ≡ begun_by None fs)
-            → completed (begun o l now) f ≡ completed (begun_by None fs) f
-        by (inl none) =
-            first_completes (begun o l now) f
-            (subst (λ x. comes_next (begun_by None x) f ≡ true) none next)
-            ∙ ap (λ x. completed (begun_by None x) f) (sym none)
-        by (inr same) = ap (λ b. completed b f) same
+    completes_more = grind arith
 
     said_more : (now_on : List Entry)
         → messages o l now_on ≡ option_to_list (completed (begun o l now) f) ++ messages o l now
@@ -103,19 +91,8 @@ module _ (o : Opening) (l : ℕ) (s : List ℕ) (es : List Entry) where
         → AreInOrder None (fs ++ cond mine (option_to_list x) [])
         → IsCarried (but e (Event.Frame k body) (Accepted r) ∷ now)
         (fs ++ cond mine (option_to_list x) [])
-    by_frame k body r false is x says order =
-        as_before now (but e (Event.Frame k body) (Accepted r) ∷ now) fs here
-        (ap (λ b. cond b (kept_after (begun o l now) (frame_taken o l now body))
-        (begun o l now)) is)
-        (ap (λ b. flat_map message_in
-        (cond b (talk_of (said_at o l now body)) [] ++ talk o l now)) is)
-    by_frame k body r true is None says order =
-        as_before now (but e (Event.Frame k body) (Accepted r) ∷ now) fs here
-        (ap (λ b. cond b (kept_after (begun o l now) (frame_taken o l now body)) (begun o l now)) is
-        ∙ ap (kept_after (begun o l now)) says)
-        (ap (λ b. flat_map message_in (cond b (talk_of (said_at o l now body)) [] ++ talk o l now))
-        is ∙ ap (λ x. flat_map message_in
-        (talk_of (option_and_then (completed (begun o l now)) x) ++ talk o l now)) says)
+    by_frame k body r false is x says order = grind (arith, as_before)
+    by_frame k body r true is None says order = grind (arith, as_before)
     by_frame k body r true is (Some f) says order = record {
       keeps = inr
           (ap (λ b. cond b (kept_after (begun o l now) (frame_taken o l now body)) (begun o l now))

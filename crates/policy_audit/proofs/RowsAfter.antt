@@ -1,13 +1,13 @@
 -- How often a process is listed after each accepted event.
 use Rattle.policy_audit.proofs
 use proofs.Walked.{but, frame_fits, fresh}
-use proofs.Words.{Accepted, ap, arith, awaits, Bool, checks, cond, Entry, eq-eqb, eqb-true, Event}
-use proofs.Words.{false, History, is_about_rows, is_accepted, is_last, is_local, is_open, is_peer}
-use proofs.Words.{is_replaced, is_running, is_up, is_visible, is_whole, IsPlayed, IsStep}
-use proofs.Words.{join_checks, judgement, just, leave_checks, List, list_all, listed, listed_by}
-use proofs.Words.{may_change, mentions, None, occurrences, opened, option_map_or, own, peer_of, Pid}
-use proofs.Words.{present_link, refl, Reply, said_at, same, same_decides, same_pid}
-use proofs.Words.{same_pid_decides, same_sym, Some, subst, sym, taken, true, up_answer, ℕ, [], ◌&&◌}
+use proofs.Words.{Accepted, ap, arith, awaits, Bool, checks, cond, Entry, eq-eqb}
+use proofs.Words.{eqb-true, Event, false, History, is_about_rows, is_accepted, is_last, is_local}
+use proofs.Words.{is_open, is_peer, is_replaced, is_running, is_up, is_visible, is_whole, IsPlayed}
+use proofs.Words.{IsStep, judgement, just, leave_checks, List, list_all, listed, listed_by}
+use proofs.Words.{may_change, mentions, None, occurrences, opened, option_map_or, own}
+use proofs.Words.{peer_of, Pid, present_link, refl, Reply, said_at, same, same_decides, same_pid}
+use proofs.Words.{same_pid_decides, same_sym, Some, subst, sym, taken, true, ℕ, [], ◌&&◌}
 use proofs.Words.{◌+◌, ◌-◌, ◌==◌, ◌||◌, ◌∙◌, ◌∷◌, ◌≡◌}
 use proofs.Finished.{Completed, is_message, whole_awaits}
 use proofs.Accepted.{accepted, all_hold, lie, unbroken}
@@ -59,15 +59,7 @@ module _ (h : History) (e : Entry) (made : IsStep h e) (yes : is_accepted e.verd
       → listed (just h e) t f p
       ≡ cond (same t s) (listed h t f p + cond (same f g) (mentions p ps) 0) (listed h t f p)
   joined_rows s g ps is t f p =
-      let holds = all_hold (join_checks h s g ps)
-      (breaks_none h e (Event.Join s g ps) made yes is) in
-      grind (
-        arith,
-        entry_joined h e s g ps is yes (unbroken (is_running h s) holds.0) t f p,
-        unmentioned ps (unbroken (list_all (is_local h) ps) holds.1.0) p,
-        same_sym s t,
-        same_sym g f,
-      )
+      grind (arith, all_hold, breaks_none, entry_joined, unbroken, unmentioned, same_sym)
 
   pub left_rows : (s g : List ℕ) (ps : List Pid) → e.event ≡ Event.Leave s g ps
       → (t f : List ℕ) (p : Pid)
@@ -130,14 +122,12 @@ module _ (h : History) (legal : IsPlayed h) (e : Entry) (made : IsStep h e)
       → listed (just h e) t f p ≡ listed h t f p
   left_alone ev is t f p within =
       by_made h e ev (λ x. listed (just h x) t f p ≡ listed h t f p) made yes is
-      (λ r q. rows_step h.opening es legal e (fresh h.opening es legal e made) t f p ev
+      (λ r q. rows_step _ _ legal e (fresh _ _ legal e made) t f p ev
       (Accepted r) q (within r))
 
   pub started_rows : (s : List ℕ) → e.event ≡ Event.StartScope s → (t f : List ℕ) (p : Pid)
       → listed (just h e) t f p ≡ listed h t f p
-  started_rows s is t f p =
-      left_alone (Event.StartScope s) is t f p
-      (λ r. unreplaced p.node es (but e (Event.StartScope s) (Accepted r) ∷ es) refl)
+  started_rows s is t f p = grind (arith, left_alone, unreplaced)
 
   pub stopped_rows : (s : List ℕ) → e.event ≡ Event.StopScope s → (t f : List ℕ) (p : Pid)
       → listed (just h e) t f p ≡ cond (same t s) 0 (listed h t f p)
@@ -145,15 +135,11 @@ module _ (h : History) (legal : IsPlayed h) (e : Entry) (made : IsStep h e)
 
   pub opened_rows : (c : ℕ) → e.event ≡ Event.Opened c → (t f : List ℕ) (p : Pid)
       → listed (just h e) t f p ≡ listed h t f p
-  opened_rows c is t f p =
-      left_alone (Event.Opened c) is t f p
-      (λ r. unreplaced p.node es (but e (Event.Opened c) (Accepted r) ∷ es) refl)
+  opened_rows c is t f p = grind (arith, left_alone, unreplaced)
 
   pub dialled_rows : (n : List ℕ) (c : ℕ) → e.event ≡ Event.Dial n c → (t f : List ℕ) (p : Pid)
       → listed (just h e) t f p ≡ listed h t f p
-  dialled_rows n c is t f p =
-      left_alone (Event.Dial n c) is t f p
-      (λ r. unreplaced p.node es (but e (Event.Dial n c) (Accepted r) ∷ es) refl)
+  dialled_rows n c is t f p = grind (arith, left_alone, unreplaced)
 
   -- a lost link that isn't the present one of p's node
   lost_apart : (l : ℕ) → e.event ≡ Event.Lost l → (t f : List ℕ) (p : Pid)
@@ -171,17 +157,17 @@ module _ (h : History) (legal : IsPlayed h) (e : Entry) (made : IsStep h e)
   pub lost_rows : (l : ℕ) (n : List ℕ) → e.event ≡ Event.Lost l → is_up l es ≡ true
       → peer_of l es ≡ Some n → same n h.opening.name ≡ false
       → (t f : List ℕ) (p : Pid) → listed (just h e) t f p ≡ cond (same p.node n) 0 (listed h t f p)
-  lost_rows l n is up of foreign t f p = by (same p.node n) refl
-    where
-      gone : same p.node n ≡ true → present_link p.node (e ∷ es) ≡ None
-      gone m = grind (arith, same_decides p.node n, agrees h.opening es legal n l, eq-eqb l l)
-
-      by : (b : Bool) → same p.node n ≡ b → listed (just h e) t f p ≡ cond b 0 (listed h t f p)
-      by true m = unlinked (just h e) t f p (not_local (just h e) p n m foreign) (gone m)
-      by false m =
-          lost_apart l is t f p
-          (other_link l p
-          (λ w. lie (sym ((same_decides p.node n).1 (value_of p.node n (sym w.1 ∙ of))) ∙ m)))
+  lost_rows l n is up of foreign t f p = grind (
+    arith,
+    same_decides,
+    agrees,
+    eq-eqb,
+    unlinked,
+    not_local,
+    lost_apart,
+    other_link,
+    value_of,
+  )
 
   pub lost_other : (l : ℕ) → e.event ≡ Event.Lost l → is_up l es ≡ false → (t f : List ℕ) (p : Pid)
       → listed (just h e) t f p ≡ listed h t f p
@@ -190,15 +176,8 @@ module _ (h : History) (legal : IsPlayed h) (e : Entry) (made : IsStep h e)
   pub disconnected_rows : (n : List ℕ) → e.event ≡ Event.Disconnect n
       → same n h.opening.name ≡ false → (t f : List ℕ) (p : Pid)
       → listed (just h e) t f p ≡ cond (same p.node n) 0 (listed h t f p)
-  disconnected_rows n is foreign t f p = by (same p.node n) refl
-    where
-      gone : same p.node n ≡ true → present_link p.node (e ∷ es) ≡ None
-      gone m = grind (arith, same_sym n p.node)
-
-      by : (b : Bool) → same p.node n ≡ b → listed (just h e) t f p ≡ cond b 0 (listed h t f p)
-      by true m = unlinked (just h e) t f p (not_local (just h e) p n m foreign) (gone m)
-      by false m =
-          left_alone (Event.Disconnect n) is t f p (λ r. grind (arith, same_sym n p.node, eq-eqb))
+  disconnected_rows n is foreign t f p =
+      grind (arith, same_sym, unlinked, not_local, left_alone, eq-eqb)
 
   -- ---- frames
 
@@ -209,10 +188,7 @@ module _ (h : History) (legal : IsPlayed h) (e : Entry) (made : IsStep h e)
     -- a frame that isn't the last of a side is answered Done
     pub done_frame : is_last (awaits l es) ≡ false → (P : Entry → Type 0)
         → (Accepted Reply.Done ≡ judgement h e.seat (Event.Frame l body) → P (fr Reply.Done)) → P e
-    done_frame inner P each = by_made h e (Event.Frame l body) P made yes is (λ r q. (
-        let done = (accepted h e.seat (Event.Frame l body) r q).1
-        ∙ ap (λ b. cond b (up_answer h l) Reply.Done) inner in
-        subst (λ x. P (fr x)) (sym done) (each (ap Accepted (sym done) ∙ q))))
+    done_frame inner P each = grind (arith, each, accepted)
 
     -- and leaves the rows that it doesn't concern
     pub inner_rows : is_last (awaits l es) ≡ false → (t f : List ℕ) (p : Pid)
@@ -256,7 +232,7 @@ module _ (h : History) (legal : IsPlayed h) (e : Entry) (made : IsStep h e)
             → same p.node n ≡ b → listed (just h (fr up)) t f p ≡ cond b 0 (listed h t f p)
         up_by q true m = now_silent m
         up_by q false m =
-            rows_step h.opening es legal e (fresh h.opening es legal e made) t f p
+            rows_step _ _ legal e (fresh _ _ legal e made) t f p
             (Event.Frame l body) (Accepted up) q
             (or_none _ _
             (ap (λ b. b && is_peer p.node l es && is_about_rows t (said_at h.opening l es body))

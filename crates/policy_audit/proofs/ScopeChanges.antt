@@ -1,15 +1,15 @@
 -- The difference of two histories, from the differences in its scopes; and that there is one.
 use Rattle.policy_audit.proofs
 use proofs.Words.{after, AllByRecursion, ap, append-nil, arith, bare_entry, Bool, Change, change}
-use proofs.Words.{cond, entered, Entry, entry_of, Equal, exact_bytes, false, filter, Greater}
-use proofs.Words.{GroupChange, groups_in, History, is_among, is_empty, IsChange, IsDifference}
-use proofs.Words.{IsNext, Less, List, listed, lt-ltb, map, next_number, not, Ordering, Pid, refl}
-use proofs.Words.{Rises, same, same_decides, subst, sym, text_cmp, true, Verdict, verdict}
-use proofs.Words.{with_entry, ℕ, [], ◌++◌, ◌||◌, ◌∙◌, ◌∷◌, ◌≡◌}
+use proofs.Words.{cond, Entry, entry_of, Equal, exact_bytes, false, filter, Greater, GroupChange}
+use proofs.Words.{groups_in, History, is_among, is_empty, IsChange, IsDifference, IsNext, Less}
+use proofs.Words.{List, listed, lt-ltb, map, next_number, not, Ordering, Pid, refl, Rises, same}
+use proofs.Words.{same_decides, subst, sym, text_cmp, true, verdict, Verdict, with_entry, ℕ, []}
+use proofs.Words.{◌++◌, ◌||◌, ◌∙◌, ◌∷◌, ◌≡◌}
 use proofs.OneDifference.{above_all, apart, one_group_difference, turned}
 use proofs.ChangeLemmas.{change_as, change_is, no_difference}
-use proofs.LostWords.{change_unread}
 use proofs.Accepted.{lie}
+use proofs.LostWords.{change_unread}
 
 -- ---- changes by scope
 
@@ -106,9 +106,7 @@ too_early : {P : Type 0} (c : Change) (cs ds : List Change)
     → Rises text_cmp (map (λ x. x.scope) (c ∷ cs)) → is_empty c.groups ≡ false
     → AllByRecursion (λ t. text_cmp c.scope t ≡ Less) (map (λ x. x.scope) ds)
     → groups_in c.scope (c ∷ cs) ≡ groups_in c.scope ds → P
-too_early c cs ds r some above m =
-    lie (sym (ap is_empty (sym (first_groups c cs r) ∙ m
-    ∙ no_groups c.scope ds (none_above c.scope (map (λ x. x.scope) ds) above))) ∙ some)
+too_early c cs ds r some above m = grind (arith, first_groups, no_groups, none_above)
 
 same_scopes : (cs ds : List Change) → Rises text_cmp (map (λ c. c.scope) cs)
     → Rises text_cmp (map (λ c. c.scope) ds) → AllByRecursion (λ c. is_empty c.groups ≡ false) cs
@@ -201,7 +199,4 @@ next_is_entry h e next = λ i. record {
         (change_is h (with_entry h (bare_entry h e.seat e.event (verdict h e.seat e.event))))
 
 pub next_is_after : (h : History) (e : Entry) → IsNext h e → with_entry h e ≡ after h e.seat e.event
-next_is_after h e next =
-    ap (with_entry h) (next_is_entry h e next)
-    ∙ sym (ap (λ b. cond (not b) h (with_entry h (entry_of h e.seat e.event)))
-    (lt-ltb (entered h.entries) h.opening.entries next.room))
+next_is_after h e next = grind (arith, next_is_entry, lt-ltb)

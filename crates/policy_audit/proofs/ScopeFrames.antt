@@ -5,9 +5,10 @@ use proofs.Walked.{but, fresh}
 use proofs.KeptLinks.{unopened_waiting, unowed}
 use proofs.Words.{Accepted, append-nil, arith, Bool, Entry, eq-eqb, Event, false, filter, flat_map}
 use proofs.Words.{History, if_told, if_visible, is_accepted, is_kept, is_open, IsPlayed, IsStep}
-use proofs.Words.{judgement, just, List, listing, local_rows, map, mentions, Message, min, OutFrame}
-use proofs.Words.{owed, own, own_name_frame, Pid, pid_cmp, refl, Reply, row, running_scopes}
-use proofs.Words.{same_pid, sym, tells, true, waiting, ℕ, [], ◌++◌, ◌∙◌, ◌∷◌, ◌≡◌}
+use proofs.Words.{judgement, just, List, listing, local_rows, map, mentions, Message, min}
+use proofs.Words.{OutFrame, owed, own, own_name_frame, Pid, pid_cmp, refl, Reply, row}
+use proofs.Words.{running_scopes, same_pid, tells, true, waiting, ℕ, [], ◌++◌}
+use proofs.Words.{◌∷◌, ◌≡◌}
 use proofs.Effects.{by_made}
 use proofs.KeptNumbers.{kept_numbers}
 use proofs.LinkFrames.{IsLinkNow}
@@ -46,23 +47,17 @@ module _ (h : History) (e : Entry) (made : IsStep h e) (yes : is_accepted e.verd
           → owed h l e.number ev (Accepted r) ≡ more l
           → IsLinkNow (just h (but e ev (Accepted r))) l (is_open l h.entries)
           (waiting h l ++ more l) (is_kept h l)
-      by ev t r q m =
-          let none : is_open l h.entries ≡ false → more l ≡ [] =
-          λ o. sym m ∙ unowed h.opening h.entries l o e ev (Accepted r) q (grind arith) in
-          grind (arith, append-nil, none, m)
+      by ev t r q m = grind (arith, unowed, append-nil)
 
   pub started_links : (s : List ℕ) → e.event ≡ Event.StartScope s → (l : ℕ)
       → IsLinkNow k l (is_open l h.entries) (waiting h l ++ if_visible h l (Message.Discover s))
       (is_kept h l)
-  started_links s is l =
-      told_links (Event.StartScope s) is refl (λ j. if_visible h j (Message.Discover s))
-      (λ r j. refl) l
+  started_links s is l = grind (arith, told_links)
 
   pub stopped_links : (s : List ℕ) → e.event ≡ Event.StopScope s → (l : ℕ)
       → IsLinkNow k l (is_open l h.entries) (waiting h l ++ if_visible h l (Message.Down s))
       (is_kept h l)
-  stopped_links s is l =
-      told_links (Event.StopScope s) is refl (λ j. if_visible h j (Message.Down s)) (λ r j. refl) l
+  stopped_links s is l = grind (arith, told_links)
 
   pub exited_links : (p : Pid) → e.event ≡ Event.Exit p → (l : ℕ)
       → IsLinkNow k l (is_open l h.entries) (waiting h l ++ exit_frames h p l) (is_kept h l)
@@ -72,19 +67,13 @@ module _ (h : History) (e : Entry) (made : IsStep h e) (yes : is_accepted e.verd
       → IsLinkNow k l (is_open l h.entries)
       (waiting h l ++ if_told h l s (Message.Join s)
       (map (row g) (listing pid_cmp (λ p. mentions p ps) ps))) (is_kept h l)
-  joined_links s g ps is l =
-      told_links (Event.Join s g ps) is refl
-      (λ j. if_told h j s (Message.Join s) (map (row g) (listing pid_cmp (λ p. mentions p ps) ps)))
-      (λ r j. refl) l
+  joined_links s g ps is l = grind (arith, told_links)
 
   pub left_links : (s g : List ℕ) (ps : List Pid) → e.event ≡ Event.Leave s g ps → (l : ℕ)
       → IsLinkNow k l (is_open l h.entries)
       (waiting h l ++ if_told h l s (Message.Leave s)
       (map (row g) (listing pid_cmp (λ p. min (mentions p ps) (own h s g p)) ps))) (is_kept h l)
-  left_links s g ps is l =
-      told_links (Event.Leave s g ps) is refl
-      (λ j. if_told h j s (Message.Leave s)
-      (map (row g) (listing pid_cmp (λ p. min (mentions p ps) (own h s g p)) ps))) (λ r j. refl) l
+  left_links s g ps is l = grind (arith, told_links)
 
   -- the same links are kept after all of these
   pub told_numbers : is_told e.event ≡ true → ((l : ℕ) → is_kept k l ≡ is_kept h l)
@@ -96,7 +85,7 @@ module _ (h : History) (e : Entry) (made : IsStep h e) (yes : is_accepted e.verd
   module _ (legal : IsPlayed h) where
     none_yet : waiting h e.number ≡ []
     none_yet =
-        unopened_waiting h.opening h.entries legal e.number (fresh h.opening h.entries legal e made)
+        unopened_waiting _ _ legal e.number (fresh _ _ legal e made)
 
     pub opened_waiting : (c : ℕ) → e.event ≡ Event.Opened c → waiting k e.number ≡ []
     opened_waiting c is = grind (arith, none_yet)

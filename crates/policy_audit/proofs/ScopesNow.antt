@@ -1,10 +1,9 @@
 -- Which scopes run, after each start and each stop.
 use Rattle.policy_audit.proofs
 use proofs.Words.{ap, arith, ascending, ascending_rises, ascending_stands, Bool, Entry, Event}
-use proofs.Words.{events, exact_bytes, filter, flat_map, History, is_accepted, is_among, is_running}
-use proofs.Words.{just, List, not, placed, refl, Rises, running_scopes, same, same_decides}
-use proofs.Words.{same_rising, same_sym, scopes_started, sym, text_cmp, texts_total, true, ℕ, []}
-use proofs.Words.{◌&&◌, ◌||◌, ◌∙◌, ◌∷◌, ◌≡◌}
+use proofs.Words.{exact_bytes, filter, History, is_accepted, is_among, is_running, just, List, not}
+use proofs.Words.{placed, refl, Rises, running_scopes, same, same_decides, same_rising, same_sym}
+use proofs.Words.{sym, text_cmp, texts_total, true, ℕ, [], ◌&&◌, ◌||◌, ◌∙◌, ◌∷◌, ◌≡◌}
 use proofs.Lists.{filter_rises}
 use proofs.ChangeLemmas.{was_started}
 
@@ -36,20 +35,10 @@ among_left test s (x ∷ xs) = grind (arith, among_left test s xs, same_decides 
 -- ---- the scopes that run
 
 pub running_rises : (h : History) → Rises text_cmp (running_scopes h)
-running_rises h =
-    filter_rises text_cmp (is_running h)
-    (ascending text_cmp (flat_map scopes_started (events h.entries)))
-    (rising (flat_map scopes_started (events h.entries)))
+running_rises h = grind (arith, filter_rises, rising)
 
 pub running_among : (h : History) (s : List ℕ) → is_among s (running_scopes h) ≡ is_running h s
-running_among h s =
-    let all : List (List ℕ) = flat_map scopes_started (events h.entries) in
-    grind (
-      arith,
-      among_left (is_running h) s (ascending text_cmp all),
-      rising_stands s all,
-      was_started s (events h.entries),
-    )
+running_among h s = grind (arith, among_left, rising_stands, was_started)
 
 module _ (h : History) (e : Entry) (yes : is_accepted e.verdict ≡ true) (s : List ℕ) where
   -- whether a scope runs, after a start or a stop of s
@@ -73,10 +62,12 @@ module _ (h : History) (e : Entry) (yes : is_accepted e.verdict ≡ true) (s : L
 
   pub running_stopped : e.event ≡ Event.StopScope s
       → running_scopes (just h e) ≡ filter (λ t. not (same t s)) (running_scopes h)
-  running_stopped is =
-      one_rising (running_scopes (just h e)) (filter (λ t. not (same t s)) (running_scopes h))
-      (running_rises (just h e))
-      (filter_rises text_cmp (λ t. not (same t s)) (running_scopes h) (running_rises h)) (λ t.
-      running_among (just h e) t ∙ runs_stopped is t
-      ∙ ap (λ b. b && not (same t s)) (sym (running_among h t))
-      ∙ sym (among_left (λ u. not (same u s)) t (running_scopes h)))
+  running_stopped is = grind (
+    arith,
+    one_rising,
+    running_rises,
+    filter_rises,
+    running_among,
+    runs_stopped,
+    among_left,
+  )

@@ -1,15 +1,15 @@
 -- How few frames wait in a history that the policy makes, and which entries have no losses there.
 use Rattle.policy_audit.proofs
-use proofs.Words.{Accepted, ap, append-nil, arith, asks, AwaitAck, AwaitAnswer, AwaitChallenge}
-use proofs.Words.{Awaited, AwaitMessage, AwaitName, AwaitReply, awaits, AwaitStatus, Bool, checks}
-use proofs.Words.{cond, discovers, Entry, eqb-true, Event, false, filter, frame_owes, frame_taken}
-use proofs.Words.{History, is_accepted, is_open, is_slow, is_whole, IsLegal, IsPlayed, IsPlayedIn}
-use proofs.Words.{IsStep, just, length, length-append, links, List, lose, ltb-true, map}
-use proofs.Words.{max_waiting, may_tell, Message2, message_owes, nat_lt, None, not, opened, Opening}
-use proofs.Words.{Option, option_map_or, past, placed, refl, Refused, running_scopes, same}
-use proofs.Words.{slow_links, Some, subst, sym, text_cmp, true, Verdict, waiting, waiting_in}
-use proofs.Words.{with_entry, ℕ, [], ◌&&◌, ◌++◌, ◌+◌, ◌==◌, ◌∙◌, ◌∷◌, ◌≡◌, ◌≤◌}
-use proofs.Accepted.{accepted, all_hold, lie, unbroken}
+use proofs.Words.{Accepted, ap, append-nil, arith, asks, Awaited, awaits, Bool, checks, cond}
+use proofs.Words.{discovers, Entry, eqb-true, Event, false, filter, frame_owes, History}
+use proofs.Words.{is_accepted, is_slow, is_whole, IsLegal, IsPlayed, IsPlayedIn, IsStep}
+use proofs.Words.{just, length, length-append, links, List, lose, ltb-true, max_waiting, may_tell}
+use proofs.Words.{Message2, message_owes, nat_lt, None, not, opened, Opening, Option, option_map_or}
+use proofs.Words.{OutFrame, past, placed, refl, running_scopes, same, slow_links, Some, subst, sym}
+use proofs.Words.{text_cmp, true, Verdict, waiting, waiting_in, whole, with_entry, ℕ, []}
+use proofs.Words.{◌++◌, ◌+◌, ◌==◌, ◌∷◌, ◌≡◌, ◌≤◌}
+use Rattle.std.proofs.lemmas.List.{length-map}
+use proofs.Accepted.{accepted, all_hold, unbroken}
 use proofs.Walked.{but, fresh}
 use proofs.Finished.{is_message}
 use proofs.KeptLinks.{unopened_waiting}
@@ -22,11 +22,7 @@ use proofs.Early.{closed_few, early, own_open}
 
 -- at most so many for any link
 pub all_few : (h : History) → IsLegal h → (l : ℕ) → length (waiting h l) ≤ max_waiting
-all_few h legal l = by (is_open l h.entries) refl
-  where
-    by : (b : Bool) → is_open l h.entries ≡ b → length (waiting h l) ≤ max_waiting
-    by true opens = few_wait h legal l opens
-    by false opens = (let few = closed_few h (legal_played h legal) l opens in omega (arith, few))
+all_few h legal l = grind (arith, few_wait, closed_few, legal_played)
 
 -- ---- how many scopes run
 
@@ -46,7 +42,6 @@ module _ (o : Opening) where
   scopes_next : (es : List Entry) (e : Entry) (ev : Event) (v : Verdict)
       → IsStep (past o es) (but e ev v)
       → length (run es) ≤ 64 → length (run (but e ev v ∷ es)) ≤ 64
-  scopes_next es e Event.Restart (Accepted r) made few = grind arith
   scopes_next es e (Event.StartScope s) (Accepted r) made few =
       let x : Entry = but e (Event.StartScope s) (Accepted r) in
       let holds =
@@ -61,8 +56,7 @@ module _ (o : Opening) where
       let fewer = left_few (λ t. not (same t s)) (run es) in
       subst (λ xs. length xs ≤ 64) (sym (running_stopped (past o es) x refl s refl))
       (omega (arith, fewer, few))
-  scopes_next es e ev (Accepted r) made few = few
-  scopes_next es e ev (Refused r) made few = few
+  scopes_next es e ev v made few = grind arith
 
   scopes_few : (es : List Entry) → IsPlayedIn o es → length (run es) ≤ 64
   scopes_few [] legal = grind arith
@@ -70,24 +64,14 @@ module _ (o : Opening) where
 
 -- ---- what a frame is owed
 
-each_one : {A B : Type 0} (f : A → B) (xs : List A) → length (map f xs) ≡ length xs
-each_one f [] = refl
-each_one f (x ∷ xs) = grind (arith, each_one f xs)
-
 module _ (h : History) (l : ℕ) (body : List ℕ) where
   discovers_few : length (running_scopes h) ≤ 64 → length (discovers h l) ≤ 64
-  discovers_few few = grind (arith, few, each_one)
+  discovers_few few = grind (arith, few, length-map {A = List ℕ} {B = OutFrame})
 
   -- of the handshake: an Ack and a Discover for each scope, at most
   handshake_owes : (a : Awaited) → is_message a ≡ false → length (discovers h l) ≤ 64
       → length (frame_owes h l body a) ≤ 65
-  handshake_owes AwaitName q few = grind arith
-  handshake_owes AwaitAnswer q few = grind arith
-  handshake_owes AwaitReply q few = grind (arith, few)
-  handshake_owes AwaitStatus q few = grind arith
-  handshake_owes AwaitChallenge q few = grind arith
-  handshake_owes AwaitAck q few = grind (arith, few)
-  handshake_owes AwaitMessage q few = lie q
+  handshake_owes a q few = grind (arith, few)
 
   -- a message other than a Discover: nothing
   unasked_owes : (x : Option Message2) → asks x ≡ false → option_map_or (message_owes h l) x [] ≡ []
@@ -124,8 +108,8 @@ module _ (h : History) (legal : IsLegal h) (e : Entry) (made : IsStep h e)
 
   new : (l : ℕ) → (e.number == l) ≡ true → waiting_in h.opening l es ≡ []
   new l m =
-      unopened_waiting h.opening es played l
-      (subst (λ x. opened x es ≡ None) (eqb-true e.number l m) (fresh h.opening es played e made))
+      unopened_waiting _ _ played l
+      (subst (λ x. opened x es ≡ None) (eqb-true _ l m) (fresh _ _ played e made))
 
   -- a frame of link l leaves it with few
   module _ (l : ℕ) (body : List ℕ) (is : e.event ≡ Event.Frame l body)
@@ -133,37 +117,32 @@ module _ (h : History) (legal : IsLegal h) (e : Entry) (made : IsStep h e)
     owes_by : (w : Bool) → is_whole l es ≡ w
         → length (waiting h l ++ frame_owes h l body (awaits l es)) ≤ max_waiting
     owes_by true whole =
-        let waits = few_wait h legal l (frame_open h e made accepts l body is) in
-        let awaited = (whole_is_message l es (frame_open h e made accepts l body is)).0 whole in
-        let none =
-        unasked_owes h l body (frame_taken h.opening l es body)
-        (sym (ap (λ b. b && asks (frame_taken h.opening l es body)) whole) ∙ q) in
-        subst (λ fs. length (waiting h l ++ fs) ≤ max_waiting)
-        (sym (ap (frame_owes h l body) awaited ∙ none)) (rw append-nil waits)
-    owes_by false whole =
-        let waits = early h played l whole in
-        let owes =
-        handshake_owes h l body (awaits l es)
-        (unwhole_awaits l es (frame_open h e made accepts l body is) whole)
-        (discovers_few h l body (scopes_few h.opening es played)) in
-        rw length-append (omega (arith, waits, owes))
+        grind (arith, few_wait, frame_open, whole_is_message, unasked_owes, append-nil)
+    owes_by false whole = grind (
+      arith,
+      early,
+      played,
+      handshake_owes,
+      unwhole_awaits,
+      frame_open,
+      discovers_few,
+      scopes_few,
+      length-append,
+    )
 
     own_still : is_slow h.opening (e ∷ es) l ≡ false
-    own_still =
-        let waits = (own_open h.opening l es played e accepts body is).0 in
-        let enough =
-        few_enough (length (waiting h l ++ frame_owes h l body (awaits l es)))
-        (owes_by (is_whole l es) refl) in
-        grind (arith, waits, enough)
+    own_still = grind (
+      arith,
+      own_open h.opening l es played e accepts body is,
+      owes_by (is_whole l es) refl,
+      played,
+      few_enough,
+    )
 
   framed : (k : ℕ) (body : List ℕ) → e.event ≡ Event.Frame k body
       → may_tell h.opening es (Event.Frame k body) ≡ false
       → (l : ℕ) → (b : Bool) → (k == l) ≡ b → is_slow h.opening (e ∷ es) l ≡ false
-  framed k body is q l true m =
-      let one : k ≡ l = eqb-true k l m in
-      own_still l body (is
-      ∙ ap (λ j. Event.Frame j body) one)
-      (subst (λ j. may_tell h.opening es (Event.Frame j body) ≡ false) one q)
+  framed k body is q l true m = grind (arith, eqb-true, own_still)
   framed k body is q l false m = still h e l k body accepts is m (few l)
 
   -- an event that owes no message to a link that was up makes none slow
@@ -171,18 +150,10 @@ module _ (h : History) (legal : IsLegal h) (e : Entry) (made : IsStep h e)
       → may_tell h.opening es ev ≡ false
       → (l : ℕ)
       → is_slow h.opening (but e ev v ∷ es) l ≡ false
-  still_few ev (Refused r) is says q l = lie (sym accepts ∙ ap is_accepted says)
-  still_few (Event.StartScope s) (Accepted r) is says q l = lie q
-  still_few (Event.StopScope s) (Accepted r) is says q l = lie q
-  still_few (Event.Exit p) (Accepted r) is says q l = lie q
-  still_few (Event.Join s g ps) (Accepted r) is says q l = lie q
-  still_few (Event.Leave s g ps) (Accepted r) is says q l = lie q
   still_few (Event.Frame k body) (Accepted r) is says q l =
       subst (λ (x : Event × Verdict). is_slow h.opening (but e x.0 x.1 ∷ es) l ≡ false)
       (λ i. (is i, says i)) (framed k body is q l (k == l) refl)
-  still_few (Event.Opened c) (Accepted r) is says q l = grind (arith, few l, append-nil, new l)
-  still_few (Event.Dial n c) (Accepted r) is says q l = grind (arith, few l, append-nil, new l)
-  still_few ev (Accepted r) is says q l = grind (arith, few l, append-nil)
+  still_few ev v is says q l = grind (arith, accepts, says, q, few l, append-nil, new l)
 
 -- an entry of such an event has no losses
 pub tells_none : (h : History) → IsLegal h → (e : Entry) → IsStep h e

@@ -6,8 +6,8 @@ use proofs.Words.{is_name_up, is_open, is_opened_by, is_peer, is_some, is_up, is
 use proofs.Words.{IsPlayedIn, links, List, list_any, Moment, name_frame, name_up, name_up_at}
 use proofs.Words.{named_by, None, not, Opened, opened, Opening, Option, option_map_or, peer_of}
 use proofs.Words.{present, present_link, refl, Refused, same, same_decides, share_peer, Some, Stage}
-use proofs.Words.{stages, start_of, started_where, sym, Taken, taken, true, Verdict, was_up}
-use proofs.Words.{was_up_after, ℕ, [], ◌&&◌, ◌==◌, ◌||◌, ◌∙◌, ◌∷◌, ◌≡◌}
+use proofs.Words.{stages, start_of, started_where, sym, Taken, taken, true, Verdict}
+use proofs.Words.{was_up, was_up_after, ℕ, [], ◌==◌, ◌∙◌, ◌∷◌, ◌≡◌, ◌&&◌, ◌||◌}
 use proofs.Accepted.{lie}
 use proofs.Walked.{but}
 use proofs.UpLinks.{agrees, and_both}
@@ -49,18 +49,18 @@ names_now o es legal n = by (present_link n es) refl
     by : (x : Option ℕ) → present_link n es ≡ x → name_up_at (now es) n es ≡ is_some x
     by None s = none_pass (λ k. is_up k es && is_peer n k es)
         (λ k q. lie (sym
-        (ap is_some ((agrees o es legal n k).1 (
-          (and_parts (is_up k es) (is_peer n k es) q).0,
-          up_of k (and_parts (is_up k es) (is_peer n k es) q).1 (peer_of k es) refl,
+        (ap is_some ((agrees o _ legal n k).1 (
+          (and_parts _ _ q).0,
+          up_of k (and_parts _ _ q).1 (peer_of k es) refl,
         )))
         ∙ ap is_some s)) (links es)
     by (Some k) s =
-        let found = (agrees o es legal n k).0 s in
+        let found = (agrees o _ legal n k).0 s in
         let its : is_peer n k es ≡ true = ap (λ y. option_map_or (λ m. same m n) y false) found.1
         ∙ (same_decides n n).1 refl in
         passes (λ j. is_up j es && is_peer n j es) k
-        (and_both (is_up k es) (is_peer n k es) found.0 its) (present es)
-        (whole_opened k es (and_parts (is_open k es) (is_whole k es) found.0).1)
+        (and_both _ _ found.0 its) (present es)
+        (whole_opened k es (and_parts _ _ found.0).1)
 
 -- ---- all stages
 

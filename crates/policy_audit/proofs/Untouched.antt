@@ -1,10 +1,10 @@
 -- A refused entry leaves all as it was.
 use Rattle.policy_audit.proofs
-use proofs.Words.{Accepted, ap, append-nil, arith, cond, Entry, Event, false, flat_map, frame_of}
-use proofs.Words.{group_updates, GroupChange, groups_in, History, is_accepted, is_watched, IsAsOpen}
-use proofs.Words.{IsChange, IsNext, IsUntouched, just, List, listed, monitor, None, option_map_or}
-use proofs.Words.{refl, Refused, Rule, sym, Target, updates_since, Verdict, with_entry, ℕ, [], ◌++◌}
-use proofs.Words.{◌∙◌, ◌≡◌}
+use proofs.Words.{Accepted, ap, append-nil, arith, Entry, Event, false, frame_of}
+use proofs.Words.{groups_in, History, is_accepted, IsAsOpen, IsChange, IsNext, IsUntouched}
+use proofs.Words.{just, List, listed, monitor, None, option_map_or}
+use proofs.Words.{refl, Refused, Rule, sym, Target, updates_since, Verdict}
+use proofs.Words.{with_entry, ℕ, [], ◌≡◌}
 use proofs.Accepted.{lie}
 use proofs.Walked.{but}
 use proofs.Effects.{rows_left}
@@ -25,10 +25,7 @@ module _ (h : History) (e : Entry) (r : Rule) where
 
   nothing_told : (ev : Event) → IsChange h (kk ev) e.change → (seat n : ℕ) (t : Target)
       → updates_since seat n t (kk ev).entries ≡ updates_since seat n t h.entries
-  nothing_told ev c seat n t =
-      ap (λ (cs : List GroupChange). updates_since seat n t h.entries
-      ++ flat_map (λ d. cond (is_watched t.group d) (group_updates d) []) cs)
-      (none_moved ev c t.scope) ∙ append-nil (updates_since seat n t h.entries)
+  nothing_told ev c seat n t = grind (arith, none_moved ev c t.scope, append-nil)
 
   refused_leaves : (ev : Event) → IsChange h (kk ev) e.change → IsUntouched h (kk ev)
   refused_leaves ev c = record {
@@ -41,18 +38,7 @@ module _ (h : History) (e : Entry) (r : Rule) where
     living = refl;
     lives = λ p. refl;
     links = refl;
-    same_link =
-        λ l. record {
-          opened = refl;
-          taken = refl;
-          given = refl;
-          peer = refl;
-          awaits = refl;
-          whole =
-              refl;
-          talk = λ o. refl;
-          begun = λ o. refl;
-        };
+    same_link = λ l. grind arith;
     up = λ l. grind arith;
     present = λ n. refl;
     heard = λ l s. grind arith;

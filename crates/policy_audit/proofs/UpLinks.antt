@@ -1,9 +1,9 @@
 -- The present link of a peer is the one link of it that is up.
 use Rattle.policy_audit.proofs
-use proofs.Words.{Accepted, ap, arith, awaits, Bool, ByDial, ByPeer, cond, Entry, eq-eqb, eqb-true}
-use proofs.Words.{Event, false, frame_ends, gives_up, is_last, is_open, is_peer, is_up, is_visible}
-use proofs.Words.{is_whole, IsPlayedIn, judgement, List, None, not, Opened, opened, Opening, Option}
-use proofs.Words.{option_map_or, past, peer_of, present_link, refl, Refused, Reply, same}
+use proofs.Words.{Accepted, ap, arith, awaits, Bool, ByDial, ByPeer, cond, Entry, eq-eqb}
+use proofs.Words.{eqb-true, Event, false, frame_ends, gives_up, is_last, is_open, is_peer, is_up}
+use proofs.Words.{is_visible, is_whole, IsPlayedIn, judgement, List, None, not, Opened}
+use proofs.Words.{opened, Opening, Option, past, peer_of, present_link, refl, Refused, Reply}
 use proofs.Words.{same_decides, same_sym, Some, Start, subst, sym, Taken, taken, true, unwrap_or}
 use proofs.Words.{up_answer, Verdict, ℕ, [], ◌&&◌, ◌==◌, ◌||◌, ◌↔◌, ◌∙◌, ◌∷◌, ◌≡◌}
 use proofs.Accepted.{accepted, lie, no_value, peer_by}
@@ -26,10 +26,6 @@ value_of x y q = ap (λ o. unwrap_or o []) q
 
 pub number_of : (x y : ℕ) → Some x ≡ Some y → x ≡ y
 number_of x y q = ap (λ o. unwrap_or o 0) q
-
--- a link that ends or not, is open or not, is whole or not
-pub was_before : (e o p : Bool) → ((not e && o) && p) ≡ true → (o && p) ≡ true
-was_before e o p q = grind arith
 
 -- ---- the law
 
@@ -55,8 +51,7 @@ module _ (es : List Entry) (n : List ℕ) where
       → ((l : ℕ) → present_link n es ≡ Some l → peer_of l es ≡ Some n → is_whole l es ≡ true
       → ended l ≡ gone)
       → Agrees es n → Agrees (x ∷ es) n
-  fewer x ended gone a b c both p l =
-      (λ q. grind (arith, a, b l, c l, both l, p l), λ w. grind (arith, a, b l, c l, both l, p l))
+  fewer x ended gone a b c both p l = grind (arith, b, c, both)
 
 -- a refused frame ends no link that is up
 pub refused_up : (es : List Entry) (k l : ℕ)
@@ -72,13 +67,7 @@ module _ (o : Opening) (es : List Entry) (legal : IsPlayedIn o es) (n : List ℕ
 
   pub none_taken : (l : ℕ) → (e.number == l) ≡ true → taken l es ≡ []
   none_taken l q =
-      subst (λ x. (elim x as (λ _. Type 0) [ None ↦ taken l es ≡ [] | Some y ↦ Unit {0} ]))
-      (none_opened l q) (weaken (opened l es) (far o es legal l))
-    where
-      weaken : (x : Option Opened) → Far o x (taken l es)
-          → elim x as (λ _. Type 0) [ None ↦ taken l es ≡ [] | Some y ↦ Unit {0} ]
-      weaken None p = p
-      weaken (Some y) p = tt
+      subst (λ x. Far o x (taken l es)) (none_opened l q) (far o es legal l)
 
   abbrev pub with_start : ℕ → Start → Bool → Option Opened
   with_start l s b =
@@ -136,29 +125,7 @@ module _ (o : Opening) (es : List Entry) (legal : IsPlayedIn o es) (n : List ℕ
         other l u = grind (arith, c.was_whole, eqb-true k l)
 
         last_frame : Agrees es n → Agrees (fr (up_reply c) ∷ es) n
-        last_frame p l = (
-          λ q. grind (
-            arith,
-            other l,
-            ends_by l,
-            c.is_whole,
-            c.is_of,
-            same_decides c.peer n,
-            same_sym n c.peer,
-            p l,
-            eq-eqb k k,
-          ),
-          λ w. grind (
-            arith,
-            other l,
-            ends_by l,
-            c.is_of,
-            same_decides c.peer n,
-            same_sym n c.peer,
-            p l,
-            eqb-true k l,
-          ),
-        )
+        last_frame p l = grind (arith, other, ends_by, same_decides, same_sym, eq-eqb, eqb-true)
 
     -- an accepted frame
     frame_step : (r : Reply) → is_open k es ≡ true
@@ -170,31 +137,20 @@ module _ (o : Opening) (es : List Entry) (legal : IsPlayedIn o es) (n : List ℕ
         by_last true s = (let c = done_now opens s in
             subst (λ x. Agrees (fr x ∷ es) n) (sym (q ∙ answered opens s c))
             (last_frame opens s c p))
-        by_last false s =
-            subst (λ x. Agrees (fr x ∷ es) n)
-            (sym (q ∙ ap (λ b. cond b (up_answer (past o es) k) Reply.Done) s)) (not_last s p)
+        by_last false s = grind (arith, not_last)
 
   -- ---- each event
 
   lost_step : (j : ℕ) (r : Reply) → Agrees es n → Agrees (but e (Event.Lost j) (Accepted r) ∷ es) n
-  lost_step j r p =
-      fewer es n (but e (Event.Lost j) (Accepted r)) (λ l. j == l)
-      (option_map_or (λ k. k == j) (present_link n es) false) refl (λ l. refl) (λ l. refl)
-      (λ l q of whole. flip j l ∙ sym (ap (λ x. option_map_or (λ k. k == j) x false) q)) p
+  lost_step j r p = grind (arith, fewer, flip)
 
   disconnect_step : (m : List ℕ) (r : Reply) → Agrees es n
       → Agrees (but e (Event.Disconnect m) (Accepted r) ∷ es) n
-  disconnect_step m r p =
-      fewer es n (but e (Event.Disconnect m) (Accepted r)) (λ l. is_whole l es && is_peer m l es)
-      (same m n) refl (λ l. refl) (λ l. refl)
-      (λ l q of whole. ap (λ b. b && is_peer m l es) whole
-      ∙ ap (λ x. option_map_or (λ y. same y m) x false) of ∙ same_sym n m) p
+  disconnect_step m r p = grind (arith, fewer, same_sym)
 
   pub step : (ev : Event) (v : Verdict) → v ≡ judgement (past o es) e.seat ev → Agrees es n
       → Agrees (but e ev v ∷ es) n
-  step (Event.Frame k body) (Refused r) q p =
-      unchanged es n (but e (Event.Frame k body) (Refused r)) refl (λ l. refused_up es k l)
-      (λ l u. refl) p
+  step (Event.Frame k body) (Refused r) q p = grind (arith, unchanged, refused_up)
   step ev (Refused r) q p = unchanged es n (but e ev (Refused r)) refl (λ l. refl) (λ l u. refl) p
   step (Event.Frame k body) (Accepted r) q p =
       let met = accepted (past o es) e.seat (Event.Frame k body) r q in

@@ -1,14 +1,14 @@
 -- How far the handshake of a link is, in a history that the policy makes.
 use Rattle.policy_audit.proofs
-use proofs.Words.{Accepted, ack_frame, AckFrame, allowed, and_frame, and_parts, ap, arith}
-use proofs.Words.{awaited_in, AwaitMessage, awaits, Bool, ByDial, ByPeer, bytes_eq, Challenge}
-use proofs.Words.{challenge_frame, checks, cond, cookie, dial_checks, digest_of, ends, entered}
-use proofs.Words.{Entry, eqb-true, Event, false, first_broken, frame_checks, get_or, goes_on}
-use proofs.Words.{History, is_open, is_some, IsNumbered, IsPlayedIn, IsStep, judgement, length}
-use proofs.Words.{List, Name, name_frame, next_number, None, not, Opened, opened, Opening, Option}
-use proofs.Words.{option_and_then, option_map_or, past, refl, Refused, reply_frame, ReplyFrame}
-use proofs.Words.{same, Some, Start, start_of, status_of, StatusWord, subst, sym, Taken, taken}
-use proofs.Words.{true, Verdict, was_up, whole_side, ℕ, [], ◌++◌, ◌+◌, ◌<◌, ◌==◌, ◌∷◌, ◌≡◌}
+use proofs.Words.{Accepted, ack_frame, AckFrame, allowed, and_frame, arith, awaited_in}
+use proofs.Words.{AwaitMessage, awaits, Bool, ByDial, ByPeer, bytes_eq, Challenge, challenge_frame}
+use proofs.Words.{checks, cond, cookie, dial_checks, digest_of, entered, Entry}
+use proofs.Words.{eqb-true, Event, false, first_broken, get_or, goes_on, History, is_open, is_some}
+use proofs.Words.{IsNumbered, IsPlayedIn, IsStep, judgement, length, List, Name, name_frame}
+use proofs.Words.{next_number, None, Opened, opened, Opening, Option, option_and_then}
+use proofs.Words.{option_map_or, past, refl, reply_frame, ReplyFrame, same, Some, Start, start_of}
+use proofs.Words.{status_of, StatusWord, sym, Taken, taken, true, Verdict, was_up}
+use proofs.Words.{whole_side, ℕ, [], ◌++◌, ◌<◌, ◌==◌, ◌∷◌, ◌≡◌}
 use proofs.Accepted.{accepted, all_hold, Fits, fits, lie, open_first, unbroken}
 
 -- an entry with another event and verdict
@@ -63,6 +63,10 @@ abbrev pub Far : Opening → Option Opened → List Taken → Type 0
 Far o None ts = ts ≡ []
 Far o (Some x) ts = Walk o x.before x.start ts
 
+-- flags, creation, name and version in a Challenge
+abbrev pub hello_of : Challenge → Name
+hello_of f = record { flags = f.flags; creation = f.creation; name = f.name; version = f.version }
+
 -- how far link l is
 abbrev pub FarIn : Opening → ℕ → List Entry → Type 0
 FarIn o l es = Far o (opened l es) (taken l es)
@@ -106,101 +110,55 @@ module _ (o : Opening) (es : List Entry) (legal : IsPlayedIn o es) (body : List 
 
 -- ---- along a history
 
--- a link whose number no entry has yet
-pub unborn : (o : Opening) (es : List Entry) → IsPlayedIn o es → (l : ℕ) → entered es < l
+-- a link whose number no entry has yet, or that has the number of losses
+unopened : (o : Opening) (es : List Entry) → IsPlayedIn o es → (l : ℕ) → (0 < l → entered es < l)
     → opened l es ≡ None
-unborn o [] legal l below = refl
-unborn o (e ∷ es) legal l below =
-    by_event e.event e.verdict legal.0.number (unborn o es legal.1 l (grind (arith, below)))
+unopened o [] legal l above = refl
+unopened o (e ∷ es) legal l above =
+    by_event e.event e.verdict legal.0.number (unopened o es legal.1 l (λ q. grind (arith, above)))
   where
     by_event : (ev : Event) (v : Verdict) → IsNumbered (past o es) e.number ev → opened l es ≡ None
         → opened l (but e ev v ∷ es) ≡ None
-    by_event (Event.Opened c) (Accepted r) here q = grind (arith, here, below, eqb-true e.number l)
-    by_event (Event.Dial n c) (Accepted r) here q = grind (arith, here, below, eqb-true e.number l)
-    by_event Event.Restart (Accepted r) here q = refl
-    by_event ev (Accepted r) here q = q
-    by_event ev (Refused r) here q = q
+    by_event ev v here q = grind (arith, here, above, eqb-true e.number l)
 
--- no link has the number that losses have
-pub no_zero : (o : Opening) (es : List Entry) → IsPlayedIn o es → opened 0 es ≡ None
-no_zero o [] legal = refl
-no_zero o (e ∷ es) legal = by_event e.event e.verdict legal.0.number (no_zero o es legal.1)
-  where
-    by_event : (ev : Event) (v : Verdict) → IsNumbered (past o es) e.number ev → opened 0 es ≡ None
-        → opened 0 (but e ev v ∷ es) ≡ None
-    by_event (Event.Opened c) (Accepted r) here q = grind (arith, here, eqb-true e.number 0)
-    by_event (Event.Dial n c) (Accepted r) here q = grind (arith, here, eqb-true e.number 0)
-    by_event Event.Restart (Accepted r) here q = refl
-    by_event ev (Accepted r) here q = q
-    by_event ev (Refused r) here q = q
+pub unborn : (o : Opening) (es : List Entry) → IsPlayedIn o es → (l : ℕ) → entered es < l
+    → opened l es ≡ None
+unborn o es legal l above = unopened o es legal l (λ q. above)
 
 -- no link has the number of the next step
 pub fresh : (o : Opening) (es : List Entry) → IsPlayedIn o es → (e : Entry) → IsStep (past o es) e
     → opened e.number es ≡ None
-fresh o es legal e made = by_event e.event made.number
-  where
-    next : e.number ≡ entered es + 1 → opened e.number es ≡ None
-    next here = unborn o es legal e.number (omega (arith, here))
-
-    by_number : (b : Bool) → (e.number == 0) ≡ b
-        → ((e.number == 0) ≡ false → e.number ≡ entered es + 1) → opened e.number es ≡ None
-    by_number true q here =
-        subst (λ x. opened x es ≡ None) (sym (eqb-true e.number 0 q)) (no_zero o es legal)
-    by_number false q here = next (here q)
-
-    by_event : (ev : Event) → IsNumbered (past o es) e.number ev → opened e.number es ≡ None
-    by_event (Event.Lost l) here = by_number (e.number == 0) refl here
-    by_event ev here = next here
+fresh o es legal e made = grind (arith, unopened, eqb-true)
 
 -- what opens a link has the next number
 pub opens_number : (h : History) (e : Entry) → IsStep h e → (st : Start)
     → start_of e.event ≡ Some st → e.number ≡ next_number h
-opens_number h e made st begins = by e.event made.number begins
-  where
-    by : (ev : Event) → IsNumbered h e.number ev → start_of ev ≡ Some st → e.number ≡ next_number h
-    by (Event.Lost l) here q = lie (sym (ap is_some q))
-    by ev here q = here
+opens_number h e made st begins = grind arith
 
 -- an open link was opened
 pub open_opened : (l : ℕ) (es : List Entry) → is_open l es ≡ true → is_some (opened l es) ≡ true
 open_opened l [] q = lie (sym q)
-open_opened l (e ∷ es) q = by_event e.event e.verdict (open_opened l es) q
-  where
-    by_event : (ev : Event) (v : Verdict) → (is_open l es ≡ true → is_some (opened l es) ≡ true)
-        → is_open l (but e ev v ∷ es) ≡ true → is_some (opened l (but e ev v ∷ es)) ≡ true
-    by_event (Event.Opened c) (Accepted r) so_far q = grind arith
-    by_event (Event.Dial n c) (Accepted r) so_far q = grind arith
-    by_event Event.Restart (Accepted r) so_far q = lie (sym q)
-    by_event ev (Accepted r) so_far q =
-        so_far (and_parts (not (ends l es (Accepted r) ev)) (is_open l es) q).1
-    by_event ev (Refused r) so_far q =
-        so_far (and_parts (not (ends l es (Refused r) ev)) (is_open l es) q).1
+open_opened l (e ∷ es) q = grind (arith, open_opened l es)
 
 -- an accepted frame of link k: k is open, and the frame is of the kind that it awaits
 pub frame_fits : (o : Opening) (es : List Entry) (seat k : ℕ) (body : List ℕ)
     → first_broken (checks (past o es) seat (Event.Frame k body)) ≡ None
     → (is_open k es ≡ true) × Fits (past o es) (opened k es) (taken k es) body (awaits k es)
-frame_fits o es seat k body q =
-    let found = open_first (is_open k es) (frame_checks (past o es) k body (awaits k es)) q in
-    (found.0, fits (past o es) k body (awaits k es) found.1)
+frame_fits o es seat k body q = grind (arith, open_first, fits)
 
 pub far : (o : Opening) (es : List Entry) → IsPlayedIn o es → (l : ℕ) → FarIn o l es
 far o [] legal l = refl
 far o (e ∷ es) legal l = by_event e.event e.verdict legal.0.judged (far o es legal.1 l)
   where
     new : (e.number == l) ≡ true → opened l es ≡ None
-    new q = subst (λ x. opened x es ≡ None) (eqb-true e.number l q) (fresh o es legal.1 e legal.0)
+    new q = grind (arith, eqb-true, fresh)
 
     by_frame : (k : ℕ) (body : List ℕ)
         → first_broken (checks (past o es) e.seat (Event.Frame k body)) ≡ None → FarIn o l es
         → (b : Bool) → (k == l) ≡ b
         → Far o (opened l es)
         (and_frame (taken l es) (cond b (Some (record { body = body; before = es })) None))
-    by_frame k body q p true same_link =
-        let met = subst (λ x. (is_open x es ≡ true)
-        × Fits (past o es) (opened x es) (taken x es) body (awaits x es))
-        (eqb-true k l same_link) (frame_fits o es e.seat k body q) in
-        farther o es legal.1 body (opened l es) (taken l es) (open_opened l es met.0) p met.1
+    by_frame k body q p true same_link = grind (arith, eqb-true, frame_fits, farther, open_opened)
     by_frame k body q p false same_link = p
 
     by_event : (ev : Event) (v : Verdict) → v ≡ judgement (past o es) e.seat ev → FarIn o l es
@@ -212,7 +170,4 @@ far o (e ∷ es) legal l = by_event e.event e.verdict legal.0.judged (far o es l
         grind (arith, p, may, new)
     by_event (Event.Frame k body) (Accepted r) q p =
         by_frame k body (accepted (past o es) e.seat (Event.Frame k body) r q).0 p (k == l) refl
-    by_event (Event.Opened c) (Accepted r) _ p = grind (arith, p, new)
-    by_event Event.Restart (Accepted r) q p = refl
-    by_event ev (Accepted r) q p = p
-    by_event ev (Refused r) q p = p
+    by_event ev v _ p = grind (arith, p, new)

@@ -1,15 +1,15 @@
 -- A link with a whole side of accepted frames was admitted, and the other way round.
 use Rattle.policy_audit.proofs
-use proofs.Words.{and_parts, ap, Bool, ByDial, ByPeer, bytes_eq, bytes_eq-Decides, Challenge}
-use proofs.Words.{cookie, digest_of, Entry, false, given, given_in, has_bit, History, is_name_up}
-use proofs.Words.{is_open, is_some, is_up, is_visible, is_whole, IsAdmitted, IsLetIn, IsPlayed}
-use proofs.Words.{IsPlayedIn, IsReached, IsTrue, IsTrueStatus, length, LetIn, List, MatchBool, Name}
-use proofs.Words.{name_frame, name_up, nat_le, None, not, Opened, opened, Opening, Option}
-use proofs.Words.{option_and_then, option_map_or, past, peer_in, peer_of, present_link, Reached}
-use proofs.Words.{refl, same_decides, Some, Start, subst, sym, Taken, taken, true, was_up, ℕ, []}
-use proofs.Words.{◌&&◌, ◌++◌, ◌↔◌, ◌∙◌, ◌∷◌, ◌≡◌}
+use proofs.Words.{and_parts, ap, arith, Bool, ByDial, ByPeer, bytes_eq, bytes_eq-Decides, Challenge}
+use proofs.Words.{cookie, digest_of, Entry, false, given, given_in, has_bit, History, is_open}
+use proofs.Words.{is_some, is_up, is_visible, IsAdmitted, IsLetIn, IsPlayed, IsPlayedIn, IsReached}
+use proofs.Words.{IsTrue, IsTrueStatus, length, LetIn, List, MatchBool, Name, name_frame, name_up}
+use proofs.Words.{nat_le, None, not, Opened, opened, Opening, Option, option_and_then}
+use proofs.Words.{option_map_or, past, peer_in, peer_of, present_link, Reached, refl, same_decides}
+use proofs.Words.{Some, Start, subst, sym, Taken, taken, true, was_up, ℕ, [], ◌&&◌, ◌++◌, ◌↔◌, ◌∙◌}
+use proofs.Words.{◌∷◌, ◌≡◌}
 use proofs.Accepted.{lie, peer_by}
-use proofs.Walked.{Far, far, Follow, IsNamed, Walk}
+use proofs.Walked.{Far, far, Follow, hello_of, IsNamed, IsReplied, Walk}
 use proofs.Finished.{given_by, three_of, two_of, whole_after, whole_by}
 use proofs.UpLinks.{agrees, and_both}
 use proofs.Staged.{names_up}
@@ -21,29 +21,23 @@ module _ (o : Opening) (l : ℕ) (es : List Entry) where
       (digest_of (option_map_or (cookie (past o r.before))
       (option_and_then (λ g. Some g.name) (name_frame a.body)) []) c) ≡ true
       → digest ≡ digest_of (cookie (past o r.before) f.name) c
-  replied_with c a r f digest named q =
-      (bytes_eq-Decides digest (digest_of (cookie (past o r.before) f.name) c)).0
-      (subst (λ x. bytes_eq digest
-      (digest_of (option_map_or (cookie (past o r.before)) (option_and_then (λ g. Some g.name) x)
-      []) c) ≡ true) named q)
+  replied_with c a r f digest named q = grind (arith, bytes_eq-Decides)
 
   -- whether a link of that name was up, in either reading
   agreed : (a : Taken) (up : Bool) (P Q : Type 0) (n : IsNamed o a) → was_up (a ∷ []) ≡ up
       → MatchBool up P Q → MatchBool (name_up n.0.name a.before) P Q
-  agreed a up P Q n u m =
-      subst (λ b. MatchBool b P Q)
-      (sym (names_up o a.before n.3 n.0.name
-      ∙ sym (ap (λ x. option_map_or {T = Name} {U = Bool} (λ f. is_name_up f.name a.before) x false)
-      n.1) ∙ u)) m
+  agreed a up P Q n u m = grind (arith, names_up)
 
-  whole_let : (c : ℕ) (bo : List Entry) (a : Taken) (ts : List Taken) (up : Bool)
-      → opened l es ≡ Some (record { start = ByPeer c; before = bo }) → taken l es ≡ a ∷ ts
-      → (n : IsNamed o a) → was_up (a ∷ []) ≡ up
-      → Follow o c a up ts → whole_after c up a ts ≡ true → IsLetIn (past o es) l c
-  whole_let c bo a [] false op fr n u p q = lie (sym q)
-  whole_let c bo a (r ∷ ts) false op fr n u p q = record {
+  -- the frames of a link that was let in
+  let_in : (c : ℕ) (bo : List Entry) (a r : Taken) (between ts : List Taken) (up : Bool)
+      → opened l es ≡ Some (record { start = ByPeer c; before = bo })
+      → taken l es ≡ a ∷ (between ++ r ∷ ts) → (n : IsNamed o a)
+      → was_up (a ∷ []) ≡ up → MatchBool up (IsTrueStatus between) (between ≡ [])
+      → IsReplied o c a r
+      → IsLetIn (past o es) l c
+  let_in c bo a r between ts up op fr n u says p = record {
     name = a;
-    between = [];
+    between = between;
     reply = r;
     later = ts;
     peer = n.0;
@@ -52,52 +46,27 @@ module _ (o : Opening) (l : ℕ) (es : List Entry) where
     opened = op;
     frames = fr;
     is_name = n.1;
-    is_confirmed = agreed a false (IsTrueStatus []) ([] ≡ []) n u refl;
+    is_confirmed = agreed a up (IsTrueStatus between) (between ≡ []) n u says;
     is_reply = p.1;
     is_digest = replied_with c a r n.0 p.0.digest n.1 p.2;
     is_allowed = n.2;
   }
-  whole_let c bo a (b ∷ r ∷ ts) true op fr n u p q = record {
-    name = a;
-    between = b ∷ [];
-    reply = r;
-    later = ts;
-    peer = n.0;
-    replied = p.1.0;
-    before = bo;
-    opened = op;
-    frames = fr;
-    is_name = n.1;
-    is_confirmed = agreed a true (IsTrueStatus (b ∷ [])) (b ∷ [] ≡ []) n u (b, refl, p.0);
-    is_reply = p.1.1;
-    is_digest = replied_with c a r n.0 p.1.0.digest n.1 p.1.2;
-    is_allowed = n.2;
-  }
+
+  whole_let : (c : ℕ) (bo : List Entry) (a : Taken) (ts : List Taken) (up : Bool)
+      → opened l es ≡ Some (record { start = ByPeer c; before = bo }) → taken l es ≡ a ∷ ts
+      → (n : IsNamed o a) → was_up (a ∷ []) ≡ up
+      → Follow o c a up ts → whole_after c up a ts ≡ true → IsLetIn (past o es) l c
+  whole_let c bo a [] false op fr n u p q = lie (sym q)
+  whole_let c bo a (r ∷ ts) false op fr n u p q =
+      let_in c bo a r [] ts false op fr n u refl p
+  whole_let c bo a (b ∷ r ∷ ts) true op fr n u p q =
+      let_in c bo a r (b ∷ []) ts true op fr n u (b, refl, p.0) p.1
   whole_let c bo a ts up op fr n u p q = lie (sym q)
 
   whole_reach : (n : List ℕ) (c : ℕ) (bo : List Entry) (ts : List Taken)
       → opened l es ≡ Some (record { start = ByDial n c; before = bo }) → taken l es ≡ ts
       → Walk o bo (ByDial n c) ts → nat_le 3 (length ts) ≡ true → IsReached (past o es) l n c
-  whole_reach n c bo (a ∷ b ∷ r ∷ ts) op fr p q = record {
-    status = a;
-    asked = b;
-    ack = r;
-    later = ts;
-    said = p.1.0.0;
-    hello = p.1.1.0;
-    acked = p.1.2.0;
-    before = bo;
-    opened = op;
-    frames = fr;
-    is_status = p.1.0.1;
-    is_welcome = p.1.0.2;
-    is_challenge = p.1.1.1;
-    is_named = sym ((same_decides n p.1.1.0.name).0 p.1.1.2);
-    is_ack = p.1.2.1;
-    is_digest = (bytes_eq-Decides p.1.2.0.digest (digest_of (cookie (past o r.before) n) c)).0
-        p.1.2.2;
-    is_allowed = p.0;
-  }
+  whole_reach n c bo (a ∷ b ∷ r ∷ ts) op fr p q = grind (arith, same_decides, bytes_eq-Decides)
   whole_reach n c bo ts op fr p q = lie (sym q)
 
   whole_from : (s : Start) (bo : List Entry) (ts : List Taken)
@@ -116,8 +85,8 @@ module _ (o : Opening) (l : ℕ) (es : List Entry) where
 -- a link that is up was admitted
 pub up-admitted : (h : History) → IsPlayed h → (l : ℕ) → IsTrue (is_up l h.entries) → IsAdmitted h l
 up-admitted h legal l up =
-    whole h.opening l h.entries (opened l h.entries) refl (far h.opening h.entries legal l)
-    (and_parts (is_open l h.entries) (is_whole l h.entries) up).1
+    whole h.opening l h.entries (opened l h.entries) refl (far _ _ legal l)
+    (and_parts _ _ up).1
 
 -- ---- and back: an open link that was admitted is up
 
@@ -125,21 +94,7 @@ module _ (o : Opening) (l : ℕ) (es : List Entry) (legal : IsPlayedIn o es) whe
   let_whole : (c : ℕ) (w : IsLetIn (past o es) l c) → IsPlayedIn o w.name.before
       → whole_by (Some (record { start = ByPeer c; before = w.before }))
       (w.name ∷ (w.between ++ w.reply ∷ w.later)) ≡ true
-  let_whole c w past_legal = by (name_up w.peer.name w.name.before) refl w.is_confirmed
-    where
-      up_is : was_up (w.name ∷ []) ≡ name_up w.peer.name w.name.before
-      up_is = ap (λ x. option_map_or {T = Name} {U = Bool} (λ f. is_name_up f.name w.name.before) x
-          false) w.is_name ∙ sym (names_up o w.name.before past_legal w.peer.name)
-
-      by : (b : Bool) → name_up w.peer.name w.name.before ≡ b
-          → MatchBool b (IsTrueStatus w.between) (w.between ≡ [])
-          → whole_after c (was_up (w.name ∷ [])) w.name (w.between ++ w.reply ∷ w.later) ≡ true
-      by true s m = ap (λ u. whole_after c u w.name (w.between ++ w.reply ∷ w.later)) (up_is ∙ s)
-          ∙ ap (λ x. whole_after c true w.name (x ++ w.reply ∷ w.later)) m.1
-          ∙ three_of w.name m.0 w.reply w.later
-      by false s m = ap (λ u. whole_after c u w.name (w.between ++ w.reply ∷ w.later)) (up_is ∙ s)
-          ∙ ap (λ x. whole_after c false w.name (x ++ w.reply ∷ w.later)) m
-          ∙ two_of w.name w.reply w.later
+  let_whole c w past_legal = grind (arith, names_up, three_of, two_of)
 
   is_whole_link : IsAdmitted (past o es) l → whole_by (opened l es) (taken l es) ≡ true
   is_whole_link (LetIn c w) =
@@ -149,15 +104,12 @@ module _ (o : Opening) (l : ℕ) (es : List Entry) (legal : IsPlayedIn o es) whe
       ap (λ x. whole_by x (taken l es)) w.opened
       ∙ ap (λ x. whole_by (Some (record { start = ByPeer c; before = w.before })) x) w.frames
       ∙ let_whole c w seen.0.3
-  is_whole_link (Reached n c w) =
-      ap (λ x. whole_by x (taken l es)) w.opened
-      ∙ ap (λ x. whole_by (Some (record { start = ByDial n c; before = w.before })) x) w.frames
-      ∙ three_of w.status w.asked w.ack w.later
+  is_whole_link (Reached n c w) = grind (arith, three_of)
 
 pub admitted-up : (h : History) → IsPlayed h → (l : ℕ) → IsTrue (is_open l h.entries)
     → IsAdmitted h l → IsTrue (is_up l h.entries)
 admitted-up h legal l opens w =
-    and_both (is_open l h.entries) (is_whole l h.entries) opens
+    and_both _ _ opens
     (is_whole_link h.opening l h.entries legal w)
 
 -- a link is up exactly where it is open and was admitted
@@ -165,7 +117,7 @@ pub up-is-admitted : (h : History) → IsPlayed h → (l : ℕ)
     → IsTrue (is_up l h.entries) ↔ (IsTrue (is_open l h.entries) × IsAdmitted h l)
 up-is-admitted h legal l = (
   λ up. (
-    (and_parts (is_open l h.entries) (is_whole l h.entries) up).0,
+    (and_parts _ _ up).0,
     up-admitted h legal l up,
   ),
   λ w. admitted-up h legal l w.0 w.1,
@@ -176,46 +128,34 @@ pub name-up-is-admitted : (h : History) → IsPlayed h → (n : List ℕ)
     → IsTrue (name_up n h.entries)
     ↔ ((l : ℕ) × IsTrue (is_open l h.entries) × (peer_of l h.entries ≡ Some n) × IsAdmitted h l)
 name-up-is-admitted h legal n = (
-  λ up. by (present_link n h.entries) refl (sym (names_up h.opening h.entries legal n) ∙ up),
+  λ up. by (present_link n h.entries) refl (sym (names_up _ _ legal n) ∙ up),
   λ w. back w.0 w.1 w.2 w.3,
 )
   where
     by : (x : Option ℕ) → present_link n h.entries ≡ x → is_some x ≡ true
         → (l : ℕ) × IsTrue (is_open l h.entries) × (peer_of l h.entries ≡ Some n) × IsAdmitted h l
     by None q s = lie (sym s)
-    by (Some k) q s = (let found = (agrees h.opening h.entries legal n k).0 q in (
+    by (Some k) q s = (let found = (agrees _ _ legal n k).0 q in (
       k,
-      (and_parts (is_open k h.entries) (is_whole k h.entries) found.0).0,
+      (and_parts _ _ found.0).0,
       found.1,
       up-admitted h legal k found.0,
     ))
 
     back : (l : ℕ) → IsTrue (is_open l h.entries) → peer_of l h.entries ≡ Some n → IsAdmitted h l
         → IsTrue (name_up n h.entries)
-    back l opens of w = names_up h.opening h.entries legal n
-        ∙ ap is_some ((agrees h.opening h.entries legal n l).1 (admitted-up h legal l opens w, of))
+    back l opens of w = names_up _ _ legal n
+        ∙ ap is_some ((agrees _ _ legal n l).1 (admitted-up h legal l opens w, of))
 
 -- ---- what the peer of a link that is up gave on it
 
 gave_in : (o : Opening) (bo : List Entry) (s : Start) (ts : List Taken) → Walk o bo s ts
     → whole_by (Some (record { start = s; before = bo })) ts ≡ true
     → (f : Name) × (given_in s ts ≡ Some f) × (peer_in s ts ≡ Some f.name)
-gave_in o bo (ByPeer c) (a ∷ ts) p q =
-    (p.0.0, p.0.1, ap (λ x. option_and_then {T = Name} {U = List ℕ} (λ f. Some f.name) x) p.0.1)
+gave_in o bo (ByPeer c) (a ∷ ts) p q = grind arith
 gave_in o bo (ByDial n c) (a ∷ b ∷ r ∷ ts) p q = (
-  record {
-    flags = p.1.1.0.flags;
-    creation = p.1.1.0.creation;
-    name = p.1.1.0.name;
-    version = p.1.1.0.version;
-  },
-  ap (λ x. option_and_then {T = Challenge} {U =
-      Name} (λ f. Some (record {
-        flags = f.flags;
-        creation = f.creation;
-        name = f.name;
-        version = f.version;
-      })) x) p.1.1.1,
+  hello_of p.1.1.0,
+  ap (λ x. option_and_then {T = Challenge} {U = Name} (λ f. Some (hello_of f)) x) p.1.1.1,
   ap Some ((same_decides n p.1.1.0.name).0 p.1.1.2),
 )
 gave_in o bo s ts p q = lie (sym q)
@@ -230,8 +170,8 @@ pub up-gave : (h : History) → IsPlayed h → (l : ℕ) → IsTrue (is_up l h.e
     × (is_visible h l ≡ (not h.opening.hidden && has_bit 0 f.flags))
 up-gave h legal l up =
     let gave = gave_by h.opening (opened l h.entries) (taken l h.entries)
-    (far h.opening h.entries legal l)
-    (and_parts (is_open l h.entries) (is_whole l h.entries) up).1 in (
+    (far _ _ legal l)
+    (and_parts _ _ up).1 in (
       gave.0,
       gave.1,
       gave.2,

@@ -1,14 +1,14 @@
 -- Which rows an entry may change: no others change.
 use Rattle.policy_audit.proofs
-use proofs.Words.{Accepted, and_parts, ap, arith, awaits, Bool, checks, cond, Entry, eqb-true}
-use proofs.Words.{Event, false, History, is_about_rows, is_from, is_last, is_local, is_open}
+use proofs.Words.{Accepted, and_parts, ap, arith, awaits, Bool, checks, cond, Entry}
+use proofs.Words.{eqb-true, Event, false, History, is_about_rows, is_last, is_local, is_open}
 use proofs.Words.{is_peer, is_replaced, is_running, is_up, is_visible, is_whole, IsPlayedIn, IsStep}
-use proofs.Words.{judgement, just, List, listed, listed_by, may_change, mentions, Message, None}
-use proofs.Words.{not, not-false, not-true, opened, Opening, Option, option_map_or, or_parts, own}
-use proofs.Words.{past, peer_of, Pid, present_link, refl, Refused, Reply, said_at, same}
-use proofs.Words.{same_decides, same_pid, same_sym, Some, stands_in, stated_in, subst, sym, Taken}
-use proofs.Words.{taken, Talk, talk, talk_of, true, up_answer, Verdict, ℕ, [], ◌&&◌, ◌++◌, ◌==◌}
-use proofs.Words.{◌||◌, ◌∙◌, ◌∷◌, ◌≡◌}
+use proofs.Words.{judgement, just, List, listed, listed_by, may_change, mentions, Message}
+use proofs.Words.{None, not, not-false, not-true, opened, Opening, Option, option_map_or}
+use proofs.Words.{or_parts, own, past, peer_of, Pid, present_link, refl, Refused, Reply, said_at}
+use proofs.Words.{same, same_decides, same_pid, same_sym, Some, stands_in, stated_in, subst, sym}
+use proofs.Words.{taken, Taken, Talk, talk, talk_of, true, up_answer, Verdict, ℕ, [], ◌&&◌}
+use proofs.Words.{◌++◌, ◌==◌, ◌||◌, ◌∙◌, ◌∷◌, ◌≡◌}
 use proofs.Accepted.{accepted, all_hold, lie}
 use proofs.Walked.{but, frame_fits, fresh}
 use proofs.Finished.{Completed, given_kept, kept, whole_kept}
@@ -61,7 +61,7 @@ module _ (o : Opening) (es : List Entry) (legal : IsPlayedIn o es) (e : Entry)
   up_of l q = (agrees o es legal n l).0 q
 
   whole_of : (l : ℕ) → present_link n es ≡ Some l → is_whole l es ≡ true
-  whole_of l q = (and_parts (is_open l es) (is_whole l es) (up_of l q).0).1
+  whole_of l q = (and_parts _ _ (up_of l q).0).1
 
   -- ---- own processes
 
@@ -76,9 +76,7 @@ module _ (o : Opening) (es : List Entry) (legal : IsPlayedIn o es) (e : Entry)
   starts_scope t r stopped = by (same t s) refl
     where
       by : (b : Bool) → same t s ≡ b → same_rows (but e (Event.StartScope t) (Accepted r))
-      by false q = all_same o es (but e (Event.StartScope t) (Accepted r)) s g p refl (grind arith)
-          (grind arith)
-          (remote_same o es (but e (Event.StartScope t) (Accepted r)) s g p refl (λ l here. refl))
+      by false q = grind (arith, all_same, remote_same)
       by true q = (let here : is_running (past o es) s ≡ false = grind (arith, same_decides t s) in
           grind (arith, unheard here, stopped_lists (past o es) s g p here))
 
@@ -110,15 +108,6 @@ module _ (o : Opening) (es : List Entry) (legal : IsPlayedIn o es) (e : Entry)
         all_same o es (fr Reply.Done) s g p refl refl refl
         (remote_same o es (fr Reply.Done) s g p refl (λ l here. each l here (k == l) refl))
       where
-        -- what a link lists is read from these
-        lists_as : (shown shown_now from from_now up up_now : Bool) (ts now : List Talk)
-            → shown_now ≡ shown → from_now ≡ from → up_now ≡ up → has_sync s now ≡ has_sync s ts
-            → stated_in s g p now ≡ stated_in s g p ts
-            → cond (shown_now && from_now) (cond (up_now && has_sync s now) (stated_in s g p now) 0)
-            0 ≡ cond (shown && from) (cond (up && has_sync s ts) (stated_in s g p ts) 0) 0
-        lists_as shown shown_now from from_now up up_now ts now a b c d e =
-            λ i. cond (a i && b i) (cond (c i && d i) (e i) 0) 0
-
         each : (l : ℕ) → present_link n es ≡ Some l → (b : Bool) → (k == l) ≡ b
             → listed_by (past o (fr Reply.Done ∷ es)) s g p l ≡ listed_by (past o es) s g p l
         each l here false a = grind (arith, given_up o es legal n e fresh_is k body l)
@@ -137,32 +126,17 @@ module _ (o : Opening) (es : List Entry) (legal : IsPlayedIn o es) (e : Entry)
             (whole_of l here) peers within_l in
             let sync = elsewhere_sync (said_at o l es body) (talk o l es) quiet in
             let count = elsewhere_count (said_at o l es body) (talk o l es) quiet in
-            let speech : talk o l (fr Reply.Done ∷ es) ≡ talk_of (said_at o l es body)
-            ++ talk o l es =
-            grind (arith, a, whole_of l here) in
-            let shown : is_visible (past o (fr Reply.Done ∷ es)) l ≡ is_visible (past o es) l =
-            grind (arith, a, whole_of l here, given_kept moment (opened l es) (taken l es)) in
-            let from : is_from l (fr Reply.Done ∷ es) p ≡ is_from l es p =
             grind (
               arith,
               a,
-              whole_of l here,
-              given_kept moment (opened l es) (taken l es),
-              kept
-                  moment (opened l es) (taken l es),
-            ) in
-            let up : is_up l (fr Reply.Done ∷ es) ≡ is_up l es =
-            grind (
-              arith,
-              a,
+              sync,
+              count,
               up_of l here,
               whole_of l here,
-              whole_kept moment (opened l es)
-                  (taken l es),
-            ) in
-            lists_as (is_visible (past o es) l) _ (is_from l es p) _ (is_up l es) _ (talk o l es)
-            (talk o l (fr Reply.Done ∷ es)) shown from up (ap (has_sync s) speech ∙ sync)
-            (ap (stated_in s g p) speech ∙ count)
+              given_kept moment (opened l es) (taken l es),
+              kept moment (opened l es) (taken l es),
+              whole_kept moment (opened l es) (taken l es),
+            )
 
     -- the last frame of a side: nobody is heard on the link yet
     module _ (opens : is_open k es ≡ true) (last : is_last (awaits k es) ≡ true)
@@ -228,20 +202,10 @@ module _ (o : Opening) (es : List Entry) (legal : IsPlayedIn o es) (e : Entry)
       let met = accepted (past o es) e.seat (Event.Frame k body) r q in
       frame_rows k body r (frame_fits o es e.seat k body met.0).0 met.1 within
   rows_step Event.Restart (Accepted r) q within = lie within
-  rows_step (Event.StopScope t) (Accepted r) _ within =
-      all_same o es (but e (Event.StopScope t) (Accepted r)) s g p refl (grind arith) (grind arith)
-      (remote_same o es (but e (Event.StopScope t) (Accepted r)) s g p refl (λ l here. grind arith))
-  rows_step (Event.Exit x) (Accepted r) _ within =
-      all_same o es (but e (Event.Exit x) (Accepted r)) s g p refl (grind arith) refl
-      (remote_same o es (but e (Event.Exit x) (Accepted r)) s g p refl (λ l here. refl))
-  rows_step (Event.Join t f ps) (Accepted r) _ within =
-      all_same o es (but e (Event.Join t f ps) (Accepted r)) s g p refl
-      (grind (arith, unmentioned p ps)) refl
-      (remote_same o es (but e (Event.Join t f ps) (Accepted r)) s g p refl (λ l here. refl))
-  rows_step (Event.Leave t f ps) (Accepted r) _ within =
-      all_same o es (but e (Event.Leave t f ps) (Accepted r)) s g p refl
-      (grind (arith, unmentioned p ps)) refl
-      (remote_same o es (but e (Event.Leave t f ps) (Accepted r)) s g p refl (λ l here. refl))
+  rows_step (Event.StopScope t) (Accepted r) _ within = grind arith
+  rows_step (Event.Exit x) (Accepted r) _ within = grind arith
+  rows_step (Event.Join t f ps) (Accepted r) _ within = grind (arith, unmentioned p ps)
+  rows_step (Event.Leave t f ps) (Accepted r) _ within = grind (arith, unmentioned p ps)
   rows_step (Event.Dial m c) (Accepted r) _ within = grind (arith, other_number)
   rows_step (Event.Opened c) (Accepted r) _ within = grind (arith, other_number)
   rows_step (Event.Lost j) (Accepted r) _ within = grind (arith, flip)
@@ -253,5 +217,5 @@ pub rows_within : (h : History) (e : Entry) → IsStep h e → IsPlayedIn h.open
     → (s g : List ℕ) (p : Pid) → may_change h.opening h.entries e s g p ≡ false
     → listed (just h e) s g p ≡ listed h s g p
 rows_within h e made legal s g p within =
-    rows_step h.opening h.entries legal e (fresh h.opening h.entries legal e made) s g p e.event
+    rows_step _ _ legal e (fresh _ _ legal e made) s g p e.event
     e.verdict made.judged within

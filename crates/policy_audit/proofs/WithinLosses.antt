@@ -1,10 +1,9 @@
 -- Which rows an entry and its losses may change: no others change.
 use Rattle.policy_audit.proofs
-use proofs.Words.{Accepted, ap, arith, Bool, concerns, cond, Entry, Event, false, History}
-use proofs.Words.{is_accepted, is_local, is_replaced, IsPlayed, just, List, listed, lose}
-use proofs.Words.{may_change_with, None, not, Option, option_map_or, or_parts, past, Pid}
-use proofs.Words.{present_link, refl, Refused, slow_links, Some, sym, true, Verdict, with_entry, ℕ}
-use proofs.Words.{◌&&◌, ◌==◌, ◌||◌, ◌∙◌, ◌∷◌, ◌≡◌}
+use proofs.Words.{ap, arith, Bool, concerns, cond, Entry, Event, false, History, is_accepted}
+use proofs.Words.{is_local, is_replaced, IsPlayed, just, List, listed, lose, may_change_with, None}
+use proofs.Words.{not, Option, option_map_or, or_parts, past, Pid, present_link, refl, Some, sym}
+use proofs.Words.{true, Verdict, with_entry, ℕ, ◌&&◌, ◌==◌, ◌||◌, ◌∙◌, ◌∷◌, ◌≡◌}
 use proofs.Accepted.{lie}
 use proofs.Walked.{but}
 use proofs.LostWords.{is_one, left_link, lost_present}
@@ -53,9 +52,7 @@ module _ (h : History) (e : Entry) (s g : List ℕ) (p : Pid) where
   -- one that doesn't leaves who is local
   local_by : (ev : Event) (v : Verdict) → (is_accepted v && concerns h.opening es s g p ev) ≡ false
       → is_local (just h (but e ev v)) p ≡ is_local h p
-  local_by Event.Restart (Accepted r) q = lie q
-  local_by ev (Accepted r) q = refl
-  local_by ev (Refused r) q = refl
+  local_by ev v q = grind arith
 
   -- where there was no link of p's node, none of p's rows was listed
   unlinked : present_link p.node es ≡ None → is_local h p ≡ false → listed h s g p ≡ 0
@@ -76,15 +73,4 @@ module _ (h : History) (e : Entry) (s g : List ℕ) (p : Pid) where
 -- the rows that an entry and its losses may not change stay
 pub rows_within_losses : (h : History) (e : Entry) → IsPlayed (just h e) → (s g : List ℕ) (p : Pid)
     → may_change_with h e s g p ≡ false → listed (with_entry h e) s g p ≡ listed h s g p
-rows_within_losses h e legal s g p = by (is_accepted e.verdict)
-  where
-    by : (b : Bool)
-        → ((is_accepted e.verdict && concerns h.opening h.entries s g p e.event)
-        || is_replaced p.node h.entries
-        (cond b (past h.opening (lose (slow_links (just h e)) (e ∷ h.entries)))
-        (just h e)).entries) ≡ false
-        → listed
-        (cond b (past h.opening (lose (slow_links (just h e)) (e ∷ h.entries)))
-        (just h e)) s g p ≡ listed h s g p
-    by true quiet = by_losses h e s g p legal (slow_links (just h e)) quiet
-    by false quiet = rows_within h e legal.0 legal.1 s g p quiet
+rows_within_losses h e legal s g p = grind (arith, by_losses, rows_within)

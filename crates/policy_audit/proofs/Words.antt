@@ -13,7 +13,7 @@ pub use Rattle.std.proofs.lemmas.List.Folds.{list_all-append, list_any-append}
 pub use Rattle.std.proofs.lemmas.Map.Lookups.{exact_bytes}
 pub use Rattle.std.proofs.lemmas.Slice.Eq.{bytes_eq-Decides}
 pub use Rattle.std.specs.Bool.{beq}
-pub use Rattle.std.specs.Cmp.{booleans_Decides, both_ways}
+pub use Rattle.std.specs.Cmp.{booleans_Decides}
 pub use Rattle.std.specs.Cmp.Lexicographic.{pointwise}
 unfoldable pub use Rattle.std.specs.Fmt.{digits}
 pub use Rattle.std.specs.List.{AllByRecursion, filter, flat_map, list_all, list_any}
@@ -55,29 +55,29 @@ unfoldable pub use Rattle.link_frames.specs.Reading.{message as read_message}
 unfoldable pub use Rattle.link_frames.specs.PartReading.{message2 as read_message2}
 pub use Rattle.link_frames.specs.declared.part.Message2.{Message2}
 pub use Rattle.link_frames.specs.declared.part.PartKind.{PartKind}
-pub use Rattle.link_frames.specs.Parts.{Begun, begun_after, completed, follows, is_next, message_of}
+pub use Rattle.link_frames.specs.Parts.{Begun, begun_after, completed}
 pub use Rattle.link_frames.specs.Parts.{rows_before, rows_so_far, whole}
 pub use Rattle.link_frames.specs.declared.message.Message.{Message}
 pub use specs.Admission.{allowed, cookie, different}
 pub use specs.Admitted.{goes_on, IsAdmitted, IsLetIn, IsReached, IsTrueStatus, LetIn, Reached}
 pub use specs.Changes.{change, events_of, groups_in, if_some, IsChange, scope_change}
 pub use specs.Checks.{always, answer_checks, challenge_checks, Check, checks, dial_checks}
-pub use specs.Checks.{digest_checks, first_broken, frame_checks, has_row_room, is_old_told}
+pub use specs.Checks.{digest_checks, first_broken, frame_checks, is_old_told}
 pub use specs.Checks.{is_peer_up, join_checks, kept_links, leave_checks, message_checks}
 pub use specs.Checks.{name_checks, own_limit, runs, so_far, status_checks, whole_checks}
 pub use specs.Contents.{contents, groups_named, local_groups, local_members, local_rows, pids_named}
 pub use specs.Contents.{row, rows_in_part, rows_named}
 pub use specs.Effects.{concerns, is_about_rows, is_replaced, IsAsOpen, IsSameLink, IsUntouched}
 pub use specs.Effects.{leaves_rows, may_change, may_change_with}
-pub use specs.Hearing.{begun, begun_at, begun_in, frame_taken, heard, hears, kept_after}
+pub use specs.Hearing.{begun, frame_taken, heard, hears, kept_after}
 pub use specs.Hearing.{link_version, message_taken, rows_kept, rows_of, Said, said_at, stated_in}
-pub use specs.Hearing.{Stopped, Talk, talk, talk_at, talk_in, talk_of, tells, told}
+pub use specs.Hearing.{Stopped, Talk, talk, talk_of, tells, told}
 pub use specs.History.{audited, creation, entered, events, first_of, History, is_accepted}
 pub use specs.History.{is_entered, is_restart, just, lose, loss, Moment, past, present}
 pub use specs.Links.{ends, frame_ends, gives_up, is_dial_to, is_dialling, is_open, is_opened_by}
 pub use specs.Links.{is_unfinished_dial, is_up, links, named_by, share_peer}
 pub use specs.Listed.{is_from, listed, listed_by}
-pub use specs.Monitors.{group_updates, is_watched, monitor, Target, updates_since}
+pub use specs.Monitors.{monitor, Target, updates_since}
 pub use specs.OutFrame.{OutFrame}
 pub use specs.Owed.{asks, digest_for, discovers, drops, frame_owes, if_told, if_visible, is_kept}
 pub use specs.Owed.{is_slow, max_waiting, may_tell, message_owes, owed, own_challenge}

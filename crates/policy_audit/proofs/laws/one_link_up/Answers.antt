@@ -7,4 +7,4 @@ pub returns-clause-given : goal.returns-clause-given
 returns-clause-given c = up-gave
 
 pub returns-clause-present : goal.returns-clause-present
-returns-clause-present c = λ h legal n l. agrees h.opening h.entries legal n l
+returns-clause-present c = λ h legal n l. agrees _ _ legal n l
