@@ -1,28 +1,30 @@
 -- The index of a node's processes, made of lists of their groups.
 use Rattle.scope_core.proofs
 use Rattle.scope_core.specs
-use proofs.Words.{all_from, AllByRecursion, and_parts, ap, arith, Ascends, Bool, cond, Counted}
-use proofs.Words.{false, get_or, is_gt, is_lt, IsPermutation, length, Less, List, None, Option}
-use proofs.Words.{Ordering, refl, Rises, set, slice_get, Some, subst, suc, sym, text_cmp}
-use proofs.Words.{texts_total, tied_itself, true, zero, ℕ, [], ◌&&◌, ◌++◌, ◌+◌, ◌-◌, ◌<◌, ◌==◌}
-use proofs.Words.{◌||◌, ◌∙◌, ◌∷◌, ◌≡◌, ◌≤◌}
+use proofs.Words.{all_from, AllByRecursion, AllWithin, and_parts, ap, arith, Ascends, Bool, cond}
+use proofs.Words.{Counted, drop, eq_by_cmp, false, get_or, HoldsAt, is_eq, is_gt, is_lt, is_some}
+use proofs.Words.{IsPermutation, length, Less, List, list_any, lookup, map, None, Option, Ordering}
+use proofs.Words.{refl, Rises, slice_get, Some, subst, suc, sym, take, text_cmp, texts_total}
+use proofs.Words.{tied_itself, true, zero, ℕ, [], ◌&&◌, ◌++◌, ◌+◌, ◌<◌, ◌==◌, ◌||◌, ◌∙◌, ◌∷◌, ◌≡◌}
+use proofs.Words.{◌≤◌}
 use Rattle.std.specs.Prelude.{IfSome}
-use Rattle.std.specs.Option.{is_some, option_to_list}
-use Rattle.std.specs.Ordering.{eq_by_cmp, is_eq, ordering_reverse}
-use Rattle.std.specs.Map.{keys_of, lookup}
+use Rattle.std.specs.Option.{option_to_list}
+use Rattle.std.specs.Ordering.{ordering_reverse}
+use Rattle.std.specs.Map.{keys_of}
 use Rattle.std.specs.List.{IsDistinct}
+use Rattle.std.specs.Set.{is_member}
 use specs.declared.process_key.ProcessKey.{ProcessKey}
 use specs.declared.small_map.SmallMap.{SmallMap}
 use specs.declared.small_map.SmallMap.TheVariants.{One}
 use specs.SmallMap.{find, found}
 use specs.HashedRows.{key_cmp, key_of, row_at, stands}
-use specs.Copies.{is_held, is_keyed, IsLastKey, keyed, keyed_maps, process_keys}
-use proofs.HashedRows.{keys_total, one_key, one_place}
+use specs.Copies.{is_held, is_keyed, keyed, keyed_maps, process_keys}
+use proofs.HashedRows.{keys_total, one_key, one_place, same_key_decides}
+use proofs.Pushed.{rises_push}
 use proofs.Rising.{all_map, all_mapped}
 use Rattle.std.specs.List.Sorted.{IsSortedByKey}
+use Rattle.std.proofs.lemmas.List.Folds.{list_any-append}
 use Rattle.std.proofs.lemmas.List.Sorted.{list_any-IsPermutation, ranks_by, sorted_far}
-use Rattle.std.proofs.lemmas.Map.Entries.{length-keys_of}
-use Rattle.std.proofs.lemmas.Bool.Decides.{Decides-eqb}
 use Rattle.std.proofs.lemmas.Cmp.{eq_by_cmp_equiv}
 
 abbrev pub Names : Type 0
@@ -45,10 +47,6 @@ pub rises_next : (o : Option ProcessKey) (k : ProcessKey) (ks : List ProcessKey)
     → Rises key_cmp (option_to_list o ++ k ∷ ks)
 rises_next None k ks less r = r
 rises_next (Some l) k ks less r = ((less, above_next l k ks less r.0), r)
-
-pub rises_end : (o : Option ProcessKey) → Rises key_cmp (option_to_list o ++ [])
-rises_end None = tt
-rises_end (Some l) = (tt, tt)
 
 all_unlike : (k : ProcessKey) (ks : List ProcessKey) → AllByRecursion (λ q. key_cmp k q ≡ Less) ks
     → AllByRecursion (λ q. eq_by_cmp key_cmp k q ≡ false) ks
@@ -97,9 +95,9 @@ keyed_is node k g (c ∷ cs) own =
       (eq_by_cmp_equiv keys_total).symm k (key_of c.row.pid),
     )
 
-alone : (group g : List ℕ)
+pub one_found : (group g : List ℕ)
     → is_some (find text_cmp (One group (tt {0})) g) ≡ eq_by_cmp text_cmp group g
-alone group g =
+one_found group g =
     by (is_eq (text_cmp g group)) ∙ (eq_by_cmp_equiv texts_total).symm g group
   where
     by : (b : Bool) → is_some (cond b (Some (tt {0})) None) ≡ b
@@ -110,109 +108,165 @@ pub maps_are : (k : ProcessKey) (g : List ℕ) (rows : List Counted)
     → is_held k g (keyed_maps rows) ≡ is_keyed k g (keyed rows)
 maps_are k g [] = refl
 maps_are k g (c ∷ cs) =
-    λ i. (is_eq (key_cmp k (key_of c.row.pid)) && alone c.row.group g i) || maps_are k g cs i
+    λ i. (is_eq (key_cmp k (key_of c.row.pid)) && one_found c.row.group g i) || maps_are k g cs i
 
 pub keys_of_maps : (rows : List Counted) → keys_of (keyed_maps rows) ≡ process_keys rows
 keys_of_maps [] = refl
 keys_of_maps (c ∷ cs) = ap (λ ks. key_of c.row.pid ∷ ks) (keys_of_maps cs)
 
--- ---- one group more
+-- ---- the names of one process, and those behind them
 
-either_more : (a q s rest : Bool) → ((a && (q || s)) || rest) ≡ (((a && s) || rest) || (a && q))
-either_more true true s rest = grind arith
-either_more true false s rest = grind arith
-either_more false q s rest = grind arith
+abbrev Named : Type 0
+Named = List (ProcessKey × List ℕ)
 
-or_assoc : (x y z : Bool) → (x || (y || z)) ≡ ((x || y) || z)
-or_assoc true y z = refl
-or_assoc false y z = refl
+behind : (l k q : ProcessKey) → key_cmp l k ≡ Less → is_gt (key_cmp k q) ≡ false
+    → key_cmp l q ≡ Less
+behind l k q less n = grind (arith, keys_total.trans l k q, one_key k q, same_key_decides k q, n, less)
 
--- in a map that is there
-module _ (group : List ℕ) (m : Names) (e : ProcessKey × Names) (put : (g : List ℕ)
-    → find text_cmp m g
-    ≡ cond (eq_by_cmp text_cmp group g) (Some (tt {0})) (find text_cmp e.1 g)) where
-  has_more : (g : List ℕ)
-      → is_some (find text_cmp m g) ≡ (eq_by_cmp text_cmp group g || is_some (find text_cmp e.1 g))
-  has_more g = ap is_some (put g) ∙ by (eq_by_cmp text_cmp group g)
-    where
-      by : (b : Bool)
-          → is_some (cond b (Some (tt {0})) (find text_cmp e.1 g))
-          ≡ (b || is_some (find text_cmp e.1 g))
-      by true = refl
-      by false = refl
+-- where none is below a key, the first ones stand under it, and all behind them above it
+key_run : (key : ProcessKey) (n : ℕ) (ps : Named) → Ascends key_cmp (keys_of ps)
+    → AllByRecursion (λ q. is_gt (key_cmp key q) ≡ false) (keys_of ps)
+    → AllWithin (λ p. is_eq (key_cmp p.0 key) ≡ true) ps 0 n → n ≤ length ps
+    → (n < length ps → HoldsAt (λ p. is_eq (key_cmp p.0 key) ≡ false) ps n)
+    → AllByRecursion (λ p. p.0 ≡ key) (take n ps)
+    × AllByRecursion (λ q. key_cmp key q ≡ Less) (keys_of (drop n ps))
+key_run key zero [] s b a l e = (tt, tt)
+key_run key zero (p ∷ ps) s b a l e =
+    let other = e (omega arith) p in
+    let up : key_cmp key p.0 ≡ Less =
+    grind (arith, b.0, other, one_key key p.0, one_key p.0 key, same_key_decides key p.0,
+    same_key_decides p.0 key) in
+    (tt, (up, all_map _ _ (λ q n. behind key p.0 q up n) (keys_of ps) s.0))
+key_run key (suc n) [] s b a l e = absurd (omega (arith, l))
+key_run key (suc n) (p ∷ ps) s b a l e =
+    let rest =
+    key_run key n ps s.1 b.1 (λ k d m h. a (suc k) d (omega arith) (omega (arith, h)))
+    (omega (arith, l)) (λ h d. e (omega (arith, h)) d) in
+    let same : p.0 ≡ key =
+    (same_key_decides p.0 key).0 (sym (one_key p.0 key) ∙ a 0 p (omega arith) (omega arith)) in
+    ((same, rest.0), rest.1)
 
-  abbrev hit : ProcessKey → List ℕ → Bool
-  hit k g = is_eq (key_cmp k e.0) && eq_by_cmp text_cmp group g
+-- the first names of a list are those of one process, and all others are of processes above it
+pub record NameRun (key : ProcessKey) (all run others : Named) : Type 0 where
+  pub whole : all ≡ run ++ others
+  pub some : 0 < length run
+  pub alike : AllByRecursion (λ p. p.0 ≡ key) run
+  pub above : AllByRecursion (λ q. key_cmp key q ≡ Less) (keys_of others)
 
-  pub held_set : (k : ProcessKey) (g : List ℕ) (es : Maps) (i : ℕ) → i < length es
-      → e ≡ get_or es i e
-      → is_held k g (set es i (e.0, m)) ≡ (is_held k g es || hit k g)
-  held_set k g [] i l at = absurd (omega (arith, l))
-  held_set k g (x ∷ xs) zero l at =
-      (λ i. (is_eq (key_cmp k e.0) && has_more g i) || is_held k g xs)
-      ∙ either_more (is_eq (key_cmp k e.0)) (eq_by_cmp text_cmp group g)
-      (is_some (find text_cmp e.1 g)) (is_held k g xs)
-      ∙ ap (λ (x : ProcessKey × Names). is_held k g (x ∷ xs) || hit k g) at
-  held_set k g (x ∷ xs) (suc i) l at =
-      let first = is_eq (key_cmp k x.0) && is_some (find text_cmp x.1 g) in
-      ap (λ b. first || b) (held_set k g xs i (omega (arith, l)) at)
-      ∙ or_assoc first (is_held k g xs) (hit k g)
+none_below_key : (first : ProcessKey × List ℕ) (ps : Named) → Some first ≡ slice_get ps 0
+    → Ascends key_cmp (keys_of ps)
+    → AllByRecursion (λ q. is_gt (key_cmp first.0 q) ≡ false) (keys_of ps)
+none_below_key first [] e s = tt
+none_below_key first (p ∷ ps) e s =
+    let same : first ≡ p = grind (arith, e) in
+    let itself = tied_itself keys_total p.0 in
+    subst (λ (f : ProcessKey × List ℕ). AllByRecursion (λ q. is_gt (key_cmp f.0 q) ≡ false) (keys_of (p ∷ ps)))
+    (sym same) (ap is_gt itself, s.0)
 
-  pub keys_set : (es : Maps) (i : ℕ) → e ≡ get_or es i e → keys_of (set es i (e.0, m)) ≡ keys_of es
-  keys_set [] i at = refl
-  keys_set (x ∷ xs) zero at = λ i. (at i).0 ∷ keys_of xs
-  keys_set (x ∷ xs) (suc i) at = ap (λ ks. x.0 ∷ ks) (keys_set xs i at)
+begins : (first : ProcessKey × List ℕ) (n : ℕ) (all : Named) → Some first ≡ slice_get all 0
+    → n ≤ length all → (n < length all → HoldsAt (λ p. is_eq (key_cmp p.0 first.0) ≡ false) all n)
+    → 0 < length (take n all)
+begins first n [] is l e = absurd (grind (arith, is))
+begins first zero (p ∷ ps) is l e =
+    let other = e (omega arith) p in
+    absurd (grind (arith, is, other, tied_itself keys_total p.0))
+begins first (suc n) (p ∷ ps) is l e = omega arith
 
-key_at : (es : Maps) (i : ℕ) (e : ProcessKey × Names) → i < length es
-    → e ≡ get_or es i e → slice_get (keys_of es) i ≡ Some e.0
-key_at [] i e l at = absurd (omega (arith, l))
-key_at (x ∷ xs) zero e l at = ap (λ (y : ProcessKey × Names). Some y.0) (sym at)
-key_at (x ∷ xs) (suc i) e l at = key_at xs i e (omega (arith, l)) at
+pub name_run : (first : ProcessKey × List ℕ) (n : ℕ) (all run others : Named)
+    → Some first ≡ slice_get all 0 → Ascends key_cmp (keys_of all)
+    → AllWithin (λ p. is_eq (key_cmp p.0 first.0) ≡ true) all 0 n → n ≤ length all
+    → (n < length all → HoldsAt (λ p. is_eq (key_cmp p.0 first.0) ≡ false) all n)
+    → run ≡ take n all → others ≡ drop n all → all ≡ run ++ others
+    → NameRun first.0 all run others
+name_run first n all run others is s a l e front back whole =
+    let parts = key_run first.0 n all s (none_below_key first all is s) a l e in
+    record {
+      whole = whole;
+      some = subst (λ ps. 0 < length ps) (sym front) (begins first n all is l e);
+      alike = subst (AllByRecursion (λ p. p.0 ≡ first.0)) (sym front) parts.0;
+      above = subst (λ ps. AllByRecursion (λ q. key_cmp first.0 q ≡ Less) (keys_of ps)) (sym back) parts.1;
+    }
 
-pub last_key : (es : Maps) (i : ℕ) (e : ProcessKey × Names) → i + 1 ≡ length es
-    → e ≡ get_or es i e → IsLastKey e.0 (keys_of es)
-last_key es i e n at =
-    let last : i ≡ length (keys_of es) - 1 = omega (arith, n, length-keys_of es) in
-    subst (λ j. slice_get (keys_of es) j ≡ Some e.0) last (key_at es i e (omega (arith, n)) at)
+-- these maps hold all names but those to come, whose keys are above theirs
+pub record Folds (names rest : Named) (es : Maps) : Type 0 where
+  pub ascends : Ascends key_cmp (keys_of rest)
+  pub rises : Rises key_cmp (keys_of es)
+  pub below : AllByRecursion (λ q. AllByRecursion (λ r. key_cmp q r ≡ Less) (keys_of rest)) (keys_of es)
+  pub held : (k : ProcessKey) (g : List ℕ)
+      → (is_held k g es || is_keyed k g rest) ≡ is_keyed k g names
 
--- in a map of its own
-pub keys_push : (es : Maps) (k : ProcessKey) (m : Names)
+keys_push : (es : Maps) (k : ProcessKey) (m : Names)
     → keys_of (es ++ (k, m) ∷ []) ≡ keys_of es ++ k ∷ []
 keys_push [] k m = refl
 keys_push (e ∷ es) k m = ap (λ ks. e.0 ∷ ks) (keys_push es k m)
 
-pub held_push : (key : ProcessKey) (group : List ℕ) (k : ProcessKey) (g : List ℕ) (es : Maps)
-    → is_held k g (es ++ (key, One group (tt {0})) ∷ [])
-    ≡ (is_held k g es || (is_eq (key_cmp k key) && eq_by_cmp text_cmp group g))
-held_push key group k g [] =
-    (λ i. (is_eq (key_cmp k key) && alone group g i) || false)
-    ∙ or_false (is_eq (key_cmp k key) && eq_by_cmp text_cmp group g)
-  where
-    or_false : (b : Bool) → (b || false) ≡ b
-    or_false true = refl
-    or_false false = refl
-held_push key group k g (e ∷ es) =
-    let first = is_eq (key_cmp k e.0) && is_some (find text_cmp e.1 g) in
-    ap (λ b. first || b) (held_push key group k g es)
-    ∙ or_assoc first (is_held k g es) (is_eq (key_cmp k key) && eq_by_cmp text_cmp group g)
+all_push : (P : ProcessKey → Type 0) (k : ProcessKey) (ks : List ProcessKey) → AllByRecursion P ks
+    → P k → AllByRecursion P (ks ++ k ∷ [])
+all_push P k [] a p = (p, tt)
+all_push P k (q ∷ ks) a p = (a.0, all_push P k ks a.1 p)
 
--- a key that isn't below the last, nor the last
-pub behind_last : (l k : ProcessKey) → is_gt (key_cmp l k) ≡ false
-    → (l.creation == k.creation && l.number == k.number) ≡ false → key_cmp l k ≡ Less
-behind_last l k n d = grind (arith, one_key l k, n, d)
+all_behind : (P : ProcessKey → Type 0) (xs ys : Named) → AllByRecursion P (keys_of (xs ++ ys))
+    → AllByRecursion P (keys_of ys)
+all_behind P [] ys a = a
+all_behind P (x ∷ xs) ys a = all_behind P xs ys a.1
 
-pub none_below : (k : ProcessKey) (es : Maps) → length es ≡ 0
-    → AllByRecursion (λ q. key_cmp q k ≡ Less) (keys_of es)
-none_below k [] n = tt
-none_below k (e ∷ es) n = absurd (omega (arith, n))
+ascends_behind : (xs ys : Named) → Ascends key_cmp (keys_of (xs ++ ys))
+    → Ascends key_cmp (keys_of ys)
+ascends_behind [] ys s = s
+ascends_behind (x ∷ xs) ys s = ascends_behind xs ys s.1
 
-pub same_keys : (a b : ProcessKey) → (a.creation == b.creation && a.number == b.number) ≡ true
-    → a ≡ b
-same_keys a b h = let t = and_parts _ _ h in
-    λ i. record {
-      creation = (Decides-eqb a.creation b.creation).0 t.0 i;
-      number = (Decides-eqb a.number b.number).0 t.1 i;
+keyed_run : (key k : ProcessKey) (g : List ℕ) (run : Named) → AllByRecursion (λ p. p.0 ≡ key) run
+    → is_keyed k g run
+    ≡ (is_eq (key_cmp k key) && list_any (λ p. eq_by_cmp text_cmp p.1 g) run)
+keyed_run key k g [] a = grind arith
+keyed_run key k g (p ∷ ps) a = grind (arith, keyed_run key k g ps a.1, a.0)
+
+below_run : (key q : ProcessKey) (run others : Named) → 0 < length run
+    → AllByRecursion (λ p. p.0 ≡ key) run
+    → AllByRecursion (λ r. key_cmp q r ≡ Less) (keys_of (run ++ others)) → key_cmp q key ≡ Less
+below_run key q [] others some a below = absurd (omega (arith, some))
+below_run key q (p ∷ ps) others some a below = subst (λ r. key_cmp q r ≡ Less) a.0 below.0
+
+pub folds_next : (key : ProcessKey) (names all run others : Named) (es : Maps) (m : Names)
+    → NameRun key all run others
+    → ((g : List ℕ) → is_some (find text_cmp m g) ≡ list_any (λ p. eq_by_cmp text_cmp p.1 g) run)
+    → Folds names all es → Folds names others (es ++ (key, m) ∷ [])
+folds_next key names all run others es m r has f =
+    let was = subst (λ xs. Folds names xs es) r.whole f in
+    let keys = sym (keys_push es key m) in
+    let low = all_map _ _ (λ q a. below_run key q run others r.some r.alike a) (keys_of es) was.below in
+    let left =
+    all_map _ _ (λ q a. all_behind (λ r. key_cmp q r ≡ Less) run others a) (keys_of es) was.below in
+    record {
+      ascends = ascends_behind run others was.ascends;
+      rises =
+          subst (Rises key_cmp) keys
+          (rises_push key_cmp (keys_of es) key was.rises low);
+      below =
+          subst (AllByRecursion (λ q. AllByRecursion (λ r. key_cmp q r ≡ Less) (keys_of others)))
+          keys (all_push _ key (keys_of es) left r.above);
+      held = λ k g.
+          grind (
+            arith,
+            was.held k g,
+            keyed_run key k g run r.alike,
+            has g,
+            list_any-append (λ e. is_eq (key_cmp k e.0) && is_some (find text_cmp e.1 g)) es
+            ((key, m) ∷ []),
+            list_any-append (λ p. is_eq (key_cmp k p.0) && eq_by_cmp text_cmp p.1 g) run others,
+          );
     }
+
+pub named : (g : List ℕ) (names : Named)
+    → is_member (eq_by_cmp text_cmp) (map (λ n. n.1) names) g
+    ≡ list_any (λ n. eq_by_cmp text_cmp n.1 g) names
+named g [] = refl
+named g (n ∷ names) = grind (arith, named g names, (eq_by_cmp_equiv texts_total).symm g n.1)
+
+pub folds_all : (names rest : Named) (es : Maps) → None ≡ slice_get rest 0 → Folds names rest es
+    → (k : ProcessKey) (g : List ℕ) → is_held k g es ≡ is_keyed k g names
+folds_all names [] es e f k g = grind (arith, f.held k g)
+folds_all names (p ∷ ps) es e f k g = grind (arith, e)
 
 -- ---- what is found in the map
 

@@ -53,11 +53,10 @@ module _ (node g : List ℕ) where
   pairs_apart [] a r = tt
   pairs_apart (c ∷ cs) a r = (apart c cs a.0 a.1 r.0, pairs_apart cs a.1 r.1)
 
-pub alone : (rows : List Counted) (c : Counted) → length rows ≡ 1 → c ≡ get_or rows 0 c
-    → rows ≡ c ∷ []
-alone [] c l e = absurd (omega (arith, l))
-alone (x ∷ []) c l e = ap (λ y. y ∷ []) (sym e)
-alone (x ∷ y ∷ ys) c l e = absurd (omega (arith, l))
+pub alone : {A : Type 0} (xs : List A) (x : A) → length xs ≡ 1 → x ≡ get_or xs 0 x → xs ≡ x ∷ []
+alone [] x l e = absurd (omega (arith, l))
+alone (y ∷ []) x l e = ap (λ z. z ∷ []) (sym e)
+alone (y ∷ z ∷ ys) x l e = absurd (omega (arith, l))
 
 -- ---- the index of groups, made run by run
 

@@ -61,7 +61,7 @@ pub use specs.declared.fault.TableFault.TheVariants.{NotJoined, NotListed, OutOf
 pub use Rattle.std.proofs.lemmas.Result.{IfErr-weaker, IfOk-weaker, on_err_weaker, on_ok_weaker}
 pub use Rattle.indexmap.proofs.CallerLemmas.{insert_entry-new}
 pub use Rattle.indexmap.specs.IndexMap.{insert_entry}
-pub use specs.Copies.{is_held, is_keyed, IsLastKey, keyed, keyed_maps, process_keys}
+pub use specs.Copies.{is_held, is_keyed, keyed, keyed_maps, process_keys}
 pub use specs.HashedRows.{counted_in, entries_in, group_rows, has_row, IsHashed, key_cmp, key_of}
 pub use specs.HashedRows.{NodeTable, pid_of, row_at, stands}
 pub use specs.Kept.{AreListings, Forgets}

@@ -1,5 +1,5 @@
 -- The groups of a node's processes, in lists.
-use Rattle.std.specs.Prelude.{◌≡◌, ℕ, ◌-◌, Bool, ◌&&◌, List, map, length, slice_get, Some}
+use Rattle.std.specs.Prelude.{ℕ, Bool, ◌&&◌, List, map}
 use Rattle.std.specs.List.{list_any}
 use Rattle.std.specs.Option.{is_some}
 use Rattle.std.specs.Ordering.{is_eq, eq_by_cmp}
@@ -30,7 +30,3 @@ is_keyed k g ps = list_any (λ p. is_eq (key_cmp k p.0) && eq_by_cmp text_cmp p.
 -- whether the group stands in a map under the key
 abbrev pub is_held : ProcessKey → List ℕ → List (ProcessKey × SmallMap (List ℕ) (Unit {0})) → Bool
 is_held k g es = list_any (λ e. is_eq (key_cmp k e.0) && is_some (find text_cmp e.1 g)) es
-
--- the key is the last of these
-abbrev pub IsLastKey : ProcessKey → List ProcessKey → Type 0
-IsLastKey k ks = slice_get ks (length ks - 1) ≡ Some k

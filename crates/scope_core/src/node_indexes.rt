@@ -1,17 +1,18 @@
 //! The two indexes of a node's rows, made of rows in order, and where one row comes or goes.
-ghost use Rattle.std.specs.Prelude.{◌≡◌, ◌&&◌, ◌||◌, ℕ, List, cond, false, None, Some, IsTrue, IfSome, IfOk, OnOk, OnErr};
+ghost use Rattle.std.specs.Prelude.{◌≡◌, ◌≤◌, ◌<◌, ◌&&◌, ℕ, List, length, cond, true, false, None, Some, IsTrue, IfSome, IfOk, OnOk, OnErr};
 ghost use Rattle.std.specs.Option.{is_some};
-ghost use Rattle.std.specs.Ordering.{eq_by_cmp, is_eq, is_gt};
+ghost use Rattle.std.specs.Ordering.{eq_by_cmp, is_eq};
 ghost use Rattle.std.specs.declared.cmp.Ordering.TheVariants.{Less};
-ghost use Rattle.std.specs.List.{AllByRecursion, IsDistinct};
+ghost use Rattle.std.specs.List.{AllByRecursion, AllWithin, HoldsAt, IsDistinct, list_any};
 ghost use Rattle.std.specs.Map.{lookup, keys_of};
+ghost use Rattle.std.specs.Set.{is_member};
 ghost use Rattle.std.specs.BTreeMap.{get};
 ghost use Rattle.dist_types.specs.Order.{text_cmp};
 ghost use Rattle.dist_types.specs.Listing.{same_row, Rises, Ascends};
 ghost use Rattle.scope_core.specs.declared.process_key.ProcessKey.{ProcessKey};
 ghost use Rattle.scope_core.specs.Table.{counted_cmp};
 ghost use Rattle.scope_core.specs.SmallMap.{find, find_in};
-ghost use Rattle.scope_core.specs.Copies.{process_keys, keyed, keyed_maps, is_keyed, is_held, IsLastKey};
+ghost use Rattle.scope_core.specs.Copies.{process_keys, keyed, keyed_maps, is_keyed, is_held};
 ghost use Rattle.scope_core.specs.HashedRows.{key_cmp, key_of, row_at, stands, entries_in};
 
 use crate::counted::Counted;
@@ -60,12 +61,13 @@ fn members_of(alloc: Global, rows: &[Counted]) -> Result<SmallMap<ProcessKey, u3
     Ok(SmallMap::Many(map_of(alloc, members)?))
 }
 
-/// The map of these entries, where no two of their keys are equal.
+/// The map of these entries. Of equal keys it has the last value.
 fn map_of<K: Ord + Drop, V: Drop>(
     alloc: Global,
     entries: Vec<(K, V)>,
 ) -> Result<BTreeMap<K, V>, OutOfMemory>
-    ensures { IfOk result (λ map. IsDistinct (eq_by_cmp K.cmp) (keys_of entries.items) → (k : K) → get K.cmp map k ≡ lookup (λ q. is_eq (K.cmp k q)) entries.items) }
+    ensures found { IfOk result (λ map. IsDistinct (eq_by_cmp K.cmp) (keys_of entries.items) → (k : K) → get K.cmp map k ≡ lookup (λ q. is_eq (K.cmp k q)) entries.items) }
+    ensures there { IfOk result (λ map. (k : K) → is_some (get K.cmp map k) ≡ is_member (eq_by_cmp K.cmp) (keys_of entries.items) k) }
 {
     Ok(entries.into_iter().collect(alloc)?)
 }
@@ -86,7 +88,7 @@ pub fn processes_of(
     }
     let mut names = names_of(alloc, rows)?;
     names.sort_by_key(|name| name.0)?;
-    let map = map_of(alloc, folded(alloc, names)?)?;
+    let map = map_of(alloc, folded(alloc, &names)?)?;
     Ok(map)
 }
 
@@ -145,38 +147,52 @@ fn names_of(alloc: Global, rows: &[Counted]) -> Result<Vec<(ProcessKey, Group)>,
 /// Those of the same process, which stand beside one another, in one map.
 fn folded(
     alloc: Global,
-    names: Vec<(ProcessKey, Group)>,
+    names: &[(ProcessKey, Group)],
 ) -> Result<Vec<(ProcessKey, SmallMap<Group, ()>)>, OutOfMemory>
-    requires { Ascends key_cmp (keys_of names.items) }
+    requires { Ascends key_cmp (keys_of names.now) }
     ensures rises { IfOk result (λ all. Rises key_cmp (keys_of all.items)) }
-    ensures held { IfOk result (λ all. (k : ProcessKey) (g : List ℕ) → is_held k g all.items ≡ is_keyed k g names.items) }
+    ensures held { IfOk result (λ all. (k : ProcessKey) (g : List ℕ) → is_held k g all.items ≡ is_keyed k g names.now) }
 {
     let mut all = Vec::with_capacity(alloc, names.len())?;
-    for (key, group) in names {
-        add_name(alloc, &mut all, key, group)?;
+    let mut rest = names;
+    while let Some(first) = rest.first() {
+        let key = first.0;
+        let (run, others) = rest.split_at(run_under(rest, &key));
+        all.push((key, names_in(alloc, run)?))?;
+        rest = others;
     }
     Ok(all)
 }
 
-/// Puts a group into the last map, if that is its process's, else into one of its own behind it.
-fn add_name(
-    alloc: Global,
-    all: &mut Vec<(ProcessKey, SmallMap<Group, ()>)>,
-    key: ProcessKey,
-    group: Group,
-) -> Result<(), OutOfMemory>
-    ensures held { OnOk result ((k : ProcessKey) (g : List ℕ) → is_held k g all.new.items ≡ (is_held k g all.old.items || (is_eq (key_cmp k key) && eq_by_cmp text_cmp group g))) }
-    ensures last { OnOk result (IsLastKey key (keys_of all.new.items)) }
-    ensures rises { OnOk result (Rises key_cmp (keys_of all.old.items) → ((l : ProcessKey) → IsLastKey l (keys_of all.old.items) → is_gt (key_cmp l key) ≡ false)
-        → Rises key_cmp (keys_of all.new.items)) }
+/// How many of the first names stand under the key.
+fn run_under(names: &[(ProcessKey, Group)], key: &ProcessKey) -> usize
+    ensures bound { result ≤ length names.now }
+    ensures run { AllWithin (λ n. is_eq (key_cmp n.0 key.now) ≡ true) names.now 0 result }
+    ensures end { result < length names.now → HoldsAt (λ n. is_eq (key_cmp n.0 key.now) ≡ false) names.now result }
 {
-    if let Some(last) = all.last_mut() {
-        if last.0 == key {
-            return last.1.insert(alloc, group, ());
+    for (len, name) in names.iter().enumerate() {
+        if name.0 != *key {
+            return len;
         }
     }
-    all.push((key, SmallMap::One(group, ())))?;
-    Ok(())
+    names.len()
+}
+
+/// The groups of these names.
+fn names_in(
+    alloc: Global,
+    names: &[(ProcessKey, Group)],
+) -> Result<SmallMap<Group, ()>, OutOfMemory>
+    ensures { IfOk result (λ groups. (g : List ℕ) → is_some (find text_cmp groups g) ≡ list_any (λ n. eq_by_cmp text_cmp n.1 g) names.now) }
+{
+    if let [only] = names {
+        return Ok(SmallMap::One(only.1.try_clone(alloc)?, ()));
+    }
+    let mut groups = Vec::with_capacity(alloc, names.len())?;
+    for name in names {
+        groups.push((name.1.try_clone(alloc)?, ()))?;
+    }
+    Ok(SmallMap::Many(map_of(alloc, groups)?))
 }
 
 /// Puts a new row into both indexes, or into none of them.

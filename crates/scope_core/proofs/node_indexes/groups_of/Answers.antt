@@ -56,4 +56,4 @@ returns c = λ node own g k.
     let all =
     subst (Indexes c.args.rows.now) (append-nil groups) (c.loop-first.invariant.indexes [] none)
     in
-    ap (λ o. found key_cmp o k) (c.in_ok-map.ensures all.apart g) ∙ all.looked node own g k
+    ap (λ o. found key_cmp o k) (c.in_ok-map.ensures.found all.apart g) ∙ all.looked node own g k

@@ -26,5 +26,5 @@ returns c = λ node g own k.
     let apart =
     subst (λ es. IsDistinct (eq_by_cmp key_cmp) (keys_of es)) (sym all)
     (pairs_apart node g rows own c.requires) in
-    c.in_ok-map_of.ensures apart k ∙ ap (λ es. lookup (λ q. is_eq (key_cmp k q)) es) all
+    c.in_ok-map_of.ensures.found apart k ∙ ap (λ es. lookup (λ q. is_eq (key_cmp k q)) es) all
     ∙ pairs_lookup node g k rows own
