@@ -134,8 +134,15 @@ key_run key zero [] s b a l e = (tt, tt)
 key_run key zero (p ∷ ps) s b a l e =
     let other = e (omega arith) p in
     let up : key_cmp key p.0 ≡ Less =
-    grind (arith, b.0, other, one_key key p.0, one_key p.0 key, same_key_decides key p.0,
-    same_key_decides p.0 key) in
+    grind (
+      arith,
+      b.0,
+      other,
+      one_key key p.0,
+      one_key p.0 key,
+      same_key_decides key p.0,
+      same_key_decides p.0 key,
+    ) in
     (tt, (up, all_map _ _ (λ q n. behind key p.0 q up n) (keys_of ps) s.0))
 key_run key (suc n) [] s b a l e = absurd (omega (arith, l))
 key_run key (suc n) (p ∷ ps) s b a l e =
@@ -252,7 +259,7 @@ folds_next key names all run others es m r has f =
             keyed_run key k g run r.alike,
             has g,
             list_any-append (λ e. is_eq (key_cmp k e.0) && is_some (find text_cmp e.1 g)) es
-            ((key, m) ∷ []),
+                ((key, m) ∷ []),
             list_any-append (λ p. is_eq (key_cmp k p.0) && eq_by_cmp text_cmp p.1 g) run others,
           );
     }
