@@ -121,7 +121,8 @@ Named = List (ProcessKey × List ℕ)
 
 behind : (l k q : ProcessKey) → key_cmp l k ≡ Less → is_gt (key_cmp k q) ≡ false
     → key_cmp l q ≡ Less
-behind l k q less n = grind (arith, keys_total.trans l k q, one_key k q, same_key_decides k q, n, less)
+behind l k q less n =
+    grind (arith, keys_total.trans l k q, one_key k q, same_key_decides k q, n, less)
 
 -- where none is below a key, the first ones stand under it, and all behind them above it
 key_run : (key : ProcessKey) (n : ℕ) (ps : Named) → Ascends key_cmp (keys_of ps)
@@ -167,7 +168,9 @@ none_below_key first [] e s = tt
 none_below_key first (p ∷ ps) e s =
     let same : first ≡ p = grind (arith, e) in
     let itself = tied_itself keys_total p.0 in
-    subst (λ (f : ProcessKey × List ℕ). AllByRecursion (λ q. is_gt (key_cmp f.0 q) ≡ false) (keys_of (p ∷ ps)))
+    subst
+    (λ (f : ProcessKey × List ℕ).
+    AllByRecursion (λ q. is_gt (key_cmp f.0 q) ≡ false) (keys_of (p ∷ ps)))
     (sym same) (ap is_gt itself, s.0)
 
 begins : (first : ProcessKey × List ℕ) (n : ℕ) (all : Named) → Some first ≡ slice_get all 0
@@ -191,14 +194,17 @@ name_run first n all run others is s a l e front back whole =
       whole = whole;
       some = subst (λ ps. 0 < length ps) (sym front) (begins first n all is l e);
       alike = subst (AllByRecursion (λ p. p.0 ≡ first.0)) (sym front) parts.0;
-      above = subst (λ ps. AllByRecursion (λ q. key_cmp first.0 q ≡ Less) (keys_of ps)) (sym back) parts.1;
+      above =
+          subst (λ ps. AllByRecursion (λ q. key_cmp first.0 q ≡ Less) (keys_of ps)) (sym back)
+          parts.1;
     }
 
 -- these maps hold all names but those to come, whose keys are above theirs
 pub record Folds (names rest : Named) (es : Maps) : Type 0 where
   pub ascends : Ascends key_cmp (keys_of rest)
   pub rises : Rises key_cmp (keys_of es)
-  pub below : AllByRecursion (λ q. AllByRecursion (λ r. key_cmp q r ≡ Less) (keys_of rest)) (keys_of es)
+  pub below : AllByRecursion (λ q. AllByRecursion (λ r. key_cmp q r ≡ Less) (keys_of rest))
+      (keys_of es)
   pub held : (k : ProcessKey) (g : List ℕ)
       → (is_held k g es || is_keyed k g rest) ≡ is_keyed k g names
 
@@ -241,7 +247,8 @@ pub folds_next : (key : ProcessKey) (names all run others : Named) (es : Maps) (
 folds_next key names all run others es m r has f =
     let was = subst (λ xs. Folds names xs es) r.whole f in
     let keys = sym (keys_push es key m) in
-    let low = all_map _ _ (λ q a. below_run key q run others r.some r.alike a) (keys_of es) was.below in
+    let low =
+    all_map _ _ (λ q a. below_run key q run others r.some r.alike a) (keys_of es) was.below in
     let left =
     all_map _ _ (λ q a. all_behind (λ r. key_cmp q r ≡ Less) run others a) (keys_of es) was.below in
     record {

@@ -1,6 +1,6 @@
 use Rattle.scope_core.proofs
-use proofs.Words.{always_returns_same, ap, Ascends, get, is_held, is_keyed, key_cmp, keys_of, refl, Rises, rules}
-use proofs.Words.{subst, sym, ◌∙◌}
+use proofs.Words.{always_returns_same, ap, Ascends, get, is_held, is_keyed, key_cmp, keys_of, refl}
+use proofs.Words.{Rises, rules, subst, sym, ◌∙◌}
 use proofs.Copies.{keyed_sorted, keys_of_maps, maps_are, names_found, sorted_keys}
 use Rattle.scope_core.proofs.node_indexes.processes_of.Goals as goal
 
