@@ -4,8 +4,7 @@ use Rattle.node_core.specs
 use proofs.Words.{AllByRecursion, AllZip, ap, append-nil, arith, Bool, Change, cond}
 use proofs.Words.{count_after_drop, count_of, false, filter, filter_append, flat_map, GroupChange}
 use proofs.Words.{is_empty, IsCutOff, IsDifference, IsProper, KeptLink, List, list_any, not, refl}
-use proofs.Words.{Running, same, subst, sym, Table, true, without_number, ℕ, [], ◌++◌, ◌∙◌, ◌∷◌}
-use proofs.Words.{◌≡◌}
+use proofs.Words.{Running, subst, sym, Table, true, without_number, ℕ, [], ◌++◌, ◌∙◌, ◌∷◌, ◌≡◌}
 use Rattle.std.proofs.lemmas.List.Concat.{flat_map-append}
 use Rattle.dist_types.proofs.Listings.{all_append}
 use Rattle.indexmap.proofs.SetLemmas.{AllZip-push}
@@ -13,6 +12,7 @@ use Rattle.policy_audit.specs.Changes.{groups_in}
 use specs.declared.slow.End.{End}
 use specs.Ending.{AreCutAll, AreLostGroups, AreWithLost, ends_of, is_overfull, IsLossOf}
 use specs.Ending.{without_ends}
+use proofs.LostChanges.{ends_left}
 
 -- where too many frames wait for no link, none ends
 pub none_ends : (links : List KeptLink) → list_any is_overfull links ≡ false → ends_of links ≡ []
@@ -54,12 +54,7 @@ groups_proper : (s : List ℕ) (own : List Change)
     → AllByRecursion IsProper (groups_in s own)
 groups_proper s [] a = tt
 groups_proper s (c ∷ own) a =
-    all_append IsProper (cond (same c.scope s) c.groups []) (groups_in s own)
-    (by (same c.scope s)) (groups_proper s own a.1)
-  where
-    by : (b : Bool) → AllByRecursion IsProper (cond b c.groups [])
-    by true = a.0
-    by false = tt
+    grind (arith, all_append IsProper c.groups (groups_in s own), groups_proper s own a.1)
 
 lists_proper : (t : Table) (es : List End) (lists : List (List GroupChange))
     → AllZip (IsLoss t) es lists → AllByRecursion IsProper (flat_map (λ ls. ls) lists)
@@ -80,22 +75,15 @@ loss_proper t es s own lost groups a l e =
 pub none_lost : (t : Table) (stops : Bool) (ends : List End) → stops ≡ true
     → AreLostGroups t (filter (λ e. not stops) ends) []
 none_lost t stops ends e =
-    subst (λ es. AreLostGroups t es []) (sym (none ends))
+    subst (λ es. AreLostGroups t es []) (sym (ends_left stops ends ∙ ap (λ b. cond b [] ends) e))
     (record { lists = []; each = tt; all = refl })
-  where
-    none : (es : List End) → filter (λ e. not stops) es ≡ []
-    none [] = refl
-    none (x ∷ es) = rw e (none es)
 
 -- and another what the leaving of each peer changes
 pub all_lost : (t : Table) (stops : Bool) (ends : List End) (lost : List GroupChange)
     → stops ≡ false → AreLostGroups t ends lost
     → AreLostGroups t (filter (λ e. not stops) ends) lost
-all_lost t stops ends lost e l = subst (λ es. AreLostGroups t es lost) (sym (all ends)) l
-  where
-    all : (es : List End) → filter (λ e. not stops) es ≡ es
-    all [] = refl
-    all (x ∷ es) = rw e (ap (λ xs. x ∷ xs) (all es))
+all_lost t stops ends lost e l =
+    subst (λ es. AreLostGroups t es lost) (grind (arith, e, ends_left stops ends)) l
 
 -- ---- one scope more, which changes or not
 

@@ -12,23 +12,26 @@ use proofs.Entered.{accepted_next, answered_by, audit_more, made, sound_now}
 use proofs.Partings.{partings_change}
 use proofs.Found.{not_so}
 
+-- what is kept then, with this creation
+abbrev pub fresh : Opening → ℕ → Parts
+fresh o creation = record {
+  admission = record {
+    own = o.name;
+    cookie = o.cookie;
+    hidden = o.hidden;
+    creation = creation;
+    links = o.links;
+    peers = [];
+    allowed = [];
+  };
+  processes = record { spawned = 0; live = [] };
+  scopes = [];
+  links = [];
+  monitors = [];
+}
+
 pub begun : (o : Opening) → o.entries < 2 ^ 32 → IsVersion o.links
-    → Follows (past o [])
-    (record {
-      admission = record {
-        own = o.name;
-        cookie = o.cookie;
-        hidden = o.hidden;
-        creation = o.creation;
-        links = o.links;
-        peers = [];
-        allowed = [];
-      };
-      processes = record { spawned = 0; live = [] };
-      scopes = [];
-      links = [];
-      monitors = [];
-    })
+    → Follows (past o []) (fresh o o.creation)
 begun o fits known = record {
   sound = record {
     played = tt;
@@ -72,22 +75,7 @@ module _ (h : History) (seat : ℕ) where
       → (n ≡ 4294967295 → ⊥) → (o : Opening) (number : ℕ) → o ≡ h.opening
       → number ≡ parts.admission.creation + 1
       → IsAlone h (made h seat Event.Restart (Accepted Reply.Done) cs)
-      × Follows (anew cs)
-      (record {
-        admission = record {
-          own = o.name;
-          cookie = o.cookie;
-          hidden = o.hidden;
-          creation = number;
-          links = o.links;
-          peers = [];
-          allowed = [];
-        };
-        processes = record { spawned = 0; live = [] };
-        scopes = [];
-        links = [];
-        monitors = [];
-      })
+      × Follows (anew cs) (fresh o number)
   anew_now parts t cs gone space n is left o number same more =
       let nobody : (s g : List ℕ) (p : Pid) → listed (anew cs) s g p ≡ 0 =
       λ s g p. stopped_lists (anew cs) s g p refl in
@@ -104,7 +92,7 @@ module _ (h : History) (seat : ℕ) where
             hidden = ap (λ x. x.hidden) same;
             links = ap (λ x. x.links) same;
             creation = (let was : parts.admission.creation ≡ creation h = t.admission.creation in
-                omega (arith, more, was));
+                omega arith);
             own_cookie = ap (λ x. x.cookie) same;
             cookie = λ n. grind arith;
             peers = λ n. refl;

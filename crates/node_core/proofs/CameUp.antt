@@ -155,15 +155,14 @@ module _ (h : History) (legal : IsPlayed h) (j : ℕ) (body : List ℕ) (up : Li
   came_up_moves = record {
     state =
         let on = c.on e answered yes is in (
-          own_awaits h e answered yes j body is on
+          own_awaits answered yes is on
               (grind (
                 arith,
                 (proved_links h e answered yes j body is up.peer c.last c.known.peer.peer
                     j).open_is,
                 eq-eqb j j refl,
               )),
-          still_introduced h e answered yes j body is on up.peer up.creation up.visible up.version
-              up.proof c.known,
+          still_introduced answered yes is on c.known,
         );
     frames = grind (
       arith,
@@ -171,7 +170,7 @@ module _ (h : History) (legal : IsPlayed h) (j : ℕ) (body : List ℕ) (up : Li
       eq-eqb j j refl,
       c.owes,
     );
-    others = λ l apart q. other_facts h e answered yes j body is l apart
+    others = λ l apart q. other_facts answered yes is l apart
         (grind (
           arith,
           (proved_links h e answered yes j body is up.peer c.last c.known.peer.peer l).open_is,

@@ -3,9 +3,9 @@ use Rattle.node_core.proofs
 use proofs.Words.{admission_words, AdmissionFollows, AdmissionRules, allow_list, ap, arith, Bool}
 use proofs.Words.{bytes_eq, cond, cookie, cookie_of, cookie_peers, CoreFault, different, Event}
 use proofs.Words.{false, History, insert_entry, IsCalmFault, IsCookieRefusal, le-leb, length}
-use proofs.Words.{length-map, lie, List, lt-leb, max_peers, nat_le, None, not, refl, Reply, Rule}
-use proofs.Words.{same, same_decides, Some, sym, true, with_allowed, with_cookie_for, ℕ, ◌++◌, ◌<◌}
-use proofs.Words.{◌||◌, ◌∙◌, ◌∷◌, ◌≡◌, ◌≤◌}
+use proofs.Words.{length-map, lie, List, lt-leb, max_peers, nat_le, refl, Reply, same, same_decides}
+use proofs.Words.{Some, sym, true, with_allowed, with_cookie_for, ℕ, ◌++◌, ◌<◌, ◌||◌, ◌∙◌, ◌∷◌, ◌≡◌}
+use proofs.Words.{◌≤◌}
 use Rattle.std.specs.Map.{lookup}
 use Rattle.admission_rules.proofs.Peers.{lookup_kept, lookup_put}
 use proofs.Calm.{answered}
@@ -51,8 +51,7 @@ module _ (h : History) (rules : AdmissionRules)
       → IsCookieRefusal rules (with_cookie_for rules n c) f
       → IsCalmFault h seat (Event.SetCookieFor n c) f
   cookie_calm seat n c (CoreFault.Refused r) q = (
-    ap (λ b. cond (not b) (Some Rule.CookiesFull) None) (peers_full n c q.1 q.2)
-        ∙ ap Some (sym q.0),
+    grind (arith, peers_full n c q.1 q.2, q.0),
     refl,
   )
   cookie_calm seat n c CoreFault.OutOfMemory q = tt
@@ -61,30 +60,12 @@ module _ (h : History) (rules : AdmissionRules)
     pub cookie_follows : (c : List ℕ)
         → AdmissionFollows (admission_words (answered h seat (Event.SetCookie c) r))
         (record rules { cookie = c })
-    cookie_follows c = record {
-      own = t.own;
-      hidden = t.hidden;
-      creation = t.creation;
-      links = t.links;
-      own_cookie = refl;
-      cookie = t.cookie;
-      peers = t.peers;
-      allowed = t.allowed;
-    }
+    cookie_follows c = search refl
 
     pub names_follow : (ns : List (List ℕ))
         → AdmissionFollows (admission_words (answered h seat (Event.Allow ns) r))
         (with_allowed rules ns)
-    names_follow ns = record {
-      own = t.own;
-      hidden = t.hidden;
-      creation = t.creation;
-      links = t.links;
-      own_cookie = t.own_cookie;
-      cookie = t.cookie;
-      peers = t.peers;
-      allowed = all_once ns rules.allowed (allow_list h) t.allowed;
-    }
+    names_follow ns = search (all_once ns rules.allowed (allow_list h) t.allowed)
 
     -- a cookie for another node is kept for that node alone
     peer : (n c m : List ℕ) (a : Bool) → same n m ≡ a

@@ -143,7 +143,7 @@ module _ {h : History} {parts : Parts} (t : Follows h parts) (seat : ℕ) (body 
           × Follows (just h (made h seat (Event.Frame j body) (Accepted Reply.Done) []))
           (record parts { links = new })
       early_went_on new on =
-          let there = is_there h parts t j p held.at v in
+          let there = is_there t j held.at v in
           let unlike : is_message (awaits j h.entries) ≡ false =
           grind (arith, early, held_state t held) in
           let accepted = early_accepted h seat j body parts.admission t.admission pending ups_so

@@ -1,5 +1,6 @@
 -- What an accepted Status, Challenge or answer to `alive` makes of its link.
 use Rattle.node_core.proofs
+use Rattle.policy_audit.proofs as policy
 use proofs.Words.{admission_words, AdmissionFollows, AdmissionRules, ap, arith, AwaitAnswer}
 use proofs.Words.{AwaitReply, Awaits, Bool, Challenge, challenge_frame, cond, dial_beside, dial_to}
 use proofs.Words.{Dialled, dialled_peer, Entry, eq-eqb, eqb-true, Event, facts, false, found, given}
@@ -13,14 +14,13 @@ use proofs.Words.{status_of, StatusWord, subst, sym, true, welcome, ℕ, [], ◌
 use Rattle.handshake_frames.specs.Spelling.{challenge_bytes}
 use Rattle.link_states.specs.Peer.{link_version}
 use Rattle.policy_audit.specs.Hearing.{link_version as version_of_link}
-use Rattle.policy_audit.proofs.Onward.{answer_taken, challenge_taken, hello_of, name_taken}
-use Rattle.policy_audit.proofs.Onward.{status_taken}
+use policy.Onward.{answer_taken, challenge_taken, hello_of, name_taken, status_taken}
 use proofs.FrameRules.{digest_is, inner_moves, other_facts, own_awaits, same_challenge, same_stay}
 use proofs.FrameRules.{still_dialled, still_introduced}
 use proofs.KeptOn.{version_with}
 use proofs.MovedOn.{AreMoves, stays_but}
-use Rattle.policy_audit.proofs.LinkFrames.{given_up_by, named_links}
-use Rattle.policy_audit.proofs.LinksLeft.{named_numbers}
+use policy.LinkFrames.{given_up_by, named_links}
+use policy.LinksLeft.{named_numbers}
 use proofs.Found.{found_in, none_found}
 use proofs.OneDial.{dials, is_known_dial, one_dial}
 use proofs.LinkTests.{dialled_by, dialling_is}
@@ -61,13 +61,12 @@ module _ (h : History) (rules : AdmissionRules)
         (narrow_frames (owes.own_challenge rules s.challenge ∷ [])) (stays_but None)
     answer_moves s a =
         let on = answer_taken h e answered yes j body is a.0.awaited in
-        inner_moves h e answered yes j body is (ap is_last a.0.awaited)
+        inner_moves answered yes is (ap is_last a.0.awaited)
         (ap (λ x. named_by x body) a.0.awaited) on (LinkState.Reply s)
         (narrow_frames (owes.own_challenge rules s.challenge ∷ []))
         (λ w. (
           w,
-          still_introduced h e answered yes j body is on s.peer s.creation s.visible
-              s.version s.challenge a.1,
+          still_introduced answered yes is on a.1,
         ))
         (grind (arith, a.0.awaited, own_challenge_is j s.challenge a.1.challenge))
 
@@ -77,14 +76,14 @@ module _ (h : History) (rules : AdmissionRules)
         (stays_but None)
     status_moves dial w said a =
         let on = status_taken h e answered yes j body is a.0.awaited in
-        inner_moves h e answered yes j body is (ap is_last a.0.awaited)
+        inner_moves answered yes is (ap is_last a.0.awaited)
         (ap (λ x. named_by x body) a.0.awaited) on (LinkState.Challenge dial)
         (narrow_frames (owes.status_owed w))
         (λ w. (
           w,
           record {
-            peer = still_dialled h e answered yes j body is on dial.peer a.1.peer;
-            challenge = a.1.challenge ∙ sym (same_challenge h e answered yes j body is on);
+            peer = still_dialled answered yes is on a.1.peer;
+            challenge = a.1.challenge ∙ sym (same_challenge answered yes is on);
           },
         ))
         (grind (arith, a.0.awaited, said))
@@ -96,7 +95,7 @@ module _ (h : History) (rules : AdmissionRules)
         (stays_but None)
     challenge_moves dial f asked named a =
         let on = challenge_taken h e answered yes j body is f a.0.awaited asked in
-        inner_moves h e answered yes j body is (ap is_last a.0.awaited)
+        inner_moves answered yes is (ap is_last a.0.awaited)
         (ap (λ x. named_by x body) a.0.awaited) on (LinkState.Ack (found rules dial f))
         (narrow_frames (owes.reply_owed rules dial.peer dial.challenge f.challenge)) (λ w. (
           w,
@@ -112,7 +111,7 @@ module _ (h : History) (rules : AdmissionRules)
                 version_is = version_is (hello_of f) j e on.given;
               },
             );
-            challenge = a.1.challenge ∙ sym (same_challenge h e answered yes j body is on);
+            challenge = a.1.challenge ∙ sym (same_challenge answered yes is on);
           },
         ))
         (grind (
@@ -178,7 +177,7 @@ module _ (h : History) (legal : IsPlayed h) (rules : AdmissionRules)
             version_is = version_is h rules t f j e on.given;
           },
         );
-        challenge = a.1 ∙ sym (same_challenge h e answered yes j body is on);
+        challenge = a.1 ∙ sym (same_challenge answered yes is on);
       }
 
   name_moves : (next : LinkState) (more : List OutFrame) (gone : Option ℕ)
@@ -193,7 +192,7 @@ module _ (h : History) (legal : IsPlayed h) (rules : AdmissionRules)
       eq-eqb j j refl,
       frames,
     );
-    others = λ l apart stays. other_facts h e answered yes j body is l apart
+    others = λ l apart stays. other_facts answered yes is l apart
         (kept_open l (ends l ∙ ap not stays));
     waits = λ l apart stays. grind (
       arith,
@@ -229,7 +228,7 @@ module _ (h : History) (legal : IsPlayed h) (rules : AdmissionRules)
         → Awaits (facts (just h e) j) (cond up AwaitAnswer AwaitReply) false
     awaited up u =
         subst (λ b. Awaits (facts (just h e) j) (cond b AwaitAnswer AwaitReply) false) u
-        (own_awaits h e answered yes j body is
+        (own_awaits answered yes is
         (name_taken h e answered yes j body is f a.0.awaited said)
         (kept_open j (grind (arith, eq-eqb j j refl))))
 

@@ -3,8 +3,8 @@ use Rattle.node_core.proofs
 use Rattle.node_core.specs
 use proofs.Words.{Accepted, ap, audit_of, Bool, Change, Climbs, committed, cond, creation, Entry}
 use proofs.Words.{Event, Follows, History, IsAlone, IsChange, IsNext, just, KeptLink, List, listed}
-use proofs.Words.{lose, map, None, Option, Parts, past, Pid, Reply, reverse, Running, slow_links}
-use proofs.Words.{Some, subst, sym, with_entry, ℕ, [], ◌&&◌, ◌==◌, ◌∙◌, ◌≡◌}
+use proofs.Words.{lose, map, None, Option, Parts, past, Pid, Reply, reverse, rules, Running}
+use proofs.Words.{slow_links, Some, subst, sym, with_entry, ℕ, [], ◌&&◌, ◌==◌, ◌∙◌, ◌≡◌}
 use Rattle.group_monitors.specs.Follows.{FollowsPolicy}
 use specs.declared.slow.End.{End}
 use specs.declared.slow.Ending.{Ending}
@@ -80,14 +80,14 @@ module _ {h : History} {old : Parts} (was : Follows h old) (seat : ℕ) (ev : Ev
 
       -- what the entry changes by itself doesn't hang on the change that it records
       own_change : (xs : List Change) → IsChange h (just h (done own)) xs → IsChange h k xs
-      own_change xs t = record { scopes = t.scopes; some = t.some; groups = t.groups }
+      own_change xs t = search rules
 
       whole_change : {stops : List ℕ → Bool} → LeavesPeers h (just h (done own)) stops
           → (xs : List Change) → IsChange h (just h (done own)) xs
           → AreWithLost ends stops xs old.scopes cs → AreListed → IsChange h final cs
       whole_change {stops} leaves xs change lost lists =
           lost_change h k final stops
-          (record { peers = leaves.peers; others = leaves.others }) ends
+          (search rules) ends
           (λ p. goes_once k now.sound.played p ends climb up)
           (λ p q.
           ap (λ b. b && p.creation == creation h) (goes_far k now.sound.played p ends up q))

@@ -2,11 +2,10 @@
 use Rattle.node_core.proofs
 use Rattle.node_core.specs
 use proofs.Words.{agrees, AllByRecursion, ap, append-nil, arith, Bool, Climbs, committed, cond}
-use proofs.Words.{false, filter, flat_map, History, is_slow, is_some, IsLinkOf, IsPlayed, KeptLink}
-use proofs.Words.{length, lie, link_words, links, LinksFollow, List, list_all, list_any, ltb-true}
-use proofs.Words.{map, max_waiting, nat_lt, None, Option, option_to_list, Pid, present_link, refl}
-use proofs.Words.{reverse, same, same_decides, slow_links, Some, subst, sym, true, up_peer, ℕ, []}
-use proofs.Words.{◌&&◌, ◌++◌, ◌||◌, ◌∙◌, ◌∷◌, ◌≡◌}
+use proofs.Words.{false, filter, flat_map, History, is_slow, IsLinkOf, IsPlayed, KeptLink, lie}
+use proofs.Words.{link_words, links, LinksFollow, List, list_all, list_any, ltb-true, map, nat_lt}
+use proofs.Words.{Option, option_to_list, Pid, present_link, refl, reverse, same, same_decides}
+use proofs.Words.{slow_links, subst, sym, true, ℕ, [], ◌++◌, ◌∙◌, ◌∷◌, ◌≡◌}
 use Rattle.std.proofs.lemmas.List.{reverse-reverse}
 use Rattle.policy_audit.proofs.KeptLinks.{links_fall}
 use Rattle.policy_audit.proofs.KeptNumbers.{falls_climbs, falls_left}
@@ -33,13 +32,7 @@ end_by x o = map (λ n. record { number = x.number; peer = n }) (option_to_list 
 pub committed_ends : (xs : List KeptLink) → ends_of (map committed xs) ≡ ends_of xs
 committed_ends [] = refl
 committed_ends (x ∷ xs) =
-    ap (λ fs. ends_with_one (nat_lt max_waiting (length fs)) (committed x) (map committed xs))
-    (append-nil (x.frames ++ x.prepared)) ∙ by (is_overfull x) (committed_ends xs)
-  where
-    by : (b : Bool) → ends_of (map committed xs) ≡ ends_of xs
-        → ends_with_one b (committed x) (map committed xs) ≡ ends_with_one b x xs
-    by true q = ap (λ ys. end_of x ++ ys) q
-    by false q = q
+    grind (arith, committed_ends xs, append-nil (x.frames ++ x.prepared))
 
 -- these are the ends of these links
 abbrev AreOf : List End → List KeptLink → Type 0
@@ -50,22 +43,7 @@ module _ (k : History) (played : IsPlayed k) where
   ends_slow : (xs : List KeptLink) → AllByRecursion (IsLinkOf (link_words k)) xs
       → AreOf (ends_of xs) (filter is_slow_link xs)
   ends_slow [] a = refl
-  ends_slow (x ∷ xs) a =
-      ap (λ fs. numbers (ends_with_one (nat_lt max_waiting (length fs)) x xs))
-      (ap (λ fs. x.frames ++ fs) a.0.idle ∙ append-nil x.frames)
-      ∙ by (nat_lt max_waiting (length x.frames)) (ends_slow xs a.1)
-    where
-      by_peer : (o : Option (List ℕ)) → AreOf (ends_of xs) (filter is_slow_link xs)
-          → AreOf (end_by x o ++ ends_of xs)
-          (cond (is_some o) (x ∷ filter is_slow_link xs) (filter is_slow_link xs))
-      by_peer None q = q
-      by_peer (Some n) q = ap (λ ns. x.number ∷ ns) q
-
-      by : (b : Bool) → AreOf (ends_of xs) (filter is_slow_link xs)
-          → AreOf (ends_with_one b x xs) (cond (b && is_some (up_peer x.state))
-          (x ∷ filter is_slow_link xs) (filter is_slow_link xs))
-      by false q = q
-      by true q = by_peer (up_peer x.state) q
+  ends_slow (x ∷ xs) a = grind (arith, ends_slow xs a.1, a.0.idle, append-nil x.frames)
 
   module _ (kept : List KeptLink) (t : LinksFollow (link_words k) kept) where
     pub slow_ends : slow_links k ≡ reverse (numbers (ends_of kept))
@@ -84,16 +62,7 @@ AreUp k ends = AllByRecursion (λ x. IsUpWith k x.number x.peer) ends
 pub ends_up : (k : History) (xs : List KeptLink) → AllByRecursion (IsLinkOf (link_words k)) xs
     → AreUp k (ends_of xs)
 ends_up k [] a = tt
-ends_up k (x ∷ xs) a = by (is_overfull x) (ends_up k xs a.1)
-  where
-    by_peer : (o : Option (List ℕ)) → up_peer x.state ≡ o → AreUp k (ends_of xs)
-        → AreUp k (end_by x o ++ ends_of xs)
-    by_peer None q rest = rest
-    by_peer (Some n) q rest = (up_with k x.number x.state n a.0.state q, rest)
-
-    by : (b : Bool) → AreUp k (ends_of xs) → AreUp k (ends_with_one b x xs)
-    by false rest = rest
-    by true rest = by_peer (up_peer x.state) refl rest
+ends_up k (x ∷ xs) a = grind (arith, ends_up k xs a.1, up_with k x.number x.state, a.0.state)
 
 -- ---- their peers
 
@@ -139,11 +108,5 @@ module _ (k : History) (played : IsPlayed k) (p : Pid) where
   pub goes_far : (ends : List End) → AreUp k ends → goes p ends ≡ true
       → same p.node k.opening.name ≡ false
   goes_far [] a q = lie (sym q)
-  goes_far (x ∷ xs) a q = by (same p.node x.peer) refl q (goes_far xs a.1)
-    where
-      by : (b : Bool) → same p.node x.peer ≡ b → (b || goes p xs) ≡ true
-          → (goes p xs ≡ true → same p.node k.opening.name ≡ false)
-          → same p.node k.opening.name ≡ false
-      by true m q others =
-          ap (λ n. same n k.opening.name) ((same_decides p.node x.peer).0 m) ∙ a.0.other
-      by false m q others = others q
+  goes_far (x ∷ xs) a q =
+      grind (arith, goes_far xs a.1, same_decides p.node x.peer, a.0.other)

@@ -15,9 +15,7 @@ pub use Rattle.node_core.specs.Step.{made}
 module _ (h : History) (seat : ℕ) (ev : Event) (space : is_full h ≡ false) where
   judge : (o : Option Rule) → first_broken (checks h seat ev) ≡ o
       → verdict h seat ev ≡ judged h seat ev o
-  judge o found =
-      ap (λ b. cond b (Refused Rule.EntriesFull)
-      (judged h seat ev (first_broken (checks h seat ev)))) space ∙ ap (judged h seat ev) found
+  judge o found = rw space (ap (judged h seat ev) found)
 
   pub accepted_now : (r : Reply) → first_broken (checks h seat ev) ≡ None → answer h seat ev ≡ r
       → Accepted r ≡ verdict h seat ev
@@ -34,7 +32,7 @@ module _ (h : History) (seat : ℕ) (ev : Event) (space : is_full h ≡ false) w
       → IsStep h (made h seat ev v cs)
   answered_now v cs is = record {
     number = by ev;
-    judged = is ∙ ap (λ b. cond b (Refused Rule.EntriesFull) (judgement h seat ev)) space;
+    judged = rw space at is;
   }
     where
       by : (x : Event) → IsNumbered h (next_number h) x
@@ -83,16 +81,15 @@ real h e next = grind (arith, next.number, eqb-true e.number 0)
 
 pub one_entered : (h : History) (e : Entry) → IsAlone h e
     → entered (e ∷ h.entries) ≡ suc (entered h.entries)
-one_entered h e next =
-    ap (λ b. cond b (suc (entered h.entries)) (entered h.entries)) (real h e next)
+one_entered h e next = grind (arith, real h e next)
 
 pub sound_now : (h : History) (e : Entry) → IsSound h → IsAlone h e → IsSound (just h e)
 sound_now h e sound next = record {
   played = (answered_by next, sound.played);
   fits = sound.fits;
-  few = let space = next.room in let one = one_entered h e next in omega (arith, space, one);
+  few = let space = next.room in let one = one_entered h e next in omega arith;
   few_spawned = let more = spawned_more e h.entries in let so_far = sound.few_spawned in
-      let one = one_entered h e next in omega (arith, more, so_far, one);
+      let one = one_entered h e next in omega arith;
   links = sound.links;
 }
 

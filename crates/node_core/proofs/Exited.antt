@@ -178,7 +178,7 @@ module _ (h : History) (seat : ℕ) (parts : Parts) (t : Follows h parts) (p : P
                 count = (let was = t.processes.count in
                     let more = exits_more h exit_entry it refl p refl in
                     let still = spawned_exited h exit_entry it refl p refl in
-                    omega (arith, was, more, still, fewer));
+                    omega arith);
               })
               (record {
                 running = zipped_map (HasParted away) (λ r. r.scope) (λ r. r.scope)

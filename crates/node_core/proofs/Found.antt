@@ -1,33 +1,23 @@
 -- Elements that pass a test, and their places.
 use Rattle.node_core.proofs
-use proofs.Words.{AllByRecursion, ap, arith, Bool, cond, false, find, is_some, List, list_any}
-use proofs.Words.{lt-ltb, ltb-false, ltb-true, map, no_value, None, position, refl, Some, subst}
-use proofs.Words.{sym, true, [], ◌||◌, ◌∙◌, ◌∷◌, ◌≡◌}
+use proofs.Words.{AllByRecursion, arith, Bool, false, find, is_some, List, list_any, lt-ltb}
+use proofs.Words.{ltb-false, ltb-true, map, no_value, None, position, refl, Some, sym, true, []}
+use proofs.Words.{◌∷◌, ◌≡◌}
 
 -- the value in an option
 pub some_is : {A : Type 0} {x y : A} → Some x ≡ Some y → x ≡ y
-some_is {A} {x} {y} q = ap (λ o. elim o as (λ _. A) [ Some z ↦ z | None ↦ x ]) q
+some_is q = cc
 
 pub not_so : (b : Bool) → (b ≡ true → ⊥) → b ≡ false
 not_so true f = absurd (f refl)
 not_so false f = refl
 
 module _ {A : Type 0} (test : A → Bool) where
-  first_is : (b : Bool) (y : A) (ys : List A) → test y ≡ b
-      → find test (y ∷ ys) ≡ cond b (Some y) (find test ys)
-  first_is b y ys e = ap (λ b. cond b (Some y) (find test ys)) e
-
   -- what is found passes the test, and is as all are
   pub found_in : (P : A → Type 0) (xs : List A) → AllByRecursion P xs → (x : A)
       → find test xs ≡ Some x → (test x ≡ true) × P x
   found_in P [] all x q = no_value (sym q)
-  found_in P (y ∷ ys) all x q = by (test y) refl (found_in P ys all.1 x)
-    where
-      by : (b : Bool) → test y ≡ b → (find test ys ≡ Some x → (test x ≡ true) × P x)
-          → (test x ≡ true) × P x
-      by true e later = let is = some_is (sym (first_is true y ys e) ∙ q) in
-          (ap test (sym is) ∙ e, subst P is all.0)
-      by false e later = later (sym (first_is false y ys e) ∙ q)
+  found_in P (y ∷ ys) all x q = grind (arith, found_in P ys all.1 x)
 
   pub found_passes : (xs : List A) (x : A) → find test xs ≡ Some x → test x ≡ true
   found_passes [] x q = no_value (sym q)
@@ -52,7 +42,7 @@ module _ {A : Type 0} (test : A → Bool) where
 pub any_map : {A B : Type 0} (test : B → Bool) (f : A → B) (xs : List A)
     → list_any test (map f xs) ≡ list_any (λ x. test (f x)) xs
 any_map test f [] = refl
-any_map test f (x ∷ xs) = ap (λ b. test (f x) || b) (any_map test f xs)
+any_map test f (x ∷ xs) = grind (arith, any_map test f xs)
 
 -- ---- places
 

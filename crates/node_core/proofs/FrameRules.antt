@@ -1,5 +1,6 @@
 -- The rules for a frame of the handshake, as a state knows them, are those of the policy.
 use Rattle.node_core.proofs
+use Rattle.policy_audit.proofs as policy
 use proofs.Words.{admission_words, AdmissionFollows, AdmissionRules, always, and-true, ap, arith}
 use proofs.Words.{Awaited, Awaits, awaits, Bool, challenge_in, checks, cond, cookie, cookie_of}
 use proofs.Words.{dialled_peer, digest_for, Entry, entry_link, entry_rows, eq-eqb, eqb-true, Event}
@@ -18,12 +19,12 @@ use Rattle.cookie_digest.specs.Digest.{digest_of}
 use Rattle.link_states.specs.Pending.{is_up}
 use proofs.Cookies.{cookie_is}
 use proofs.LinkTests.{allowed_by}
-use Rattle.policy_audit.proofs.Onward.{frame_open}
-use Rattle.policy_audit.proofs.LinkFrames.{handshake_links, refused_links}
+use policy.Onward.{frame_open}
+use policy.LinkFrames.{handshake_links, refused_links}
 use proofs.KeptOn.{facts_same, filter_all, version_with}
 use proofs.MovedOn.{AreMoves, moved_follow, stays_but, still_unbegun}
-use Rattle.policy_audit.proofs.HeardNow.{refused_heard}
-use Rattle.policy_audit.proofs.LinksLeft.{refused_numbers}
+use policy.HeardNow.{refused_heard}
+use policy.LinksLeft.{refused_numbers}
 use proofs.Entered.{made, next_now, refused_now, step_follows}
 use proofs.HeardFrames.{is_early, is_last_state}
 use Rattle.link_states.specs.Checks as state
@@ -96,8 +97,8 @@ pub same_stay : (test more : ℕ → Bool) (xs : List ℕ) → ((l : ℕ) → te
     → filter test xs ≡ filter more xs
 same_stay test more xs q = λ i. filter (λ l. q l i) xs
 
-module _ (h : History) (e : Entry) (answered : IsStep h e) (yes : is_accepted e.verdict ≡ true)
-    (j : ℕ) (body : List ℕ) (is : e.event ≡ Event.Frame j body) where
+module _ {h : History} {e : Entry} (answered : IsStep h e) (yes : is_accepted e.verdict ≡ true)
+    {j : ℕ} {body : List ℕ} (is : e.event ≡ Event.Frame j body) where
   abbrev k : History
   k = just h e
 
@@ -120,16 +121,16 @@ module _ (h : History) (e : Entry) (answered : IsStep h e) (yes : is_accepted e.
   -- what was known of the peer is known still
   pub still_dialled : {next : Awaited} {ends : Bool}
       (on : IsOnward j h.entries e (given j h.entries) (peer_of j h.entries) next ends)
-      (name : List ℕ) → IsPeer (facts h j) name → IsPeer (facts k j) name
-  still_dialled on name a = record { peer = on.peer ∙ a.peer; other = a.other }
+      {name : List ℕ} → IsPeer (facts h j) name → IsPeer (facts k j) name
+  still_dialled on a = record { peer = on.peer ∙ a.peer; other = a.other }
 
   pub still_introduced : {next : Awaited} {ends : Bool}
       (on : IsOnward j h.entries e (given j h.entries) (peer_of j h.entries) next ends)
-      (name : List ℕ) (creation : ℕ) (visible : Bool) (version number : ℕ)
+      {name : List ℕ} {creation : ℕ} {visible : Bool} {version number : ℕ}
       → IsIntroduced (facts h j) name creation visible version number
       → IsIntroduced (facts k j) name creation visible version number
-  still_introduced on name creation visible version number a = record {
-    peer = still_dialled on name a.peer;
+  still_introduced on a = record {
+    peer = still_dialled on a.peer;
     said = (
       a.said.0,
       record {

@@ -59,7 +59,7 @@ module _ {o : Opening} {audit : Log} {kept : Kept} (core : IsCore o audit kept) 
     handed_out (Some page) some none told = record {
       within = limit ∙ core.within;
       legal = rw entries core.legal;
-      had = rw (entries, some.1) (omega (arith, more));
+      had = rw (entries, some.1) (omega arith);
       reach = rw (entries, some.1) told;
       follows = rw entries core.follows;
     }
@@ -67,5 +67,5 @@ module _ {o : Opening} {audit : Log} {kept : Kept} (core : IsCore o audit kept) 
 -- a page that isn't the last one is handed out
 pub not_none : (P Q : Type 0) (length most : ℕ) → most < length → (result : Option (List Entry))
     → IfNone result (P × (length ≤ most)) → IfNone result Q
-not_none P Q length most more None none = absurd (let last = none.1 in omega (arith, more, last))
+not_none P Q length most more None none = absurd (let last = none.1 in omega arith)
 not_none P Q length most more (Some page) none = none

@@ -1,10 +1,10 @@
 -- A frame of the handshake, as the node hears it: the state of its link, and what is heard of it.
 use Rattle.node_core.proofs
-use proofs.Words.{accepted_as, AdmissionRules, ap, arith, asks, Bool, Event, facts, false, Follows}
-use proofs.Words.{frame_taken, get_or, Heard, History, is_last, is_whole, IsLinkOf, IsState}
-use proofs.Words.{KeptLink, length, link_place, link_words, LinkFacts, LinkState, List, may_tell}
-use proofs.Words.{nat_le, no_value, None, Option, option_map, Parts, Pending, refl, Some, subst}
-use proofs.Words.{sym, true, ℕ, ◌&&◌, ◌<◌, ◌≡◌}
+use proofs.Words.{accepted_as, AdmissionRules, arith, Bool, Event, facts, false, Follows, get_or}
+use proofs.Words.{Heard, History, is_last, is_whole, IsLinkOf, IsState, KeptLink, length}
+use proofs.Words.{link_place, link_words, LinkFacts, LinkState, List, may_tell, nat_le, no_value}
+use proofs.Words.{None, Option, option_map, Parts, Pending, refl, Some, subst, sym, true, ℕ, ◌&&◌}
+use proofs.Words.{◌<◌, ◌≡◌}
 use proofs.KeptOn.{each_at, place_is}
 use proofs.Found.{some_is}
 
@@ -45,10 +45,10 @@ module _ (f : LinkFacts) (s : LinkState) (a : IsState f s) where
 pub unwhole_quiet : (h : History) (j : ℕ) (body : List ℕ) → is_whole j h.entries ≡ false
     → may_tell h.opening h.entries (Event.Frame j body) ≡ false
 unwhole_quiet h j body unwhole =
-    ap (λ b. b && asks (frame_taken h.opening j h.entries body)) unwhole
+    grind (arith, unwhole)
 
 -- the link at the place of a number
-module _ (h : History) (parts : Parts) (t : Follows h parts) (j p : ℕ)
+module _ {h : History} {parts : Parts} (t : Follows h parts) (j : ℕ) {p : ℕ}
     (at : link_place j parts.links ≡ Some p) (d : KeptLink) where
   pub is_there : (p < length parts.links) × ((get_or parts.links p d).number ≡ j)
   is_there = place_is parts.links j p d at

@@ -5,13 +5,13 @@ use proofs.Words.{dial_beside, dialled_peer, Entry, eq-eqb, eqb-true, Event, fac
 use proofs.Words.{find, first_broken, Follows, get_or, get_or-set_same, HaveEnded, HaveMoved, Heard}
 use proofs.Words.{Hears, History, in_state, is_dialled, is_dialling, is_empty, is_full, is_last}
 use proofs.Words.{is_name_up, is_open, is_some, is_whole, IsAlone, IsReady, IsState, just}
-use proofs.Words.{kept_climbs, KeptLink, length, lie, link_place, LinkState, List, list_all}
-use proofs.Words.{list_any, ltb-true, map, moved_on, narrow_frames, nat_eq, nat_lt, None}
-use proofs.Words.{none_begun, not, older_of, opened, Option, option_map, option_map_or, OutFrame}
-use proofs.Words.{Parts, Pending, refl, refusal_owes, Refused, Rule, rule_of, same, set, Some}
-use proofs.Words.{state_checks, StatelessLink, subst, suc, sym, taken, true, unroomed, up_peer}
-use proofs.Words.{waiting, with_room, without_link, without_number, zero, ℕ, [], ◌++◌, ◌<◌, ◌∙◌}
-use proofs.Words.{◌∷◌, ◌≡◌, ◌≤◌}
+use proofs.Words.{kept_climbs, KeptLink, length, link_place, LinkState, List, list_all, list_any}
+use proofs.Words.{ltb-true, map, moved_on, narrow_frames, nat_eq, nat_lt, None, none_begun, not}
+use proofs.Words.{older_of, opened, Option, option_map, option_map_or, OutFrame, Parts, Pending}
+use proofs.Words.{refl, refusal_owes, Refused, Rule, rule_of, same, set, Some, state_checks}
+use proofs.Words.{StatelessLink, subst, suc, sym, taken, true, unroomed, up_peer, waiting}
+use proofs.Words.{with_room, without_link, without_number, zero, ℕ, [], ◌++◌, ◌<◌, ◌∙◌, ◌∷◌, ◌≡◌}
+use proofs.Words.{◌≤◌}
 use Rattle.policy_audit.proofs.Finished.{whole_awaits}
 use Rattle.std.specs.List.{insert, remove}
 use Rattle.link_states.specs.Pending.{is_up}
@@ -28,9 +28,9 @@ use Rattle.link_states.specs.Checks as state
 
 put_back : {A : Type 0} (xs : List A) (p : ℕ) (y : A) → p < length xs
     → insert (remove xs p) p y ≡ set xs p y
-put_back [] p y less = absurd (omega (arith, less))
+put_back [] p y less = absurd (omega arith)
 put_back (x ∷ xs) zero y less = refl
-put_back (x ∷ xs) (suc p) y less = ap (λ ys. x ∷ ys) (put_back xs p y (omega (arith, less)))
+put_back (x ∷ xs) (suc p) y less = grind (arith, put_back xs p y)
 
 changed_before : {A : Type 0} (xs : List A) (p : ℕ) (y : A) → remove (set xs p y) p ≡ remove xs p
 changed_before [] p y = refl
@@ -39,10 +39,9 @@ changed_before (x ∷ xs) (suc p) y = ap (λ ys. x ∷ ys) (changed_before xs p 
 
 found_beside : {A : Type 0} (test : A → Bool) (xs : List A) (p : ℕ) (d : A) → p < length xs
     → test (get_or xs p d) ≡ false → find test (remove xs p) ≡ find test xs
-found_beside test [] p d less q = absurd (omega (arith, less))
-found_beside test (x ∷ xs) zero d less q = ap (λ b. cond b (Some x) (find test xs)) (sym q)
-found_beside test (x ∷ xs) (suc p) d less q =
-    ap (cond (test x) (Some x)) (found_beside test xs p d (omega (arith, less)) q)
+found_beside test [] p d less q = absurd (omega arith)
+found_beside test (x ∷ xs) zero d less q = grind arith
+found_beside test (x ∷ xs) (suc p) d less q = grind (arith, found_beside test xs p d)
 
 -- of links whose numbers climb, each but the one at a place has another number
 above_stay : (n : ℕ) (xs : List KeptLink) → list_all (λ m. nat_lt n m) (map (λ x. x.number) xs)
@@ -52,15 +51,13 @@ above_stay n (x ∷ xs) l = grind (arith, ltb-true n x.number, above_stay n xs)
 
 others_stay : (xs : List KeptLink) (p : ℕ) (d : KeptLink) → Climbs (map (λ x. x.number) xs)
     → p < length xs → filter (λ x. not (nat_eq x.number (get_or xs p d).number)) xs ≡ remove xs p
-others_stay [] p d c less = absurd (omega (arith, less))
+others_stay [] p d c less = absurd (omega arith)
 others_stay (x ∷ xs) zero d c less = grind (arith, above_stay x.number xs c.0)
 others_stay (x ∷ xs) (suc p) d c less =
-    let above_it = below x.number xs p d c.0 (omega (arith, less)) in
+    let above_it = below x.number xs p d c.0 (omega arith) in
     let unlike : nat_eq x.number (get_or xs p d).number ≡ false =
     grind (arith, eqb-true x.number (get_or xs p d).number, above_it) in
-    ap (λ b. cond (not b) (x ∷ filter (λ y. not (nat_eq y.number (get_or xs p d).number)) xs)
-    (filter (λ y. not (nat_eq y.number (get_or xs p d).number)) xs)) unlike
-    ∙ ap (λ ys. x ∷ ys) (others_stay xs p d c.1 (omega (arith, less)))
+    grind (arith, unlike, others_stay xs p d c.1)
 
 -- ---- a link that is taken out
 
@@ -80,8 +77,8 @@ pub record IsHeld (h : History) (kept : List KeptLink) (j p : ℕ) (v w out : Ke
 alike_there : (xs : List KeptLink) (p : ℕ) (d w : KeptLink) → unroomed w ≡ unroomed (get_or xs p d)
     → map unroomed (set xs p w) ≡ map unroomed xs
 alike_there [] p d w q = refl
-alike_there (x ∷ xs) zero d w q = ap (λ y. y ∷ map unroomed xs) q
-alike_there (x ∷ xs) (suc p) d w q = ap (λ ys. unroomed x ∷ ys) (alike_there xs p d w q)
+alike_there (x ∷ xs) zero d w q = grind arith
+alike_there (x ∷ xs) (suc p) d w q = grind (arith, alike_there xs p d w)
 
 -- more room alone changes nothing
 pub room_follows : {h : History} {parts : Parts} → Follows h parts
@@ -89,17 +86,13 @@ pub room_follows : {h : History} {parts : Parts} → Follows h parts
     ≡ get_or parts.links p v → w ≡ with_room v w.room
     → Follows h (record parts { links = set parts.links p w })
 room_follows {h} {parts} t j {p} {v} {w} at is roomy =
-    alike_again h parts t (set parts.links p w)
+    alike_again t (set parts.links p w)
     (alike_there parts.links p v w
     (ap unroomed (roomy ∙ ap (λ (x : KeptLink). with_room x w.room) is)))
 
 -- a side that awaits its last frame isn't whole
 pub last_unwhole : (j : ℕ) (es : List Entry) → is_last (awaits j es) ≡ true → is_whole j es ≡ false
-last_unwhole j es last = by (is_whole j es) refl
-  where
-    by : (b : Bool) → is_whole j es ≡ b → is_whole j es ≡ false
-    by false w = w
-    by true w = lie (sym last ∙ ap is_last (whole_awaits (opened j es) (taken j es) w))
+last_unwhole j es last = grind (arith, whole_awaits (opened j es) (taken j es))
 
 -- before its side is whole a link that is taken out has begun no message
 pub taken_unbegun : {h : History} {parts : Parts} → Follows h parts → (j : ℕ) {p : ℕ}
@@ -107,11 +100,11 @@ pub taken_unbegun : {h : History} {parts : Parts} → Follows h parts → (j : �
     → v ≡ get_or parts.links p v → w ≡ with_room v w.room
     → out ≡ get_or (set parts.links p w) p out → out.begun ≡ None
 taken_unbegun {h} {parts} t j {p} {v} {w} {out} at unwhole is roomy seen =
-    let there = is_there h parts t j p at v in
+    let there = is_there t j at v in
     ap (λ (x : KeptLink). x.begun)
     (seen ∙ get_or-set_same parts.links p w out there.0 ∙ roomy
     ∙ ap (λ (x : KeptLink). with_room x w.room) is)
-    ∙ (link_there h parts t j p at v).begun
+    ∙ (link_there t j at v).begun
     ∙ ap (λ n. begun h.opening n h.entries) there.1
     ∙ none_begun h.opening h.entries t.sound.played j unwhole
 
@@ -119,7 +112,7 @@ module _ {h : History} {parts : Parts} (t : Follows h parts) {j p : ℕ} {v w ou
     {s : LinkState} {link : StatelessLink} {left : List KeptLink}
     (held : IsHeld h parts.links j p v w out s link left) where
   here : p < length parts.links
-  here = (is_there h parts t j p held.at v).0
+  here = (is_there t j held.at v).0
 
   with_state : in_state s link ≡ w
   with_state = held.apart ∙ held.taken ∙ get_or-set_same parts.links p w out here
@@ -132,7 +125,7 @@ module _ {h : History} {parts : Parts} (t : Follows h parts) {j p : ℕ} {v w ou
   held_is = ap (λ (x : KeptLink). x.state) as_kept
 
   pub held_number : link.number ≡ j
-  held_number = ap (λ (x : KeptLink). x.number) as_kept ∙ (is_there h parts t j p held.at v).1
+  held_number = ap (λ (x : KeptLink). x.number) as_kept ∙ (is_there t j held.at v).1
 
   -- the link at the place, seen again before it was taken out
   pub held_seen : {u : KeptLink} → u ≡ get_or (set parts.links p w) p u → u.state ≡ s
@@ -140,11 +133,11 @@ module _ {h : History} {parts : Parts} (t : Follows h parts) {j p : ℕ} {v w ou
       ap (λ (x : KeptLink). x.state) (is ∙ get_or-set_same parts.links p w u here ∙ sym with_state)
 
   pub held_state : IsState (facts h j) s
-  held_state = subst (IsState (facts h j)) (sym held_is) (state_there h parts t j p held.at v)
+  held_state = subst (IsState (facts h j)) (sym held_is) (state_there t j held.at v)
 
   pub held_ready : (n : ℕ) → n ≤ w.room → IsReady link n
   held_ready n fits = record {
-    idle = ap (λ (x : KeptLink). x.prepared) as_kept ∙ (link_there h parts t j p held.at v).idle;
+    idle = ap (λ (x : KeptLink). x.prepared) as_kept ∙ (link_there t j held.at v).idle;
     room = subst (λ (m : ℕ). n ≤ m) (sym (ap (λ (x : KeptLink). x.room) with_state)) fits;
   }
 
@@ -174,10 +167,10 @@ module _ {h : History} {parts : Parts} (t : Follows h parts) {j p : ℕ} {v w ou
       ∙ by (is_empty (waiting h j ++ more)) these
     where
       there : (get_or parts.links p v).number ≡ j
-      there = (is_there h parts t j p held.at v).1
+      there = (is_there t j held.at v).1
 
       waits : link.frames ≡ waiting h j
-      waits = ap (λ (x : KeptLink). x.frames) as_kept ∙ (link_there h parts t j p held.at v).frames
+      waits = ap (λ (x : KeptLink). x.frames) as_kept ∙ (link_there t j held.at v).frames
           ∙ ap (waiting h) there
 
       by : (b : Bool) {fs gs : List OutFrame} → fs ≡ gs
@@ -207,7 +200,7 @@ module _ {h : History} {parts : Parts} (t : Follows h parts) {j p : ℕ} {v w ou
       × Follows (just h (made h seat (Event.Frame j body) (Refused r) []))
       (record parts { links = new })
   held_broke seat body unwhole rules pending same_rules r frames hears new ends =
-      let there = is_there h parts t j p held.at v in
+      let there = is_there t j held.at v in
       let entered =
       refused_next h seat j body r held.space (same_rules ∙ ap (option_map rule_of) hears.2
       ∙ ap Some (sym hears.1)) in
@@ -236,14 +229,13 @@ module _ {h : History} {parts : Parts} (t : Follows h parts) {j p : ℕ} {v w ou
       → dial_beside state left ≡ dial_beside state parts.links
   beside_same none (LinkState.Reply r) = ap (option_map (λ (x : KeptLink). x.number))
       (others_found (λ x. option_map_or (λ n. same n r.peer) (dialled_peer x.state) false)
-      (ap (λ o. option_map_or (λ n. same n r.peer) o false)
-      (ap dialled_peer (sym held_is) ∙ none)))
+      (grind (arith, ap dialled_peer held_is, none)))
   beside_same none state = refl
 
   pub older_same : up_peer s ≡ None → (n : List ℕ) → older_of n left ≡ older_of n parts.links
   older_same none n = ap (option_map (λ (x : KeptLink). x.number))
       (others_found (λ x. option_map_or (λ m. same m n) (up_peer x.state) false)
-      (ap (λ o. option_map_or (λ m. same m n) o false) (ap up_peer (sym held_is) ∙ none)))
+      (grind (arith, ap up_peer held_is, none)))
 
   -- and as many of them pass a test of their states that it fails itself
   others_pass : (f : LinkState → Option (List ℕ)) → f s ≡ None → (n : List ℕ)
@@ -252,8 +244,7 @@ module _ {h : History} {parts : Parts} (t : Follows h parts) {j p : ℕ} {v w ou
   others_pass f none n =
       let test : KeptLink → Bool = λ x. option_map_or (λ m. same m n) (f x.state) false in
       any_found test left
-      ∙ ap is_some (others_found test (ap (λ o. option_map_or (λ m. same m n) o false)
-      (ap f (sym held_is) ∙ none)))
+      ∙ ap is_some (others_found test (grind (arith, ap f held_is, none)))
       ∙ sym (any_found test parts.links)
 
   pub ups_beside : up_peer s ≡ None → (n : List ℕ)

@@ -1,19 +1,19 @@
 -- Own processes that join groups and leave them.
 use Rattle.node_core.proofs
 use proofs.Words.{Accepted, admission_words, AdmissionFollows, All, all_hold, answer, ap, arith}
-use proofs.Words.{Bool, Change, checks, cond, CoreFault, count_after_join, count_after_leave}
-use proofs.Words.{count_of, Entry, Event, facts, false, first_broken, Follows, get_or, heard}
-use proofs.Words.{History, if_among, if_told, is_any_joined, is_empty, is_full, is_local, is_number}
+use proofs.Words.{Change, checks, cond, CoreFault, count_after_join, count_after_leave, count_of}
+use proofs.Words.{Entry, Event, facts, false, first_broken, Follows, get_or, heard, History}
+use proofs.Words.{if_among, if_told, is_any_joined, is_empty, is_full, is_local, is_number}
 use proofs.Words.{is_running, is_said, IsCalmFault, IsChange, IsJoinRefusal, IsLeaveRefusal}
 use proofs.Words.{IsOwnChange, IsRunningOf, IsStep, joined_links, just, Keeps, Kept, kept_numbers}
 use proofs.Words.{KeptLink, le-leb, leb-true, left_links, length, link_words, List, list_all}
 use proofs.Words.{list_any, listed, listing, lives, lives_of, local_count, local_rows, local_total}
-use proofs.Words.{lt-leb, map, mentions, Message, min, nat_le, nat_lt, None, not, Option, own}
-use proofs.Words.{own_checks, own_limit, own_most, Parts, Pid, pid_cmp, process_words}
-use proofs.Words.{ProcessesFollow, refl, Reply, Row, row, Rule, Running, running_scopes, said_in}
-use proofs.Words.{said_to, same, same_decides, scope_place, scope_words, set, Some, Spawned, subst}
-use proofs.Words.{sym, told, told_limit, told_numbers, true, unbroken, waiting, ℕ, [], ◌&&◌, ◌++◌}
-use proofs.Words.{◌+◌, ◌-◌, ◌==◌, ◌∙◌, ◌∷◌, ◌≡◌, ◌≤◌}
+use proofs.Words.{lt-leb, map, mentions, Message, min, nat_le, nat_lt, None, not, own, own_checks}
+use proofs.Words.{own_limit, own_most, Parts, Pid, pid_cmp, process_words, ProcessesFollow, refl}
+use proofs.Words.{Reply, Row, row, Rule, rules, Running, running_scopes, said_in, said_to, same}
+use proofs.Words.{same_decides, scope_place, scope_words, set, Some, Spawned, subst, sym, told}
+use proofs.Words.{told_limit, told_numbers, true, unbroken, waiting, ℕ, [], ◌&&◌, ◌++◌, ◌+◌, ◌-◌}
+use proofs.Words.{◌==◌, ◌∙◌, ◌∷◌, ◌≡◌, ◌≤◌}
 use Rattle.group_monitors.specs.Follows.{concerns_monitors}
 use Rattle.std.proofs.lemmas.List.Folds.{list_all_at}
 use Rattle.policy_audit.proofs.RowsAfter.{joined_rows, left_rows}
@@ -91,14 +91,7 @@ module _ {h : History} (seat : ℕ) {parts : Parts} (t : Follows h parts) (s : L
           let m = say a.scope brought in
           moved_change h seat parts t s p here a b at m (λ f q. after (count_of a.table f q) f q)
           links own
-          (record {
-            scope = moved.scope;
-            heard = moved.heard;
-            told = moved.told;
-            rows = moved.rows;
-            own = change;
-            links = moved.links;
-          })
+          (search rules)
           now (rows_now its) (others_now its)
 
       moves_now : is_full h ≡ false → first_broken (checks h seat ev) ≡ None
@@ -147,33 +140,16 @@ module _ {h : History} (seat : ℕ) {parts : Parts} (t : Follows h parts) (s : L
 
 module _ (h : History) (seat : ℕ) (s g : List ℕ) (ps : List Pid) (most : ℕ)
     (limit : most ≡ own_limit h s) where
-  abbrev join_broken : Bool → Bool → Bool → Bool → Option Rule
-  join_broken runs local alive fit =
-      cond (not runs) (Some Rule.NoScope)
-      (cond (not local) (Some Rule.NotLocal)
-      (cond (not alive) (Some Rule.NoProcess) (cond (not fit) (Some Rule.RowsFull) None)))
-
-  abbrev first_join : Bool → ℕ → Option Rule
-  first_join runs most =
-      join_broken runs (list_all (is_local h) ps) (list_all (lives h) ps)
-      (nat_le (length (local_rows h s) + length ps) most)
-
   -- the first rule that processes break by themselves
   pub join_own : is_running h s ≡ true → (r : Rule) → first_broken (own_checks h ps most) ≡ Some r
       → first_broken (checks h seat (Event.Join s g ps)) ≡ Some r
-  join_own runs r q =
-      ap (λ n. first_join (is_running h s) n) (sym limit)
-      ∙ ap (λ b. first_join b most) runs
-      ∙ grind (arith, leb-true, le-leb, lt-leb)
+  join_own runs r q = grind (arith, limit, leb-true, le-leb, lt-leb)
 
   -- where they break none, there is room for them or not
   pub join_left : is_running h s ≡ true → first_broken (own_checks h ps most) ≡ None
       → first_broken (checks h seat (Event.Join s g ps))
       ≡ cond (nat_le (length (local_rows h s) + length ps) most) None (Some Rule.RowsFull)
-  join_left runs q =
-      ap (λ n. first_join (is_running h s) n) (sym limit)
-      ∙ ap (λ b. first_join b most) runs
-      ∙ grind arith
+  join_left runs q = grind (arith, limit)
 
 -- ---- a Join
 
@@ -200,7 +176,7 @@ module _ {h : History} (seat : ℕ) {parts : Parts} (t : Follows h parts) (s g :
       let is = limit ∙ ap (own_limit h) (sym (its_scope seat t s here at))
       ∙ sym (own_limit_is t a (there seat t s here at)) in
       let fits = most_told t a (there seat t s here at) in
-      omega (arith, few, is, fits)
+      omega arith
 
   pub joins_own : first_broken (own_checks h ps most) ≡ None → All (λ q. q.node ≡ a.table.own) ps
   joins_own q = own_nodes h a.table.own (there seat t s here at).own ps
@@ -212,7 +188,7 @@ module _ {h : History} (seat : ℕ) {parts : Parts} (t : Follows h parts) (s g :
   join_calm q (CoreFault.Refused r) over = (
     join_left h seat s g ps most limit (runs_here t s p here) q
         ∙ rw (lt-leb (length (local_rows h s) + length ps) most
-        (let is = own_total in let many = over.1 in omega (arith, is, many)))
+        (let is = own_total in let many = over.1 in omega arith))
         (ap Some (sym over.0)),
     refl,
   )
@@ -234,7 +210,7 @@ module _ {h : History} (seat : ℕ) {parts : Parts} (t : Follows h parts) (s g :
       (λ its. joined_rows h e its refl s g ps refl) space
       (join_left h seat s g ps most limit (runs_here t s p here) q
       ∙ rw (le-leb (length (local_rows h s) + length ps) most
-      (let is = own_total in omega (arith, is, few)))) refl refl refl (refl, refl, refl)
+      (let is = own_total in omega arith))) refl refl refl (refl, refl, refl)
       (λ l u. refl) (λ l u. refl) (λ l. refl)
       (λ its. told_numbers h e its refl refl
       (λ l. (joined_links h e its refl s g ps refl l).kept_is)) (λ l. refl)
@@ -244,15 +220,9 @@ module _ {h : History} (seat : ℕ) {parts : Parts} (t : Follows h parts) (s g :
 
 module _ {h : History} (seat : ℕ) {parts : Parts} (t : Follows h parts) (s g : List ℕ)
     (ps : List Pid) where
-  abbrev leave_broken : Bool → Bool → Bool → Option Rule
-  leave_broken runs local some =
-      cond (not runs) (Some Rule.NoScope)
-      (cond (not local) (Some Rule.NotLocal) (cond (not some) (Some Rule.NotJoined) None))
-
   pub leave_foreign : is_running h s ≡ true → list_all (is_local h) ps ≡ false
       → first_broken (checks h seat (Event.Leave s g ps)) ≡ Some Rule.NotLocal
-  leave_foreign runs q =
-      λ i. leave_broken (runs i) (q i) (list_any (λ x. nat_lt 0 (own h s g x)) ps)
+  leave_foreign runs q = grind arith
 
   module _ {p : ℕ} (here : scope_place s parts.scopes ≡ Some p) {a : Running} (at : a
       ≡ get_or parts.scopes p a) where
@@ -272,8 +242,7 @@ module _ {h : History} (seat : ℕ) {parts : Parts} (t : Follows h parts) (s g :
 
       leave_left : first_broken (checks h seat (Event.Leave s g ps))
           ≡ cond (is_any_joined a.table g ps) None (Some Rule.NotJoined)
-      leave_left = (λ i. leave_broken (runs_here t s p here i) (local i) (any_joined ps local i))
-          ∙ grind arith
+      leave_left = grind (arith, runs_here t s p here, any_joined ps local)
 
       -- what the table refuses is the first rule that is broken
       pub leave_calm : (f : CoreFault) → IsLeaveRefusal a.table g ps f

@@ -58,13 +58,7 @@ module _ (w v : LinkWords) (f : KeptLink → KeptLink) (stays : ℕ → Bool)
       → (kept : List KeptLink) → AllByRecursion (IsLinkOf w) kept
       → AllByRecursion (IsLinkOf v) (filter (λ x. stays x.number) (map f kept))
   each_on on [] a = tt
-  each_on on (x ∷ xs) a = elim (stays (f x).number) as (λ b. stays (f x).number ≡ b
-      → AllByRecursion (IsLinkOf v)
-      (cond b (f x ∷ filter (λ y. stays y.number) (map f xs))
-      (filter (λ y. stays y.number) (map f xs)))) [
-        | true ↦ λ e. (on x (ap stays (sym (same x)) ∙ e) a.0, each_on on xs a.1)
-        | false ↦ λ e. each_on on xs a.1
-      ] refl
+  each_on on (x ∷ xs) a = grind (arith, same x, on x, each_on on xs a.1)
 
   pub all_follow : (kept : List KeptLink) → LinksFollow w kept → v.numbers ≡ filter stays w.numbers
       → ((x : KeptLink) → stays x.number ≡ true → IsLinkOf w x → IsLinkOf v (f x))
@@ -105,10 +99,8 @@ module _ (w v : LinkWords) (y : KeptLink) (here : IsLinkOf v y)
   above : (n : ℕ) (xs : List KeptLink) → list_all (λ m. nat_lt n m) (map (λ x. x.number) xs) ≡ true
       → n ≡ y.number → AllByRecursion (IsLinkOf w) xs → AllByRecursion (IsLinkOf v) xs
   above n [] l e a = tt
-  above n (x ∷ xs) l e a = (
-    on x (grind (arith, eqb-true x.number y.number, ltb-true n x.number)) a.0,
-    above n xs (grind arith) e a.1,
-  )
+  above n (x ∷ xs) l e a =
+      grind (arith, on x, eqb-true x.number y.number, ltb-true n x.number, above n xs)
 
   changed : (xs : List KeptLink) (p : ℕ) (d : KeptLink) → Climbs (map (λ x. x.number) xs)
       → AllByRecursion (IsLinkOf w) xs → p < length xs → y.number ≡ (get_or xs p d).number
@@ -116,9 +108,12 @@ module _ (w v : LinkWords) (y : KeptLink) (here : IsLinkOf v y)
   changed [] p d c a less is = tt
   changed (x ∷ xs) zero d c a less is = (here, above x.number xs c.0 (sym is) a.1)
   changed (x ∷ xs) (suc p) d c a less is =
-      let above_it = below x.number xs p d c.0 (omega (arith, less)) in (
-        on x (grind (arith, eqb-true x.number y.number, above_it)) a.0,
-        changed xs p d c.1 a.1 (omega (arith, less)) is,
+      grind (
+        arith,
+        on x,
+        eqb-true x.number y.number,
+        below x.number xs p d c.0,
+        changed xs p d c.1 a.1,
       )
 
   pub one_follows : (kept : List KeptLink) (p : ℕ) (d : KeptLink) → LinksFollow w kept
@@ -144,18 +139,14 @@ stay_follow w v stays kept t numbers on =
 pub filter_set : {A : Type 0} (test : A → Bool) (xs : List A) (i : ℕ) (d y : A) → i < length xs
     → test (get_or xs i d) ≡ false → test y ≡ false → filter test (set xs i y) ≡ filter test xs
 filter_set test [] i d y less was is = refl
-filter_set test (x ∷ xs) zero d y less was is =
-    ap (λ b. cond b (y ∷ filter test xs) (filter test xs)) is
-    ∙ sym (ap (λ b. cond b (x ∷ filter test xs) (filter test xs)) was)
-filter_set test (x ∷ xs) (suc i) d y less was is =
-    ap (λ ys. cond (test x) (x ∷ ys) ys) (filter_set test xs i d y (omega (arith, less)) was is)
+filter_set test (x ∷ xs) zero d y less was is = grind arith
+filter_set test (x ∷ xs) (suc i) d y less was is = grind (arith, filter_set test xs i d y)
 
 -- where all stay, the list stays
 pub filter_all : {A : Type 0} (test : A → Bool) → ((x : A) → test x ≡ true) → (xs : List A)
     → filter test xs ≡ xs
 filter_all test all [] = refl
-filter_all test all (x ∷ xs) = ap (λ b. cond b (x ∷ filter test xs) (filter test xs)) (all x)
-    ∙ ap (λ ys. x ∷ ys) (filter_all test all xs)
+filter_all test all (x ∷ xs) = grind (arith, all x, filter_all test all xs)
 
 module _ (h : History) (legal : IsPlayed h) (kept : List KeptLink)
     (t : LinksFollow (link_words h) kept) (l : ℕ) where

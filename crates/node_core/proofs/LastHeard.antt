@@ -29,7 +29,7 @@ pub discovers_for : (rs : List Running)
     → map (λ r. wide (Message.Discover r.scope)) rs
     ≡ map (λ s. wide (Message.Discover s)) (map (λ r. r.scope) rs)
 discovers_for [] = refl
-discovers_for (r ∷ rs) = ap (λ fs. wide (Message.Discover r.scope) ∷ fs) (discovers_for rs)
+discovers_for (r ∷ rs) = grind (arith, discovers_for rs)
 
 module _ (h : History) (seat j : ℕ) (body : List ℕ) (up : Linked) (frames : List (List ℕ))
     (c : ComesUp h j body up frames) (r : Reply) (cs : List Change) where
@@ -107,8 +107,7 @@ module _ (h : History) (seat j : ℕ) (body : List ℕ) (up : Linked) (frames : 
             step_follows t next refl t.admission t.processes
             (cut_off_follow old_one up.peer (scope_words h) (scope_words k) scopes_cut_off
             parts.scopes scopes t.scopes
-            (subst (λ x. AllZip (IsCutOff (unwrap_or x j) up.peer) parts.scopes scopes)
-            (same_older ∙ older_present h t.sound.played up.peer parts.links t.links) cut))
+            (rw (same_older ∙ older_present h t.sound.played up.peer parts.links t.links) at cut))
             (subst (LinksFollow (link_words k)) (sym (
             is
             ∙ (λ i. without_link
@@ -134,12 +133,12 @@ last_has_peer {h} {parts} t j {p} {v} {w} {x} at first roomy seen opens final =
     grind (
       arith,
       last_state (facts h j) x.state
-          (subst (IsState (facts h j)) (sym state) (state_there h parts t j p at v)) opens final,
+          (subst (IsState (facts h j)) (sym state) (state_there t j at v)) opens final,
     )
   where
     state : x.state ≡ (get_or parts.links p v).state
     state = ap (λ (z : KeptLink). z.state)
-        (seen ∙ get_or-set_same parts.links p w x (is_there h parts t j p at v).0 ∙ roomy
+        (seen ∙ get_or-set_same parts.links p w x (is_there t j at v).0 ∙ roomy
         ∙ ap (λ (z : KeptLink). with_room z w.room) first)
 
 module _ {h : History} {parts : Parts} (t : Follows h parts) (seat : ℕ) (body : List ℕ) {j p : ℕ}
@@ -204,8 +203,7 @@ module _ {h : History} {parts : Parts} (t : Follows h parts) (seat : ℕ) (body 
 
         pub last_next : IsAlone h (made h seat (Event.Frame j body) (Accepted r) cs)
         last_next = up_next h seat j body up frames it.0 r cs held.space reply_is parts t
-            (subst (λ n. ArePartings (λ x. count_after_drop x n) parts.scopes cs) peer_is
-            (subst (λ rs. ArePartings (λ x. count_after_drop x peer) rs cs) these gone))
+            (rw (peer_is, these) at gone)
 
         pub last_came_up : (new : List KeptLink) {asked : List OutFrame}
             → asked ≡ map (λ x. wide (Message.Discover x.scope)) running
@@ -216,7 +214,7 @@ module _ {h : History} {parts : Parts} (t : Follows h parts) (seat : ℕ) (body 
             → Follows (just h (made h seat (Event.Frame j body) (Accepted r) cs))
             (record parts { links = new; scopes = scopes })
         last_came_up new {asked} discover ups scopes cut =
-            let there = is_there h parts t j p held.at v in
+            let there = is_there t j held.at v in
             up_follows h seat j body up frames it.0 r cs held.space reply_is parts t p v there.0
             there.1
             last_next ups.room asked
@@ -224,5 +222,4 @@ module _ {h : History} {parts : Parts} (t : Follows h parts) (seat : ℕ) (body 
             new (older_same t held (grind (arith, late)) up.peer)
             (held_moved t held (LinkState.Up up) (narrow_frames frames ++ cond up.visible asked [])
             (older_of up.peer left) new ups)
-            scopes (subst (λ n. AllZip (IsCutOff (unwrap_or (older_of up.peer left) n) up.peer)
-            parts.scopes scopes) (held_number t held) cut)
+            scopes (rw (held_number t held) at cut)

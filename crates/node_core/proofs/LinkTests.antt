@@ -3,12 +3,11 @@ use Rattle.node_core.proofs
 use proofs.Words.{admission_words, AdmissionFollows, AdmissionRules, AllByRecursion, allow_list}
 use proofs.Words.{allowed, ap, arith, Awaits, awaits, beside, Bool, cond, dial_checks, dialled_peer}
 use proofs.Words.{dialling_kept, eqb-true, facts, false, first_broken, flat_map, History, is_among}
-use proofs.Words.{is_dial_to, is_dialling, is_empty, is_name_up, is_open, is_peer}
-use proofs.Words.{is_unfinished_dial, is_up, is_whole, IsLinkOf, IsPlayed, IsState, kept_links}
-use proofs.Words.{KeptLink, length, lie, link_words, LinksFollow, LinkState, List, list_any}
-use proofs.Words.{name_up_kept, nat_lt, None, not, Option, option_map_or, option_to_list, peer_of}
-use proofs.Words.{refl, Rule, same, same_decides, Some, sym, true, up_peer, ℕ, [], ◌&&◌, ◌==◌, ◌||◌}
-use proofs.Words.{◌∙◌, ◌∷◌, ◌≡◌}
+use proofs.Words.{is_dialling, is_empty, is_name_up, is_open, is_peer, is_unfinished_dial, is_up}
+use proofs.Words.{is_whole, IsLinkOf, IsPlayed, IsState, kept_links, KeptLink, length, lie}
+use proofs.Words.{link_words, LinksFollow, LinkState, List, list_any, name_up_kept, nat_lt, None}
+use proofs.Words.{not, Option, option_map_or, option_to_list, peer_of, refl, Rule, same}
+use proofs.Words.{same_decides, Some, sym, true, up_peer, ℕ, [], ◌&&◌, ◌==◌, ◌||◌, ◌∙◌, ◌∷◌, ◌≡◌}
 use Rattle.link_states.specs.Checks.{allows}
 use Rattle.policy_audit.proofs.Onward.{by_dial, by_peer, is_acceptors, is_diallers}
 use proofs.Found.{any_map}
@@ -32,19 +31,14 @@ module _ (h : History) (n : List ℕ) where
   pub up_by : (l : ℕ) (s : LinkState) → IsState (facts h l) s
       → option_map_or (λ m. same m n) (up_peer s) false
       ≡ (is_up l h.entries && is_peer n l h.entries)
-  up_by l (LinkState.Up s) t =
-      sym (λ i. (t.0.open_now i && t.0.whole i) && option_map_or (λ m. same m n) (t.1.peer.peer i)
-      false)
+  up_by l (LinkState.Up s) t = grind (arith, t.0.open_now, t.0.whole, t.1.peer.peer)
   up_by l LinkState.Ended t = grind (arith, t)
   up_by l s t = grind (arith, t.0.whole)
 
   undialled : (l : ℕ) → Awaits (facts h l) (awaits l h.entries) false
       → is_acceptors (awaits l h.entries) ≡ true
       → false ≡ (is_open l h.entries && is_unfinished_dial n l h.entries)
-  undialled l t a =
-      sym ((λ i. t.open_now i
-      && (option_map_or (λ o. is_dial_to n o.start) ((by_peer l h.entries t.open_now a).opened i)
-      false && not (is_whole l h.entries))))
+  undialled l t a = grind (arith, (by_peer l h.entries t.open_now a).opened)
 
   dialled : (l : ℕ) (m : List ℕ) → is_open l h.entries ≡ true → is_whole l h.entries ≡ false
       → is_diallers (awaits l h.entries) ≡ true → peer_of l h.entries ≡ Some m
@@ -100,10 +94,8 @@ module _ (h : History) (rules : AdmissionRules)
   none_named : (xs ys : List (List ℕ)) → ((q : List ℕ) → is_among q xs ≡ is_among q ys)
       → (length xs == 0) ≡ is_empty ys
   none_named [] [] q = refl
-  none_named [] (y ∷ ys) q =
-      lie (sym (q y ∙ ap (λ b. b || is_among y ys) ((same_decides y y).1 refl)))
-  none_named (x ∷ xs) [] q =
-      lie (sym (ap (λ b. b || is_among x xs) ((same_decides x x).1 refl)) ∙ q x)
+  none_named [] (y ∷ ys) q = grind (arith, q y, (same_decides y y).1 refl)
+  none_named (x ∷ xs) [] q = grind (arith, q x, (same_decides x x).1 refl)
   none_named (x ∷ xs) (y ∷ ys) q = grind (arith, eqb-true (length (x ∷ xs)) 0)
 
   -- a name is allowed by the rules where it is allowed by the policy

@@ -13,7 +13,7 @@ module _ (h : History) (p : Spawned) (t : ProcessesFollow (process_words h) p) w
   -- where there is room among those that live, one more may be spawned
   pub pids_fit : nat_le 65536 (length p.live) ≡ false → nat_lt (living h) 65536 ≡ true
   pids_fit q = lt-ltb (living h) 65536 (let few = leb-false 65536 (length p.live) q in
-      let count = t.count in omega (arith, few, count))
+      let count = t.count in omega arith)
 
   pub pids_full : nat_le 65536 (length p.live) ≡ true → nat_lt (living h) 65536 ≡ false
   pids_full q = let many = leb-true 65536 (length p.live) q in let count = t.count in
@@ -25,7 +25,7 @@ module _ (h : History) (p : Spawned) (t : ProcessesFollow (process_words h) p) w
       let born = (and_parts _ (nat_le (p.spawned + 1) (spawned h)) (and_parts _ _ q).0).1 in
       let within = leb-true (p.spawned + 1) (spawned h) born in
       let is = t.spawned in
-      omega (arith, within, is))
+      omega arith)
 
   pub spawned_follow : (seat : ℕ) (r : Reply) (q : Spawned) → IsPlayed h
       → IsStep h (made h seat Event.Spawn (Accepted r) []) → q.spawned ≡ p.spawned + 1
@@ -33,7 +33,7 @@ module _ (h : History) (p : Spawned) (t : ProcessesFollow (process_words h) p) w
       → length q.live ≡ length p.live + 1
       → ProcessesFollow (process_words (answered h seat Event.Spawn r)) q
   spawned_follow seat r q legal its more live count = record {
-    spawned = let is = t.spawned in omega (arith, more, is);
+    spawned = let is = t.spawned in omega arith;
     live = λ n. grind (
       arith,
       live n,
@@ -41,7 +41,7 @@ module _ (h : History) (p : Spawned) (t : ProcessesFollow (process_words h) p) w
       t.live n,
       lives_spawned h (made h seat Event.Spawn (Accepted r) []) its refl legal refl n,
     );
-    count = let was = t.count in omega (arith, count, was);
+    count = let was = t.count in omega arith;
   }
 
 -- the next process, as the policy names it

@@ -1,5 +1,6 @@
 -- Links that are lost or given up.
 use Rattle.node_core.proofs
+use Rattle.policy_audit.proofs as policy
 use proofs.Words.{Accepted, agrees, and-true, and_both, ap, AreCut, AreLost, arith, Bool, Change}
 use proofs.Words.{cond, count_after_drop, Entry, eqb-true, Event, facts, false, filter, flip}
 use proofs.Words.{Follows, get_or, heard, History, is_full, is_open, is_up, is_whole, IsAlone}
@@ -9,15 +10,15 @@ use proofs.Words.{next_number, no_change, no_value, None, not, Option, option_ma
 use proofs.Words.{peer_of, Pid, position, position-Some, present_link, refl, Reply, Running}
 use proofs.Words.{running_scopes, same, scope_words, ScopesFollow, Some, stopped_lists, subst, sym}
 use proofs.Words.{told, true, up_peer, waiting, without_number, ℕ, [], ◌&&◌, ◌<◌, ◌==◌, ◌∙◌, ◌≡◌}
-use Rattle.policy_audit.proofs.LinkFrames.{disconnected_links, lost_links}
-use Rattle.policy_audit.proofs.LinksLeft.{disconnected_numbers, facts_left, lost_numbers}
-use Rattle.policy_audit.proofs.HeardNow.{disconnected_heard, lost_heard}
-use Rattle.policy_audit.proofs.RowsAfter.{disconnected_rows, lost_other, lost_rows}
+use policy.LinkFrames.{disconnected_links, lost_links}
+use policy.LinksLeft.{disconnected_numbers, facts_left, lost_numbers}
+use policy.HeardNow.{disconnected_heard, lost_heard}
+use policy.RowsAfter.{disconnected_rows, lost_other, lost_rows}
 use proofs.Entered.{accepted_next, answered_by, made, step_follows}
 use proofs.Found.{some_is}
 use proofs.KeptOn.{each_at, facts_same, is_kept_at, link_at, same_link, stay_follow}
 use proofs.LinkTests.{peer_by_test}
-use Rattle.policy_audit.proofs.KeptNumbers.{kept_numbers}
+use policy.KeptNumbers.{kept_numbers}
 use proofs.Partings.{partings_change}
 use proofs.ScopesCutOff.{AreCutOff, cut_off_follow}
 
@@ -82,10 +83,8 @@ module _ (h k : History) (j : ℕ) (gone : IsGone h k j) where
       own = ap (λ o. o.name) gone.name;
       running = gone.running;
       listed = rows;
-      heard = λ l s. (gone.heard l s).heard_is
-          ∙ ap (λ b. heard h.opening l s h.entries && not b) (flip j l);
-      told = λ l s. (gone.heard l s).told_is
-          ∙ ap (λ b. told h.opening l s h.entries && not b) (flip j l);
+      heard = λ l s. grind (arith, (gone.heard l s).heard_is, flip j l);
+      told = λ l s. grind (arith, (gone.heard l s).told_is, flip j l);
     }
 
   -- ---- both

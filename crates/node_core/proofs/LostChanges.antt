@@ -5,27 +5,23 @@ use proofs.Words.{AllZip, ap, arith, Bool, Change, changes_are, cond, count_afte
 use proofs.Words.{false, filter, flat_map, GroupChange, History, is_among, is_local, is_running}
 use proofs.Words.{IsChange, IsDifference, IsRunningOf, List, listed, map, mentions, not, Pid, refl}
 use proofs.Words.{Rises, Running, running_among, running_rises, running_scopes, same, scope_words}
-use proofs.Words.{ScopesFollow, stopped_lists, subst, sym, Table, text_cmp, times_left, total, true}
-use proofs.Words.{ℕ, [], ◌++◌, ◌+◌, ◌-◌, ◌||◌, ◌∙◌, ◌∷◌, ◌≡◌}
+use proofs.Words.{ScopesFollow, stopped_lists, subst, sym, Table, text_cmp, times_left, true, ℕ, []}
+use proofs.Words.{◌++◌, ◌+◌, ◌-◌, ◌∙◌, ◌∷◌, ◌≡◌}
 use Rattle.dist_types.specs.Difference.{times_joined}
 use Rattle.policy_audit.specs.Changes.{groups_in}
 use specs.declared.slow.End.{End}
 use specs.Ending.{AreWithLost, IsLossOf}
 use proofs.Ends.{goes, GoesOnce}
+use proofs.MergedGroups.{total_append}
 use proofs.Scopes.{counts_listed}
 use proofs.Zipped.{zipped_each, zipped_map}
 
-total_both : {A : Type 0} (f : A → ℕ) (xs ys : List A)
-    → total f (xs ++ ys) ≡ total f xs + total f ys
-total_both f [] ys = omega arith
-total_both f (x ∷ xs) ys = (let rest = total_both f xs ys in omega (arith, rest))
-
 module _ (g : List ℕ) (p : Pid) (xs ys : List GroupChange) where
   left_both : times_left g p (xs ++ ys) ≡ times_left g p xs + times_left g p ys
-  left_both = total_both (λ c. cond (same c.group g) (mentions p c.left) 0) xs ys
+  left_both = total_append (λ c. cond (same c.group g) (mentions p c.left) 0) xs ys
 
   joined_both : times_joined g p (xs ++ ys) ≡ times_joined g p xs + times_joined g p ys
-  joined_both = total_both (λ c. cond (same c.group g) (mentions p c.joined) 0) xs ys
+  joined_both = total_append (λ c. cond (same c.group g) (mentions p c.joined) 0) xs ys
 
 -- ---- what is lost in one scope
 
@@ -39,17 +35,12 @@ module _ (t : Table) (g : List ℕ) (p : Pid) where
   abbrev c : ℕ
   c = count_of t g p
 
-  one_left : (m : Bool) (n rest : ℕ) → n ≡ c - cond m 0 c → (b : Bool) → rest ≡ cond b c 0
-      → (m ≡ true → b ≡ false) → n + rest ≡ cond (m || b) c 0
-  one_left m n rest is b is_rest once = grind (arith, is, is_rest, once)
-
   lost_left : (ends : List End) (lists : List (List GroupChange)) → AreDropped t ends lists
       → GoesOnce p ends → times_left g p (all_of lists) ≡ cond (goes p ends) c 0
   lost_left [] [] a once = refl
   lost_left (x ∷ xs) (ls ∷ lists) a once =
       left_both g p ls (all_of lists)
-      ∙ one_left (same p.node x.peer) (times_left g p ls) _ (a.0.left g p) (goes p xs)
-      (lost_left xs lists a.1 once.1) once.0
+      ∙ grind (arith, a.0.left g p, lost_left xs lists a.1 once.1, once.0)
   lost_left xs ls a once = absurd a
 
   lost_joined : (ends : List End) (lists : List (List GroupChange)) → AreDropped t ends lists
@@ -68,11 +59,9 @@ goes_left stops away = cond stops false away
 abbrev left_of : Bool → List End → List End
 left_of stops ends = cond stops [] ends
 
-ends_left : (b : Bool) (ends : List End) → filter (λ e. not b) ends ≡ left_of b ends
-ends_left true [] = refl
-ends_left true (x ∷ xs) = ends_left true xs
-ends_left false [] = refl
-ends_left false (x ∷ xs) = ap (λ ys. x ∷ ys) (ends_left false xs)
+pub ends_left : (b : Bool) (ends : List End) → filter (λ e. not b) ends ≡ left_of b ends
+ends_left b [] = grind arith
+ends_left b (x ∷ xs) = grind (arith, ends_left b xs)
 
 module _ (p : Pid) (ends : List End) where
   once_left : (b : Bool) → GoesOnce p ends → GoesOnce p (left_of b ends)

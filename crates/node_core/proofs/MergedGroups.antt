@@ -35,9 +35,9 @@ module _ {A : Type 0} (P : A → Type 0) where
   all_back (x ∷ xs) ys a = all_back xs ys a.1
 
 module _ {A : Type 0} (f : A → ℕ) where
-  total_append : (xs ys : List A) → total f (xs ++ ys) ≡ total f xs + total f ys
+  pub total_append : (xs ys : List A) → total f (xs ++ ys) ≡ total f xs + total f ys
   total_append [] ys = omega arith
-  total_append (x ∷ xs) ys = let rest = total_append xs ys in omega (arith, rest)
+  total_append (x ∷ xs) ys = omega (arith, total_append xs ys)
 
   -- a sum doesn't hang on the order
   total_permuted : (xs ys : List A) → IsPermutation xs ys → total f ys ≡ total f xs
@@ -74,15 +74,12 @@ rise_more (y ∷ ys) x r a = (above_more y.group ys x r.0 a.0, rise_more ys x r.
 above_front : (g : List ℕ) (xs : List GroupChange) (x : GroupChange)
     → AreAbove g (groups (xs ++ x ∷ [])) → AreAbove g (groups xs) × (text_cmp g x.group ≡ Less)
 above_front g [] x a = (tt, a.0)
-above_front g (y ∷ ys) x a = let rest = above_front g ys x a.1 in ((a.0, rest.0), rest.1)
+above_front g (y ∷ ys) x a = grind (arith, above_front g ys x a.1)
 
 rise_front : (xs : List GroupChange) (x : GroupChange) → Rises text_cmp (groups (xs ++ x ∷ []))
     → Rises text_cmp (groups xs) × AreBelow x.group xs
 rise_front [] x r = (tt, tt)
-rise_front (y ∷ ys) x r =
-    let rest = rise_front ys x r.1 in
-    let here = above_front y.group ys x r.0 in
-    ((here.0, rest.0), (here.1, rest.1))
+rise_front (y ∷ ys) x r = grind (arith, rise_front ys x r.1, above_front y.group ys x r.0)
 
 -- in an ascending list, no element before another comes after it
 before : {A : Type 0} (R : A → A → Ordering) (xs : List A) (y : A) (ys : List A)
@@ -97,9 +94,8 @@ module _ (gs all : List GroupChange) (c : GroupChange) (j : AreMergedSoFar gs al
   sums_behind : (side : GroupChange → List Pid) (g : List ℕ) (p : Pid)
       → total (times side g p) all ≡ total (times side g p) gs
       → total (times side g p) (all ++ c ∷ []) ≡ total (times side g p) (gs ++ c ∷ [])
-  sums_behind side g p e = total_append (times side g p) all (c ∷ [])
-      ∙ ap (λ n. n + total (times side g p) (c ∷ [])) e
-      ∙ sym (total_append (times side g p) gs (c ∷ []))
+  sums_behind side g p e =
+      simp total_append (ap (λ n. n + total (times side g p) (c ∷ [])) e)
 
   merge_behind : IsSome c → AreBelow c.group all → AreMergedSoFar (gs ++ c ∷ []) (all ++ c ∷ [])
   merge_behind some below = record {
@@ -117,13 +113,7 @@ module _ (gs all : List GroupChange) (c : GroupChange) (j : AreMergedSoFar gs al
 -- ---- one of the last's group goes into it
 
 still_some : (one other : GroupChange) → IsSome one → IsSome (together one other)
-still_some one other = by one.left one.joined
-  where
-    by : (l j : List Pid) → (is_empty l && is_empty j) ≡ false
-        → (is_empty (l ++ other.left) && is_empty (j ++ other.joined)) ≡ false
-    by [] [] s = absurd (grind (arith, s))
-    by [] (x ∷ j) s = grind arith
-    by (x ∷ l) j s = refl
+still_some one other some = grind arith
 
 module _ (gs front : List GroupChange) (one other : GroupChange) (e : one.group ≡ other.group)
     (j : AreMergedSoFar gs (front ++ one ∷ [])) where
@@ -207,7 +197,7 @@ module _ (old front new : List GroupChange) (c : GroupChange) where
     where
       by : (xs : List GroupChange) → length (xs ++ []) ≡ 0 → xs ≡ []
       by [] e = refl
-      by (x ∷ xs) e = absurd (omega (arith, e))
+      by (x ∷ xs) e = absurd (omega arith)
 
 -- ---- all changes, which a sort by the groups leaves ascending
 
@@ -249,7 +239,7 @@ pub all_merged : (gone rest sorted all : List GroupChange) → gone ++ rest ≡ 
     → length rest ≡ 0 → AreMergedSoFar gone all → AreMerged sorted all
 all_merged gone [] sorted all e none j =
     subst (λ gs. AreMerged gs all) (sym (append-nil gone) ∙ e) j.changes
-all_merged gone (x ∷ rest) sorted all e none j = absurd (omega (arith, none))
+all_merged gone (x ∷ rest) sorted all e none j = absurd (omega arith)
 
 -- ---- the processes of each in their order
 

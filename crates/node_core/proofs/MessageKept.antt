@@ -1,18 +1,18 @@
 -- What a node keeps after a message, or a part of one, that is accepted.
 use Rattle.node_core.proofs
 use proofs.Words.{Accepted, always, and_parts, ap, arith, asks, AwaitMessage, awaits, begun}
-use proofs.Words.{begun_after, challenge_in, Change, checks, cond, Entry, entry_link, eq-eqb, Event}
-use proofs.Words.{facts, false, first_broken, flip, frame_checks, frame_taken, framed_numbers}
-use proofs.Words.{History, is_full, is_last, is_open, is_up, is_whole, IsAlone, IsChange, IsPlayed}
-use proofs.Words.{IsState, IsStep, just, kept_after, kept_climbs, KeptLink, link_words, LinkFacts}
-use proofs.Words.{LinksFollow, List, may_tell, Message2, message_checks, message_owes, named_by}
-use proofs.Words.{nat_eq, None, option_map_or, position, refl, Reply, Rule, set, Some, subst, sym}
-use proofs.Words.{true, up_answer, verdict, waiting, ℕ, [], ◌&&◌, ◌++◌, ◌==◌, ◌∙◌, ◌≡◌}
+use proofs.Words.{begun_after, Change, checks, Entry, entry_link, eq-eqb, Event, facts, false}
+use proofs.Words.{first_broken, flip, frame_taken, framed_numbers, History, is_full, is_last}
+use proofs.Words.{is_open, is_up, is_whole, IsAlone, IsChange, IsPlayed, IsState, IsStep, just}
+use proofs.Words.{kept_climbs, KeptLink, link_words, LinkFacts, LinksFollow, List, may_tell}
+use proofs.Words.{Message2, message_checks, message_owes, named_by, nat_eq, None, option_map_or}
+use proofs.Words.{position, refl, Reply, Rule, set, Some, subst, sym, true, verdict, waiting, ℕ, []}
+use proofs.Words.{◌++◌, ◌==◌, ◌∙◌, ◌≡◌}
 use Rattle.policy_audit.proofs.Begun.{framed}
 use Rattle.policy_audit.proofs.Onward.{message_taken_on}
 use Rattle.policy_audit.proofs.LinkFrames.{message_links}
 use proofs.Entered.{accepted_now, answered_now, made, next_now}
-use proofs.KeptOn.{facts_same, one_follows, place_is, same_link, version_with}
+use proofs.KeptOn.{facts_same, one_follows, place_is, same_link}
 use proofs.MessagePlaces.{IsUpHere}
 use proofs.Told.{still_state}
 
@@ -23,18 +23,14 @@ pub message_rules : (h : History) (seat l : ℕ) (body : List ℕ)
     ≡ first_broken
     (option_map_or (message_checks h l) (frame_taken h.opening l h.entries body)
     (always Rule.BadFrame))
-message_rules h seat l body up awaited =
-    ap (λ b. first_broken (cond b (frame_checks h l body (awaits l h.entries))
-    (always Rule.NoSuchLink)))
-    (and_parts (is_open l h.entries) (is_whole l h.entries) up).0
-    ∙ ap (λ a. first_broken (frame_checks h l body a)) awaited
+message_rules h seat l body up awaited = grind (arith, up, awaited)
 
 -- no message but a Discover is owed one
 pub unasked : (h : History) (l : ℕ) (body : List ℕ) (m : Message2)
     → frame_taken h.opening l h.entries body ≡ Some m → asks (Some m) ≡ false
     → may_tell h.opening h.entries (Event.Frame l body) ≡ false
 unasked h l body m says quiet =
-    ap (λ x. is_whole l h.entries && asks x) says ∙ grind (arith, quiet)
+    grind (arith, says, quiet)
 
 module _ (h : History) (seat l : ℕ) (body : List ℕ) (m : Message2)
     (space : is_full h ≡ false) (up : is_up l h.entries ≡ true)
@@ -50,10 +46,7 @@ module _ (h : History) (seat l : ℕ) (body : List ℕ) (m : Message2)
 
   pub its_verdict : Accepted Reply.Done ≡ verdict h seat (Event.Frame l body)
   its_verdict = accepted_now h seat (Event.Frame l body) space Reply.Done
-      (message_rules h seat l body up awaited
-      ∙ ap (λ o. first_broken (option_map_or (message_checks h l) o (always Rule.BadFrame))) says
-      ∙ holds)
-      (ap (λ a. cond (is_last a) (up_answer h l) Reply.Done) awaited)
+      (grind (arith, message_rules h seat l body up awaited, says, holds)) (grind (arith, awaited))
 
   pub its_answered : IsStep h entry
   its_answered = answered_now h seat (Event.Frame l body) space (Accepted Reply.Done) cs its_verdict
@@ -72,17 +65,19 @@ module _ (h : History) (seat l : ℕ) (body : List ℕ) (m : Message2)
   its_facts =
       let it = message_taken_on h entry its_answered refl l body refl awaited in
       let whole = (and_parts (is_open l h.entries) (is_whole l h.entries) up).1 in
-      λ i. record (facts h l) {
-        open_now = (message_links h entry its_answered refl l body refl awaited l).open_is i;
-        whole = (it.whole ∙ sym whole) i;
-        awaited = (it.awaits ∙ sym awaited) i;
-        peer = it.peer i;
-        said = it.given i;
-        version = version_with h.opening.links (it.given i);
-        challenge = option_map_or (λ o. challenge_in o.start) (it.opened i) 0;
-        begun = (framed h.opening h.entries entry l body refl refl whole
-            ∙ ap (kept_after (begun h.opening l h.entries)) says) i;
-      }
+      grind (
+        arith,
+        (message_links h entry its_answered refl l body refl awaited l).open_is,
+        it.whole,
+        whole,
+        it.awaits,
+        awaited,
+        it.peer,
+        it.given,
+        it.opened,
+        framed h.opening h.entries entry l body refl refl whole,
+        says,
+      )
 
   others_facts : (j : ℕ) → (l == j) ≡ false → facts now j ≡ facts h j
   others_facts j apart =
@@ -97,10 +92,7 @@ module _ (h : History) (seat l : ℕ) (body : List ℕ) (m : Message2)
   its_waits : waiting now l ≡ waiting h l ++ message_owes h l m
   its_waits =
       (message_links h entry its_answered refl l body refl awaited l).waiting_is
-      ∙ ap (λ b. cond b (waiting h l
-      ++ option_map_or (message_owes h l) (frame_taken h.opening l h.entries body) [])
-      (waiting h l)) (eq-eqb l l refl)
-      ∙ ap (λ o. waiting h l ++ option_map_or (message_owes h l) o []) says
+      ∙ grind (arith, eq-eqb l l refl, says)
 
   -- what is owed waits for the link, and its part is kept
   pub its_links : (kept : List KeptLink) → IsPlayed h → LinksFollow (link_words h) kept
@@ -118,14 +110,8 @@ module _ (h : History) (seat l : ℕ) (body : List ℕ) (m : Message2)
             (still_state (facts h l) _ y.state
             (subst (λ s. IsState (facts h l) s) (sym state)
             (subst (λ n. IsState (facts h n) x.state) here.number here.link.state))));
-        begun = begun
-            ∙ ap (λ b. begun_after b m)
-            (here.link.begun ∙ ap (λ n. (facts h n).begun) here.number)
-            ∙ sym (ap (λ (f : LinkFacts). f.begun) its_facts)
-            ∙ ap (λ n. (facts now n).begun) (sym is);
-        frames = frames
-            ∙ ap (λ fs. fs ++ message_owes h l m) (here.link.frames ∙ ap (waiting h) here.number)
-            ∙ sym its_waits ∙ ap (waiting now) (sym is);
+        begun = grind (arith, begun, here.link.begun, here.number, ap (λ f. f.begun) its_facts, is);
+        frames = grind (arith, frames, here.link.frames, here.number, its_waits, is);
         idle = idle;
       })
       (λ z apart t.

@@ -1,8 +1,8 @@
 -- What a part makes of its link, which keeps it while its scope hears it.
 use Rattle.node_core.proofs
-use proofs.Words.{ap, Begun, begun_after, begun_with, Bool, cond, CoreFault, count_of, count_with}
-use proofs.Words.{early_checks, Event, false, first_broken, Follows, frame_taken, get_or}
-use proofs.Words.{GroupChange, HasBecome, heard_with, History, is_full, is_up, IsCalmFault}
+use proofs.Words.{ap, arith, Begun, begun_after, begun_with, Bool, cond, CoreFault, count_of}
+use proofs.Words.{count_with, early_checks, Event, false, first_broken, Follows, frame_taken}
+use proofs.Words.{get_or, GroupChange, HasBecome, heard_with, History, is_full, is_up, IsCalmFault}
 use proofs.Words.{IsDifference, IsRowFault, KeptLink, link_place, List, Message2, None, Option}
 use proofs.Words.{PartKind, Parts, Row, row_limit, rows_kept, Running, scope_place, Some, subst}
 use proofs.Words.{sym, table_refusal, true, up_peer, with_room, ℕ, ◌∙◌, ◌≡◌}
@@ -10,12 +10,12 @@ use proofs.MessageScopes.{IsKept, refused_calm, went_on}
 
 -- the link, whatever its room
 pub roomy : {z w : KeptLink} → z ≡ w → z ≡ with_room w z.room
-roomy {z} {w} q = q ∙ ap (λ (v : KeptLink). with_room w v.room) (sym q)
+roomy q = grind arith
 
 -- a part that is taken back
 pub taken_back : {x a z : KeptLink} {b u : Option Begun} → a ≡ begun_with x b
     → z ≡ begun_with a u → u ≡ x.begun → z ≡ x
-taken_back {x} {a} {z} {b} {u} is back was = back ∙ (λ i. begun_with (is i) (was i))
+taken_back is back was = grind arith
 
 module _ {h : History} {parts : Parts} (t : Follows h parts) (seat l : ℕ) (body : List ℕ)
     (space : is_full h ≡ false) (up : is_up l h.entries ≡ true)

@@ -83,9 +83,10 @@ module _ {h : History} {parts : Parts} (t : Follows h parts) (s : List ℕ) wher
       }
 
 -- another reading of the same place
-pub same_there : (h : History) (rs : List Running) (s : List ℕ) (p : ℕ) (r q : Running)
+pub same_there : {h : History} {rs : List Running} {s : List ℕ} {p : ℕ} {r q : Running}
     → IsScopeHere h rs s p r → q ≡ get_or rs p q → q ≡ r
-same_there h rs s p r q there is = is ∙ get_or_default rs p q r there.within ∙ sym there.is
+same_there {rs = rs} {p = p} {r = r} {q = q} there is =
+    is ∙ get_or_default rs p q r there.within ∙ sym there.is
 
 -- ---- what waits for a kept link
 
@@ -95,9 +96,7 @@ module _ {h : History} {parts : Parts} (t : Follows h parts) (l : ℕ) where
 
   pub waits_none : link_place l parts.links ≡ None → None
       ≡ cond (is_kept h l) (Some (length (waiting h l))) None
-  waits_none q =
-      sym (ap (λ b. cond b (Some (length (waiting h l))) None)
-      (not_kept h t.sound.played parts.links t.links l q))
+  waits_none q = grind (arith, not_kept h t.sound.played parts.links t.links l q)
 
   pub waits_some : {p : ℕ} {x : KeptLink} → link_place l parts.links ≡ Some p → x
       ≡ get_or parts.links p x → Some (length x.frames)
@@ -105,6 +104,10 @@ module _ {h : History} {parts : Parts} (t : Follows h parts) (l : ℕ) where
   waits_some {p} {x} q is =
       let at = link_at h t.sound.played parts.links t.links l p x q in
       let here : IsLinkOf (link_words h) x = subst (IsLinkOf (link_words h)) (sym is) at.0 in
-      ap (λ fs. Some (length fs)) (here.frames ∙ ap (waiting h) (ap (λ y. y.number) is ∙ at.1))
-      ∙ sym (ap (λ b. cond b (Some (length (waiting h l))) None)
-      (is_kept_at h t.sound.played parts.links t.links l p q))
+      grind (
+        arith,
+        here.frames,
+        ap (λ y. y.number) is,
+        at.1,
+        is_kept_at h t.sound.played parts.links t.links l p q,
+      )

@@ -1,24 +1,21 @@
 -- The rules that a message breaks, by what a node keeps of its link and of its scope.
 use Rattle.node_core.proofs
-use proofs.Words.{All, all_hold, always, and_parts, ap, are_counted, are_of_peer, arith}
-use proofs.Words.{AwaitMessage, awaits, Begun, begun, begun_after, begun_with, Bool, Check, checks}
-use proofs.Words.{cond, CoreFault, early_checks, Entry, Event, false, filter, first_broken}
-use proofs.Words.{flat_map, flip, frame_taken, get_or, groups, heard, History, is_empty, is_from}
-use proofs.Words.{is_number, is_open, is_running, is_shown, is_up, is_whole, IsCalmFault}
-use proofs.Words.{IsGroupListing, IsPidListing, IsPlayed, IsRowFault, IsRunningOf, KeptLink, length}
-use proofs.Words.{List, list_all, listed, max_rows, members, Message2, message_checks}
-use proofs.Words.{message_taken, nat_le, no_value, node_total, None, not, Option, option_map_or}
-use proofs.Words.{PartKind, peer_limit, peer_of, peer_rows, Pid, refl, refusal_owes, refuses_calmly}
-use proofs.Words.{Row, row_limit, rows_before, rows_of, rows_so_far, Rule, Running, same}
-use proofs.Words.{same_decides, same_sym, says_in, scope_in, scope_words, so_far, Some, subst, sym}
-use proofs.Words.{Table, table_refusal, takes_parts, true, unbroken, up_peer, ℕ, [], ◌&&◌, ◌++◌}
-use proofs.Words.{◌+◌, ◌==◌, ◌||◌, ◌∙◌, ◌∷◌, ◌≡◌}
+use proofs.Words.{All, and_parts, ap, are_counted, are_of_peer, arith, AwaitMessage, awaits, Begun}
+use proofs.Words.{begun, begun_after, begun_with, Bool, checks, cond, CoreFault, early_checks}
+use proofs.Words.{Entry, Event, false, filter, first_broken, flat_map, flip, frame_taken, get_or}
+use proofs.Words.{groups, heard, History, is_from, is_number, is_open, is_running, is_shown, is_up}
+use proofs.Words.{is_whole, IsCalmFault, IsGroupListing, IsPidListing, IsPlayed, IsRowFault}
+use proofs.Words.{IsRunningOf, KeptLink, length, List, list_all, listed, max_rows, members}
+use proofs.Words.{Message2, message_checks, message_taken, nat_le, no_value, node_total, None}
+use proofs.Words.{Option, option_map_or, PartKind, peer_limit, peer_of, peer_rows, Pid, refl}
+use proofs.Words.{refusal_owes, refuses_calmly, Row, row_limit, rows_before, rows_of, rows_so_far}
+use proofs.Words.{Rule, Running, same, same_decides, same_sym, says_in, scope_in, scope_words}
+use proofs.Words.{so_far, Some, subst, sym, Table, table_refusal, takes_parts, true, up_peer, ℕ, []}
+use proofs.Words.{◌&&◌, ◌==◌, ◌∙◌, ◌∷◌, ◌≡◌}
 use Rattle.std.proofs.lemmas.List.Folds.{list_all-append, list_all_at}
 use Rattle.scope_core.proofs.Members.{length-members}
-use Rattle.link_frames.specs.Parts.{is_next}
 use Rattle.policy_audit.specs.Sides.{is_visible}
-use Rattle.policy_audit.specs.Checks.{are_from, are_listed, can_be_told, has_row_room, hears_in}
-use Rattle.policy_audit.specs.Checks.{is_in_order, unless}
+use Rattle.policy_audit.specs.Checks.{are_from, hears_in, is_in_order}
 use Rattle.policy_audit.proofs.Begun.{are_peers, kept_peers}
 use Rattle.policy_audit.specs.Hearing.{rows_kept}
 use Rattle.policy_audit.proofs.Onward.{whole_is_message}
@@ -27,38 +24,17 @@ use proofs.Found.{some_is}
 use proofs.Scopes.{counts_listed, groups_listing, members_listing}
 use proofs.MessagePlaces.{IsUpHere}
 use proofs.MessageKept.{message_rules}
+use Rattle.link_frames.specs.Parts.{is_next}
 
 -- ---- checks
-
--- what breaks the first checks, breaks all of them
-earlier : (cs more : List Check) (r : Rule) → first_broken cs ≡ Some r
-    → first_broken (cs ++ more) ≡ Some r
-earlier [] more r q = no_value (sym q)
-earlier (c ∷ cs) more r q = by (earlier cs more r) c.broken refl
-  where
-    by : (first_broken cs ≡ Some r → first_broken (cs ++ more) ≡ Some r) → (x : Bool)
-        → c.broken ≡ x → first_broken ((c ∷ cs) ++ more) ≡ Some r
-    by others true is =
-        ap (λ x. cond x (Some c.rule) (first_broken (cs ++ more))) is
-        ∙ sym (ap (λ x. cond x (Some c.rule) (first_broken cs)) is) ∙ q
-    by others false is =
-        ap (λ x. cond x (Some c.rule) (first_broken (cs ++ more))) is
-        ∙ others (sym (ap (λ x. cond x (Some c.rule) (first_broken cs)) is) ∙ q)
 
 -- what a message breaks early, it breaks first
 pub early_broken : (h : History) (l : ℕ) (m : Message2) (r : Rule)
     → first_broken (early_checks h l m) ≡ Some r → first_broken (message_checks h l m) ≡ Some r
-early_broken h l (Message2.Discover s) r q =
-    earlier (early_checks h l (Message2.Discover s)) (can_be_told h l s ∷ []) r q
-early_broken h l (Message2.Part PartKind.Sync s number last rows) r q =
-    earlier (early_checks h l (Message2.Part PartKind.Sync s number last rows))
-    (has_row_room h l (length (so_far h l PartKind.Sync s number rows)) ∷ []) r q
-early_broken h l (Message2.Part PartKind.Join s number last rows) r q =
-    earlier (early_checks h l (Message2.Part PartKind.Join s number last rows))
-    (has_row_room h l (peer_rows h l s + length (so_far h l PartKind.Join s number rows)) ∷ []) r q
-early_broken h l (Message2.Part PartKind.Leave s number last rows) r q =
-    earlier (early_checks h l (Message2.Part PartKind.Leave s number last rows))
-    (are_listed h s (so_far h l PartKind.Leave s number rows) ∷ []) r q
+early_broken h l (Message2.Discover s) r q = grind arith
+early_broken h l (Message2.Part PartKind.Sync s number last rows) r q = grind arith
+early_broken h l (Message2.Part PartKind.Join s number last rows) r q = grind arith
+early_broken h l (Message2.Part PartKind.Leave s number last rows) r q = grind arith
 early_broken h l (Message2.Down s) r q = q
 
 -- a frame that is a message breaks what the message does
@@ -68,15 +44,12 @@ pub says_broken : (h : History) (seat l : ℕ) (body : List ℕ) (m : Message2) 
     → first_broken (message_checks h l m) ≡ Some r
     → first_broken (checks h seat (Event.Frame l body)) ≡ Some r
 says_broken h seat l body m r up awaited says q =
-    message_rules h seat l body up awaited
-    ∙ ap (λ o. first_broken (option_map_or (message_checks h l) o (always Rule.BadFrame))) says ∙ q
+    grind (arith, message_rules h seat l body up awaited, says, q)
 
 -- the link is not visible
 pub hidden_first : (h : History) (l : ℕ) (m : Message2) → is_visible h l ≡ false
     → first_broken (early_checks h l m) ≡ Some Rule.HiddenLink
-hidden_first h l (Message2.Discover s) q = rw q refl
-hidden_first h l (Message2.Part kind s number last rows) q = rw q refl
-hidden_first h l (Message2.Down s) q = rw q refl
+hidden_first h l m q = grind arith
 
 -- or the scope doesn't run
 pub stopped_first : (h : History) (l : ℕ) (m : Message2) → is_visible h l ≡ true
@@ -90,19 +63,7 @@ pub rows_from : (h : History) (l : ℕ) (kind : PartKind) (s : List ℕ) (number
     (rows : List Row)
     → first_broken (early_checks h l (Message2.Part kind s number last rows)) ≡ None
     → list_all (λ r. is_from l h.entries r.pid) rows ≡ true
-rows_from h l PartKind.Sync s number last rows q =
-    unbroken (list_all (λ r. is_from l h.entries r.pid) rows)
-    (all_hold (early_checks h l (Message2.Part PartKind.Sync s number last rows)) q).1.1.1.0
-rows_from h l PartKind.Join s number last rows q =
-    unbroken (list_all (λ r. is_from l h.entries r.pid) rows)
-    (all_hold (early_checks h l (Message2.Part PartKind.Join s number last rows)) q).1.1.1.1.0
-rows_from h l PartKind.Leave s number last rows q =
-    unbroken (list_all (λ r. is_from l h.entries r.pid) rows)
-    (all_hold (early_checks h l (Message2.Part PartKind.Leave s number last rows)) q).1.1.1.1.0
-
-turned : {A : Type 0} (b : Bool) (x y : A) → cond (not b) x y ≡ cond b y x
-turned true x y = refl
-turned false x y = refl
+rows_from h l kind s number last rows q = grind arith
 
 module _ {h : History} {l : ℕ} {x : KeptLink} (here : IsUpHere h l x) where
   -- whether the link is visible
@@ -156,20 +117,11 @@ module _ {h : History} {l : ℕ} {x : KeptLink} (here : IsUpHere h l x) where
       ap row_limit here.is
       ∙ ap (λ v. cond (v == 2) 65536 max_rows) here.introduced.said.1.version_is
 
-  next_is : (kind : PartKind) (s : List ℕ) (number : ℕ)
-      → is_next x.begun kind s number ≡ is_next (begun h.opening l h.entries) kind s number
-  next_is kind s number = ap (λ b. is_next b kind s number) begun_is
-
   -- the first rule that a part breaks, of its order and of its rows
   rows_refused : (kind : PartKind) (s : List ℕ) (number : ℕ) (rows : List Row)
       → first_broken (is_in_order h l kind s number ∷ are_from h l rows ∷ [])
       ≡ row_refusal x kind s number rows
-  rows_refused kind s number rows =
-      let own = turned (list_all (λ r. is_from l h.entries r.pid) rows) (Some Rule.ForeignPid) None
-      ∙ ap (λ b. cond b None (Some Rule.ForeignPid)) (sym (of_peer_is rows)) in
-      turned (is_next (begun h.opening l h.entries) kind s number) (Some Rule.PartOrder)
-      (first_broken (are_from h l rows ∷ []))
-      ∙ (λ i. cond (sym (next_is kind s number) i) (own i) (Some Rule.PartOrder))
+  rows_refused kind s number rows = grind (arith, of_peer_is rows, begun_is)
 
   -- and of further rows
   further_refused : (hs : List ℕ) (kind : PartKind) (s : List ℕ) (number : ℕ) (rows : List Row)
@@ -177,11 +129,7 @@ module _ {h : History} {l : ℕ} {x : KeptLink} (here : IsUpHere h l x) where
       → first_broken (hears_in h l s ∷ is_in_order h l kind s number ∷ are_from h l rows ∷ [])
       ≡ cond (is_number x.number hs) (row_refusal x kind s number rows) (Some Rule.NotHeard)
   further_refused hs kind s number rows hears =
-      turned (heard h.opening l s h.entries) (Some Rule.NotHeard)
-      (first_broken (is_in_order h l kind s number ∷ are_from h l rows ∷ []))
-      ∙ (λ i. cond (sym hears i) (rows_refused kind s number rows i) (Some Rule.NotHeard))
-      ∙ ap (λ n. cond (is_number n hs) (row_refusal x kind s number rows) (Some Rule.NotHeard))
-      (sym here.number)
+      grind (arith, rows_refused kind s number rows, here.number)
 
   -- the first rule that is broken, but for those that the table tells
   pub refusal_is : (hs : List ℕ) (m : Message2) → is_visible h l ≡ true
@@ -200,9 +148,7 @@ module _ {h : History} {l : ℕ} {x : KeptLink} (here : IsUpHere h l x) where
 
 module _ (h : History) (l : ℕ) (body : List ℕ) (up : is_up l h.entries ≡ true) where
   pub calm : (r : Rule) → refusal_owes r ≡ [] → refuses_calmly h (Event.Frame l body) r ≡ true
-  calm r nothing =
-      λ i. (not ((and_parts (is_open l h.entries) (is_whole l h.entries) up).0 i)
-      || (and_parts (is_open l h.entries) (is_whole l h.entries) up).1 i) && is_empty (nothing i)
+  calm r nothing = grind arith
 
 row_silent : (a b : Bool) (r : Rule)
     → cond a (cond b None (Some Rule.ForeignPid)) (Some Rule.PartOrder) ≡ Some r
@@ -237,8 +183,7 @@ refusal_silent x hs (Message2.Down s) r q = no_value (sym q)
 before_from : (l : ℕ) (es : List Entry) (b : Option Begun) (kind : PartKind) (s : List ℕ)
     (number : ℕ) → are_peers l es (rows_kept b) ≡ true
     → are_peers l es (rows_before b kind s number) ≡ true
-before_from l es None kind s number q = grind arith
-before_from l es (Some b) kind s number q = grind arith
+before_from l es b kind s number q = grind arith
 
 pub all_from : (h : History) → IsPlayed h → (l : ℕ) (kind : PartKind) (s : List ℕ) (number : ℕ)
     (last : Bool) (rows : List Row)
@@ -274,24 +219,6 @@ module _ {h : History} {l : ℕ} {x : KeptLink} (here : IsUpHere h l x) (legal :
 
 -- ---- what the table tells
 
--- behind checks that hold the next decides
-behind : (cs : List Check) (c : Check) → first_broken cs ≡ None
-    → first_broken (cs ++ c ∷ []) ≡ cond c.broken (Some c.rule) None
-behind [] c q = refl
-behind (b ∷ cs) c q = by (behind cs c) b.broken refl
-  where
-    by : (first_broken cs ≡ None → first_broken (cs ++ c ∷ []) ≡ cond c.broken (Some c.rule) None)
-        → (x : Bool) → b.broken ≡ x
-        → first_broken ((b ∷ cs) ++ c ∷ []) ≡ cond c.broken (Some c.rule) None
-    by others true is = no_value (sym (ap (λ x. cond x (Some b.rule) (first_broken cs)) is) ∙ q)
-    by others false is =
-        ap (λ x. cond x (Some b.rule) (first_broken (cs ++ c ∷ []))) is
-        ∙ others (sym (ap (λ x. cond x (Some b.rule) (first_broken cs)) is) ∙ q)
-
-pub behind_early : (early : List Check) (b : Bool) (r : Rule) → first_broken early ≡ None
-    → first_broken (early ++ unless b r ∷ []) ≡ cond b None (Some r)
-behind_early early b r q = behind early (unless b r) q ∙ turned b (Some r) None
-
 module _ (h : History) (l : ℕ) (s : List ℕ) (r : Running) (named : r.scope ≡ s)
     (t : IsRunningOf (scope_words h) r) where
   pub total_is : (n : List ℕ) → peer_of l h.entries ≡ Some n
@@ -319,36 +246,17 @@ module _ (h : History) (l : ℕ) (s : List ℕ) (r : Running) (named : r.scope �
       → first_broken (early_checks h l (Message2.Part kind s number last rows)) ≡ None
       → first_broken (message_checks h l (Message2.Part kind s number last rows))
       ≡ table_refusal r.table n kind (so_far h l kind s number rows) (peer_limit h l)
-  table_is n of PartKind.Sync number last rows q =
-      behind_early (early_checks h l (Message2.Part PartKind.Sync s number last rows))
-      (nat_le (length (so_far h l PartKind.Sync s number rows)) (peer_limit h l)) Rule.RowsFull q
-  table_is n of PartKind.Join number last rows q =
-      let all = so_far h l PartKind.Join s number rows in
-      behind_early (early_checks h l (Message2.Part PartKind.Join s number last rows))
-      (nat_le (peer_rows h l s + length all) (peer_limit h l)) Rule.RowsFull q
-      ∙ ap (λ m. cond (nat_le (m + length all) (peer_limit h l)) None (Some Rule.RowsFull))
-      (total_is n of)
+  table_is n of PartKind.Sync number last rows q = grind arith
+  table_is n of PartKind.Join number last rows q = grind (arith, total_is n of)
   table_is n of PartKind.Leave number last rows q =
-      let all = so_far h l PartKind.Leave s number rows in
-      behind_early (early_checks h l (Message2.Part PartKind.Leave s number last rows))
-      (list_all (λ w. nat_le (rows_of w.group w.pid all) (listed h s w.group w.pid)) all)
-      Rule.NotListed q
-      ∙ ap (λ b. cond b None (Some Rule.NotListed)) (sym (counted_is all))
+      grind (arith, counted_is (so_far h l PartKind.Leave s number rows))
 
 -- what the table tells is owed nothing
-one_silent : (b : Bool) (x r : Rule) → refusal_owes x ≡ [] → cond b None (Some x) ≡ Some r
-    → refusal_owes r ≡ []
-one_silent true x r nothing q = no_value (sym q)
-one_silent false x r nothing q = ap refusal_owes (sym (some_is q)) ∙ nothing
-
 pub table_silent : (t : Table) (n : List ℕ) (kind : PartKind) (rows : List Row) (limit : ℕ)
     (r : Rule) → table_refusal t n kind rows limit ≡ Some r → refusal_owes r ≡ []
-table_silent t n PartKind.Sync rows limit r q =
-    one_silent (nat_le (length rows) limit) Rule.RowsFull r refl q
-table_silent t n PartKind.Join rows limit r q =
-    one_silent (nat_le (node_total t n + length rows) limit) Rule.RowsFull r refl q
-table_silent t n PartKind.Leave rows limit r q =
-    one_silent (are_counted t rows) Rule.NotListed r refl q
+table_silent t n PartKind.Sync rows limit r q = grind arith
+table_silent t n PartKind.Join rows limit r q = grind arith
+table_silent t n PartKind.Leave rows limit r q = grind arith
 
 -- what the table refuses is the first rule that is broken, and ends no link
 pub rows_calm : (h : History) (seat l : ℕ) (body : List ℕ) → is_up l h.entries ≡ true
@@ -383,5 +291,4 @@ pub frame_unread : (h : History) (seat l : ℕ) (body : List ℕ) → is_up l h.
     → frame_taken h.opening l h.entries body ≡ None
     → first_broken (checks h seat (Event.Frame l body)) ≡ Some Rule.BadFrame
 frame_unread h seat l body up none =
-    message_rules h seat l body up (up_awaits h l up)
-    ∙ ap (λ o. first_broken (option_map_or (message_checks h l) o (always Rule.BadFrame))) none
+    grind (arith, message_rules h seat l body up (up_awaits h l up), none)

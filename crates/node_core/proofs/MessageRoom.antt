@@ -1,14 +1,14 @@
 -- Room that is made for a message, and the answer to a Discover.
 use Rattle.node_core.proofs
-use proofs.Words.{Accepted, AnswersDiscover, ap, begun_with, Bool, can_be_told, checks, cond}
+use proofs.Words.{Accepted, AnswersDiscover, ap, arith, begun_with, Bool, can_be_told, checks, cond}
 use proofs.Words.{count_of, early_checks, Event, false, first_broken, Follows, frame_taken, get_or}
 use proofs.Words.{get_or_default, HasBecome, History, is_full, is_up, IsAlone, IsLinkOf}
-use proofs.Words.{IsRowListing, just, kept_climbs, KeptLink, leb-true, length, link_place}
-use proofs.Words.{link_version, link_words, LinksFollow, List, local_rows, local_total, max_rows}
-use proofs.Words.{Message, Message2, message_checks, message_owes, nat_le, None, OutFrame, Parts}
-use proofs.Words.{refl, Reply, Rule, Running, running_rises, said_in, same, scope_place}
-use proofs.Words.{scope_words, ScopesFollow, set, Some, subst, sym, takes_parts, true, wide}
-use proofs.Words.{with_frames, with_number, with_room, ℕ, [], ◌++◌, ◌==◌, ◌||◌, ◌∙◌, ◌∷◌, ◌≡◌, ◌≤◌}
+use proofs.Words.{IsRowListing, just, kept_climbs, KeptLink, leb-true, link_place, link_version}
+use proofs.Words.{link_words, LinksFollow, List, local_rows, local_total, max_rows, Message2}
+use proofs.Words.{message_checks, message_owes, None, OutFrame, Parts, refl, Reply, Rule, rules}
+use proofs.Words.{Running, running_rises, same, scope_place, scope_words, ScopesFollow, set, Some}
+use proofs.Words.{subst, sym, takes_parts, true, with_frames, with_number, with_room, ℕ, [], ◌++◌}
+use proofs.Words.{◌==◌, ◌∙◌, ◌≡◌, ◌≤◌}
 use Rattle.policy_audit.proofs.OwnRows.{sync_listing}
 use proofs.Entered.{made}
 use proofs.KeptOn.{one_follows, place_is}
@@ -16,7 +16,7 @@ use proofs.OneScope.{one_scope_follows}
 use proofs.Scopes.{own_counts}
 use proofs.MessagePlaces.{IsScopeHere, IsUpHere, same_there, scope_here, up_here}
 use proofs.MessageKept.{its_links}
-use proofs.MessageRefused.{behind_early, says_broken}
+use proofs.MessageRefused.{says_broken}
 use proofs.RowsGone.{rows_total}
 use proofs.MessageScopes.{becomes_running, counted, discovered_follows, discovered_next}
 use proofs.MessageScopes.{heard_there, told_there}
@@ -31,12 +31,7 @@ roomed_links {h} {parts} t l up {p} {x} {a} q is same =
     let here = up_here t l up q is in
     let place = place_is parts.links l p x q in
     one_follows (link_words h) (link_words h) a
-    (subst (IsLinkOf (link_words h)) (sym same) (record {
-      state = here.link.state;
-      begun = here.link.begun;
-      frames = here.link.frames;
-      idle = here.link.idle;
-    }))
+    (subst (IsLinkOf (link_words h)) (sym same) (search rules))
     (λ z apart u. u) parts.links p x t.links (kept_climbs h t.sound.played) refl place.0
     (ap (λ z. z.number) same ∙ here.number ∙ sym place.1)
 
@@ -77,14 +72,7 @@ pub follows_with : {h : History} {parts : Parts} → Follows h parts
     → {rs : List Running} {kept : List KeptLink} → ScopesFollow (scope_words h) rs
     → LinksFollow (link_words h) kept
     → Follows h (record parts { scopes = rs; links = kept })
-follows_with t scopes links = record {
-  sound = t.sound;
-  admission = t.admission;
-  processes = t.processes;
-  scopes = scopes;
-  links = links;
-  monitors = t.monitors;
-}
+follows_with t scopes links = search rules
 
 -- ---- the answer to a Discover
 
@@ -93,12 +81,8 @@ pub few_told : {h : History} {parts : Parts} → Follows h parts → (s : List �
     {r o : Running} → scope_place s parts.scopes ≡ Some p → r ≡ get_or parts.scopes p r
     → o ≡ get_or parts.scopes p o → (parted : Bool) → can_be_told r.table parted ≡ true
     → parted ≡ false → local_total o.table ≤ max_rows
-few_told {h} {parts} t s {p} {r} {o} at r_is o_is parted fits none =
-    leb-true (local_total o.table) max_rows
-    (sym (ap (can_be_told o.table) none)
-    ∙ ap (λ (w : Running). can_be_told w.table parted)
-    (same_there h parts.scopes s p r o (scope_here t s at r_is) o_is)
-    ∙ fits)
+few_told t s at r_is o_is parted fits none =
+    grind (arith, leb-true, same_there (scope_here t s at r_is) o_is)
 
 module _ {h : History} {parts : Parts} (t : Follows h parts) (seat l : ℕ) (body : List ℕ)
     (space : is_full h ≡ false) (up : is_up l h.entries ≡ true)
@@ -117,14 +101,8 @@ module _ {h : History} {parts : Parts} (t : Follows h parts) (seat l : ℕ) (bod
   pub asked_is : first_broken (message_checks h l (Message2.Discover s))
       ≡ cond (can_be_told r.table (takes_parts x.state)) None (Some Rule.RowsFull)
   asked_is =
-      let version = its_link.introduced.said.1.version_is in
       let total = rows_total h s r its_scope.named its_scope.running t.sound.played in
-      behind_early (early_checks h l (Message2.Discover s))
-      (link_version h.opening l h.entries == 2 || nat_le (length (local_rows h s)) max_rows)
-      Rule.RowsFull early
-      ∙ (λ i. cond (sym version i == 2 || nat_le (total i) max_rows) None (Some Rule.RowsFull))
-      ∙ ap (λ u. cond (can_be_told r.table (takes_parts u)) None (Some Rule.RowsFull))
-      (sym its_link.is)
+      grind (arith, its_link.introduced.said.1.version_is, total, its_link.is)
 
   -- they can't
   pub asked_calm : frame_taken h.opening l h.entries body ≡ Some (Message2.Discover s)
@@ -132,12 +110,12 @@ module _ {h : History} {parts : Parts} (t : Follows h parts) (seat l : ℕ) (bod
       → first_broken (checks h seat (Event.Frame l body)) ≡ Some Rule.RowsFull
   asked_calm says full =
       says_broken h seat l body (Message2.Discover s) Rule.RowsFull up its_link.awaited says
-      (asked_is ∙ ap (λ b. cond b None (Some Rule.RowsFull)) full)
+      (asked_is ∙ rw full)
 
   module _ (says : frame_taken h.opening l h.entries body ≡ Some (Message2.Discover s))
       (told : can_be_told r.table (takes_parts x.state) ≡ true) where
     pub holds : first_broken (message_checks h l (Message2.Discover s)) ≡ None
-    holds = asked_is ∙ ap (λ b. cond b None (Some Rule.RowsFull)) told
+    holds = asked_is ∙ rw told
 
     answer_is : {frames : List OutFrame} → AnswersDiscover r (takes_parts x.state) l s frames
         → frames ≡ message_owes h l (Message2.Discover s)
@@ -149,9 +127,7 @@ module _ {h : History} {parts : Parts} (t : Follows h parts) (seat l : ℕ) (bod
         let heard_is = heard_there h s r its_scope.named its_scope.running l in
         let parted : takes_parts x.state ≡ (link_version h.opening l h.entries == 2) =
         ap takes_parts its_link.is ∙ ap (λ v. v == 2) its_link.introduced.said.1.version_is in
-        a.frames_are
-        ∙ (λ i. said_in (Message.Sync s (rows_are i)) (parted i)
-        ++ cond (heard_is i) [] (wide (Message.Discover s) ∷ []))
+        grind (arith, a.frames_are, rows_are, parted, heard_is)
 
     -- seen again at its place
     again : {v : KeptLink} → v ≡ get_or parts.links pl v → v ≡ x
@@ -168,13 +144,9 @@ module _ {h : History} {parts : Parts} (t : Follows h parts) (seat l : ℕ) (bod
         × Follows (just h (made h seat (Event.Frame l body) (Accepted Reply.Done) []))
         (record parts { scopes = set parts.scopes p y; links = set parts.links pl z })
     answered_now {o} {y} {v} {a} {z} {frames} o_is v_is became answered same owed =
-        let one = same_there h parts.scopes s p r o its_scope o_is in
-        let becomes =
-        subst (λ w. HasBecome w y (count_of w.table) w.heard.items (with_number l w.told.items))
-        one became in
-        let answer =
-        answer_is (subst (λ w. AnswersDiscover w (takes_parts x.state) l s frames) one
-        answered) in
+        let one = same_there its_scope o_is in
+        let becomes = rw one at became in
+        let answer = answer_is (rw one at answered) in
         let is : z ≡ with_room (begun_with (with_frames x frames) None) z.room =
         owed
         ∙ ap (λ w. with_room (begun_with (with_frames w frames) None) z.room)

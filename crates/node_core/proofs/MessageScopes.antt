@@ -1,24 +1,23 @@
 -- What each accepted message makes of its scope and of its link.
 use Rattle.node_core.proofs
+use Rattle.policy_audit.proofs as policy
 use proofs.Words.{Accepted, and-true, ap, append-nil, arith, begun, begun_after, Bool, completed}
-use proofs.Words.{cond, CoreFault, count_after_add, count_after_drop, count_after_sync}
-use proofs.Words.{count_after_take, count_of, count_with, early_checks, Entry, eqb-true, Event}
-use proofs.Words.{false, first_broken, flip, Follows, frame_taken, get_or, GroupChange, HasBecome}
-use proofs.Words.{heard, heard_with, History, if_some, is_full, is_number, is_up, IsAlone}
-use proofs.Words.{IsCalmFault, IsCutOff, IsDifference, IsHeardNow, IsRowFault, IsRunningOf, IsStep}
-use proofs.Words.{just, KeptLink, link_place, link_words, LinksFollow, List, listed, Message}
-use proofs.Words.{Message2, message_checks, message_owes, nat_eq, no_change, None, not, occurrences}
-use proofs.Words.{Option, option_and_then, PartKind, Parts, peer_of, Pid, refl, Reply, Row, row}
-use proofs.Words.{row_limit, rows_so_far, Running, running_rises, said_at, same, same_decides}
-use proofs.Words.{same_row, same_sym, scope_place, scope_words, set, Some, subst, sym}
+use proofs.Words.{cond, CoreFault, count_after_drop, count_of, count_with, early_checks, Entry}
+use proofs.Words.{eqb-true, Event, false, first_broken, flip, Follows, frame_taken, get_or}
+use proofs.Words.{GroupChange, HasBecome, heard, heard_with, History, if_some, is_full, is_number}
+use proofs.Words.{is_up, IsAlone, IsCalmFault, IsCutOff, IsDifference, IsHeardNow, IsRowFault}
+use proofs.Words.{IsRunningOf, IsStep, just, KeptLink, link_place, link_words, LinksFollow, List}
+use proofs.Words.{listed, Message, Message2, message_checks, message_owes, nat_eq, no_change, None}
+use proofs.Words.{not, occurrences, Option, option_and_then, PartKind, Parts, peer_of, Pid, refl}
+use proofs.Words.{Reply, Row, row, row_limit, rows_so_far, Running, running_rises, said_at, same}
+use proofs.Words.{same_decides, same_row, same_sym, scope_place, scope_words, set, Some, subst, sym}
 use proofs.Words.{table_refusal, told, true, up_peer, with_number, without, ℕ, [], ◌&&◌, ◌++◌, ◌+◌}
 use proofs.Words.{◌-◌, ◌==◌, ◌||◌, ◌∙◌, ◌∷◌, ◌≡◌}
 use Rattle.std.proofs.lemmas.List.Folds.{list_any-append}
-use Rattle.policy_audit.proofs.HeardSaid.{discovered_heard, downed_heard, joined_heard, left_heard}
-use Rattle.policy_audit.proofs.HeardSaid.{synced_heard}
-use Rattle.policy_audit.proofs.MessageRows.{added_rows, discovered_rows, downed_rows, synced_rows}
-use Rattle.policy_audit.proofs.MessageRows.{taken_rows, unsaid_rows}
-use Rattle.policy_audit.proofs.HeardNow.{unsaid_heard}
+use policy.HeardSaid.{discovered_heard, downed_heard, joined_heard, left_heard, synced_heard}
+use policy.MessageRows.{added_rows, discovered_rows, downed_rows, synced_rows, taken_rows}
+use policy.MessageRows.{unsaid_rows}
+use policy.HeardNow.{unsaid_heard}
 use proofs.Entered.{made, step_follows}
 use proofs.MessagePlaces.{IsScopeHere, IsUpHere, same_there, scope_here, up_here}
 use proofs.MessageRefused.{begun_is, limit_is, peer_is, rows_calm, table_is, table_silent}
@@ -141,8 +140,8 @@ module _ {h : History} {parts : Parts} (t : Follows h parts) (seat l : ℕ) (bod
 
     rows_here : (g : List ℕ) (q : Pid)
         → counts (count_of r.table g q) g q ≡ listed (after_it gs) s g q
-    rows_here g q = ap (λ n. counts n g q) (counted h s r there.named there.running g q)
-        ∙ sym (rows so s g q ∙ grind (arith, itself))
+    rows_here g q =
+        grind (arith, counted h s r there.named there.running g q, rows so s g q, itself)
 
     rows_apart : (u : List ℕ) → same u s ≡ false → (g : List ℕ) (q : Pid)
         → listed (after_it gs) u g q ≡ listed h u g q
@@ -153,14 +152,20 @@ module _ {h : History} {parts : Parts} (t : Follows h parts) (seat l : ℕ) (bod
     still z apart u = record {
       own = u.own;
       rows = λ g q. u.rows g q ∙ sym (rows_apart z.scope apart g q);
-      heard = λ j. u.heard j
-          ∙ sym ((talk so j z.scope).heard_is
-          ∙ ap (hears (heard h.opening j z.scope h.entries)) (elsewhere j z.scope apart)
-          ∙ (plain (heard h.opening j z.scope h.entries)).0);
-      told = λ j. u.told j
-          ∙ sym ((talk so j z.scope).told_is
-          ∙ ap (tells (told h.opening j z.scope h.entries)) (elsewhere j z.scope apart)
-          ∙ (plain (told h.opening j z.scope h.entries)).1);
+      heard = λ j. grind (
+        arith,
+        u.heard j,
+        (talk so j z.scope).heard_is,
+        elsewhere j z.scope apart,
+        (plain (heard h.opening j z.scope h.entries)).0,
+      );
+      told = λ j. grind (
+        arith,
+        u.told j,
+        (talk so j z.scope).told_is,
+        elsewhere j z.scope apart,
+        (plain (told h.opening j z.scope h.entries)).1,
+      );
     }
 
     follows : IsAlone h (entry gs) → (kept : List KeptLink)
@@ -268,88 +273,7 @@ module _ {h : History} {parts : Parts} (t : Follows h parts) (seat l : ℕ) (bod
       abbrev last_part : PartKind → Message2
       last_part kind = Message2.Part kind s number true rows
 
-      synced : frame_taken h.opening l h.entries body ≡ Some (last_part PartKind.Sync)
-          → first_broken (message_checks h l (last_part PartKind.Sync)) ≡ None
-          → (gs : List GroupChange)
-          → HasBecome r y (count_after_sync r.table n (all_rows PartKind.Sync number rows))
-          (with_number l r.heard.items) r.told.items
-          → IsDifference (count_of r.table) (count_of y.table) gs → {z : KeptLink}
-          → IsLinkAfter (last_part PartKind.Sync) z → IsKept gs z
-      synced says holds gs b differ {z} is =
-          let all = all_rows PartKind.Sync number rows in
-          let said = on_link says
-          (ap (λ rs. Some (Message.Sync s rs)) (all_are PartKind.Sync number rows)) in
-          silent (last_part PartKind.Sync) says holds gs
-          (λ k g q. cond (same q.node n) (occurrences same_row (row g q) all) k) (λ b c. c || b)
-          (λ b c. b) (λ b. (refl, refl))
-          (λ so. synced_rows h t.sound.played (entry gs) so refl l body refl n here.awaited of other
-          s
-          all said)
-          (λ so j u. synced_heard h t.sound.played (entry gs) so refl l body refl here.awaited j u s
-          all said)
-          (with_number l r.heard.items) r.told.items b (λ j. number_on j l r.heard.items)
-          (λ j. refl) refl is differ
-
-      added : frame_taken h.opening l h.entries body ≡ Some (last_part PartKind.Join)
-          → first_broken (message_checks h l (last_part PartKind.Join)) ≡ None
-          → (gs : List GroupChange)
-          → HasBecome r y (count_after_add r.table (all_rows PartKind.Join number rows))
-          r.heard.items r.told.items
-          → IsDifference (count_of r.table) (count_of y.table) gs → {z : KeptLink}
-          → IsLinkAfter (last_part PartKind.Join) z → IsKept gs z
-      added says holds gs b differ {z} is =
-          let all = all_rows PartKind.Join number rows in
-          let said = on_link says
-          (ap (λ rs. Some (Message.Join s rs)) (all_are PartKind.Join number rows)) in
-          silent (last_part PartKind.Join) says holds gs
-          (λ k g q. k + occurrences same_row (row g q) all) (λ b c. b) (λ b c. b)
-          (λ b. (refl, refl))
-          (λ so. added_rows h t.sound.played (entry gs) so refl l body refl n here.awaited of other
-          s
-          all said)
-          (λ so j u. joined_heard h t.sound.played (entry gs) so refl l body refl here.awaited j u s
-          all said)
-          r.heard.items r.told.items b (λ j. refl) (λ j. refl) refl is differ
-
-      taken : frame_taken h.opening l h.entries body ≡ Some (last_part PartKind.Leave)
-          → first_broken (message_checks h l (last_part PartKind.Leave)) ≡ None
-          → (gs : List GroupChange)
-          → HasBecome r y (count_after_take r.table (all_rows PartKind.Leave number rows))
-          r.heard.items r.told.items
-          → IsDifference (count_of r.table) (count_of y.table) gs → {z : KeptLink}
-          → IsLinkAfter (last_part PartKind.Leave) z → IsKept gs z
-      taken says holds gs b differ {z} is =
-          let all = all_rows PartKind.Leave number rows in
-          let said = on_link says
-          (ap (λ rs. Some (Message.Leave s rs)) (all_are PartKind.Leave number rows)) in
-          silent (last_part PartKind.Leave) says holds gs
-          (λ k g q. k - occurrences same_row (row g q) all) (λ b c. b) (λ b c. b)
-          (λ b. (refl, refl))
-          (λ so. taken_rows h t.sound.played (entry gs) so refl l body refl n here.awaited of other
-          s
-          all said)
-          (λ so j u. left_heard h t.sound.played (entry gs) so refl l body refl here.awaited j u s
-          all said)
-          r.heard.items r.told.items b (λ j. refl) (λ j. refl) refl is differ
-
-      -- a part that isn't last leaves the scope as it was
-      unfinished : (kind : PartKind)
-          → frame_taken h.opening l h.entries body ≡ Some (Message2.Part kind s number false rows)
-          → first_broken (message_checks h l (Message2.Part kind s number false rows)) ≡ None
-          → (gs : List GroupChange)
-          → HasBecome r y (count_of r.table) r.heard.items r.told.items
-          → IsDifference (count_of r.table) (count_of y.table) gs → {z : KeptLink}
-          → IsLinkAfter (Message2.Part kind s number false rows) z → IsKept gs z
-      unfinished kind says holds gs b differ {z} is =
-          silent (Message2.Part kind s number false rows) says holds gs (λ k g q. k) (λ b c. b)
-          (λ b c. b) (λ b. (refl, refl))
-          (λ so u g q. unsaid_rows h t.sound.played (entry gs) so refl l body refl n here.awaited of
-          other (on_link says refl) u g q ∙ grind arith)
-          (λ so j u. unsaid_heard h t.sound.played (entry gs) so refl l body refl here.awaited
-          (on_link says refl) j u)
-          r.heard.items r.told.items b (λ j. refl) (λ j. refl) refl is differ
-
-      -- what a part makes, the last or another
+      -- what a part makes, the last or another, which leaves the scope as it was
       pub went_on : (last : Bool) (kind : PartKind)
           → frame_taken h.opening l h.entries body ≡ Some (Message2.Part kind s number last rows)
           → first_broken (early_checks h l (Message2.Part kind s number last rows)) ≡ None
@@ -359,14 +283,55 @@ module _ {h : History} {parts : Parts} (t : Follows h parts) (seat l : ℕ) (bod
           (heard_with last kind l r.heard.items) r.told.items
           → IsDifference (count_of r.table) (count_of y.table) gs → {z : KeptLink}
           → IsLinkAfter (Message2.Part kind s number last rows) z → IsKept gs z
-      went_on true PartKind.Sync says early fits =
-          synced says (table_here PartKind.Sync number true rows early ∙ fits)
-      went_on true PartKind.Join says early fits =
-          added says (table_here PartKind.Join number true rows early ∙ fits)
-      went_on true PartKind.Leave says early fits =
-          taken says (table_here PartKind.Leave number true rows early ∙ fits)
-      went_on false kind says early fits =
-          unfinished kind says (table_here kind number false rows early ∙ fits)
+      went_on true PartKind.Sync says early fits gs b differ is =
+          let all = all_rows PartKind.Sync number rows in
+          let said = on_link says
+          (ap (λ rs. Some (Message.Sync s rs)) (all_are PartKind.Sync number rows)) in
+          silent (last_part PartKind.Sync) says
+          (table_here PartKind.Sync number true rows early ∙ fits) gs
+          (λ k g q. cond (same q.node n) (occurrences same_row (row g q) all) k) (λ b c. c || b)
+          (λ b c. b) (λ b. (refl, refl))
+          (λ so. synced_rows h t.sound.played (entry gs) so refl l body refl n here.awaited of other
+          s all said)
+          (λ so j u. synced_heard h t.sound.played (entry gs) so refl l body refl here.awaited j u s
+          all said)
+          (with_number l r.heard.items) r.told.items b (λ j. number_on j l r.heard.items)
+          (λ j. refl) refl is differ
+      went_on true PartKind.Join says early fits gs b differ is =
+          let all = all_rows PartKind.Join number rows in
+          let said = on_link says
+          (ap (λ rs. Some (Message.Join s rs)) (all_are PartKind.Join number rows)) in
+          silent (last_part PartKind.Join) says
+          (table_here PartKind.Join number true rows early ∙ fits) gs
+          (λ k g q. k + occurrences same_row (row g q) all) (λ b c. b) (λ b c. b)
+          (λ b. (refl, refl))
+          (λ so. added_rows h t.sound.played (entry gs) so refl l body refl n here.awaited of other
+          s all said)
+          (λ so j u. joined_heard h t.sound.played (entry gs) so refl l body refl here.awaited j u s
+          all said)
+          r.heard.items r.told.items b (λ j. refl) (λ j. refl) refl is differ
+      went_on true PartKind.Leave says early fits gs b differ is =
+          let all = all_rows PartKind.Leave number rows in
+          let said = on_link says
+          (ap (λ rs. Some (Message.Leave s rs)) (all_are PartKind.Leave number rows)) in
+          silent (last_part PartKind.Leave) says
+          (table_here PartKind.Leave number true rows early ∙ fits) gs
+          (λ k g q. k - occurrences same_row (row g q) all) (λ b c. b) (λ b c. b)
+          (λ b. (refl, refl))
+          (λ so. taken_rows h t.sound.played (entry gs) so refl l body refl n here.awaited of other
+          s all said)
+          (λ so j u. left_heard h t.sound.played (entry gs) so refl l body refl here.awaited j u s
+          all said)
+          r.heard.items r.told.items b (λ j. refl) (λ j. refl) refl is differ
+      went_on false kind says early fits gs b differ is =
+          silent (Message2.Part kind s number false rows) says
+          (table_here kind number false rows early ∙ fits) gs (λ k g q. k) (λ b c. b) (λ b c. b)
+          (λ b. (refl, refl))
+          (λ so u g q. unsaid_rows h t.sound.played (entry gs) so refl l body refl n here.awaited of
+          other (on_link says refl) u g q ∙ grind arith)
+          (λ so j u. unsaid_heard h t.sound.played (entry gs) so refl l body refl here.awaited
+          (on_link says refl) j u)
+          r.heard.items r.told.items b (λ j. refl) (λ j. refl) refl is differ
 
     -- ---- a Down
 
@@ -386,5 +351,4 @@ module _ {h : History} {parts : Parts} (t : Follows h parts) (seat l : ℕ) (bod
         (record { scope = cut.scope; rows = cut.rows; heard = cut.heard; told = cut.told })
         (λ j. number_left j l r.heard.items) (λ j. number_left j l r.told.items) refl is
         (subst (λ f. IsDifference (count_of r.table) f gs) (λ i g q. sym (cut.rows.counts g q) i)
-        (subst (λ w. IsDifference (count_of w.table) (count_after_drop w.table n) gs)
-        (same_there h parts.scopes s p r o there o_is) differ))
+        (rw (same_there there o_is) at differ))

@@ -1,27 +1,28 @@
 -- A Discover that ends its link: too many frames would wait for it.
 use Rattle.node_core.proofs
-use proofs.Words.{Accepted, and-true, and_both, and_parts, ap, AreCut, AreLost, arith, audit_of}
-use proofs.Words.{AwaitMessage, begun, begun_with, Bool, Change, completed, cond, drop, Entry}
-use proofs.Words.{entry_link, Event, false, filter, first_broken, Follows, frame_owes, frame_taken}
-use proofs.Words.{framed_numbers, frames_to, get_or, get_or_default, heard, History, is_full}
-use proofs.Words.{is_kept, is_last, is_number, is_open, is_some, is_up, is_whole, IsAlone, IsChange}
-use proofs.Words.{IsLegal, IsNext, IsSound, IsStep, just, KeptLink, le-ltb, length, length-map}
-use proofs.Words.{link_place, link_version, link_words, LinksFollow, List, local_rows, local_total}
-use proofs.Words.{lose, loss, lt-ltb, map, max_rows, max_waiting, Message, Message2, message_checks}
-use proofs.Words.{message_owes, named_by, nat_lt, no_value, None, not, option_and_then, OutFrame}
-use proofs.Words.{PartKind, Parts, past, refl, Reply, reverse, Row, Running, said_at, said_in, same}
-use proofs.Words.{scope_place, set, Some, subst, suc, sym, sync_frames, takes_parts, true, up_peer}
-use proofs.Words.{waiting, wide, with_entry, with_frames, without_number, zero, ℕ, [], ◌&&◌, ◌++◌}
-use proofs.Words.{◌+◌, ◌<◌, ◌==◌, ◌∙◌, ◌∷◌, ◌≡◌, ◌≤◌}
+use Rattle.policy_audit.proofs as policy
+use proofs.Words.{Accepted, and_both, and_parts, ap, AreCut, AreLost, arith, audit_of, AwaitMessage}
+use proofs.Words.{begun, begun_with, Bool, Change, completed, cond, drop, Entry, entry_link, Event}
+use proofs.Words.{false, filter, first_broken, Follows, frame_owes, frame_taken, framed_numbers}
+use proofs.Words.{frames_to, get_or, get_or_default, heard, History, is_full, is_kept, is_last}
+use proofs.Words.{is_number, is_open, is_up, is_whole, IsAlone, IsChange, IsLegal, IsNext, IsSound}
+use proofs.Words.{IsStep, just, KeptLink, le-ltb, length, length-map, link_place, link_version}
+use proofs.Words.{link_words, LinksFollow, List, local_rows, local_total, lose, loss, lt-ltb, map}
+use proofs.Words.{max_rows, max_waiting, Message, Message2, message_checks, message_owes, named_by}
+use proofs.Words.{nat_lt, no_value, None, not, option_and_then, OutFrame, PartKind, Parts, past}
+use proofs.Words.{refl, Reply, reverse, Row, rules, Running, said_at, said_in, same, scope_place}
+use proofs.Words.{set, Some, subst, suc, sym, sync_frames, takes_parts, true, up_peer, waiting}
+use proofs.Words.{wide, with_entry, with_frames, without_number, zero, ℕ, [], ◌&&◌, ◌++◌, ◌+◌, ◌<◌}
+use proofs.Words.{◌==◌, ◌∙◌, ◌∷◌, ◌≡◌, ◌≤◌}
 use Rattle.std.proofs.lemmas.List.{length-append}
 use Rattle.group_monitors.specs.Follows.{FollowsPolicy}
-use Rattle.policy_audit.proofs.Onward.{message_taken_on}
-use Rattle.policy_audit.proofs.LinkFrames.{IsLinkNow, lost_links, message_links}
-use Rattle.policy_audit.proofs.LinksLeft.{lost_numbers}
-use Rattle.policy_audit.proofs.HeardNow.{lost_heard}
-use Rattle.policy_audit.proofs.HeardSaid.{discovered_heard}
-use Rattle.policy_audit.proofs.MessageRows.{discovered_rows}
-use Rattle.policy_audit.proofs.RowsAfter.{lost_rows}
+use policy.Onward.{message_taken_on}
+use policy.LinkFrames.{IsLinkNow, lost_links, message_links}
+use policy.LinksLeft.{lost_numbers}
+use policy.HeardNow.{lost_heard}
+use policy.HeardSaid.{discovered_heard}
+use policy.MessageRows.{discovered_rows}
+use policy.RowsAfter.{lost_rows}
 use proofs.Entered.{made, sound_now}
 use proofs.KeptOn.{place_is}
 use proofs.Losing.{gone_change, gone_links, gone_scopes, IsGone, IsUpWith, RowsGone}
@@ -96,9 +97,7 @@ module _ {h : History} {parts : Parts} (t : Follows h parts) (legal : IsLegal h)
       + cond (is_number l r.heard.items) 0 1)
 
   full_is : is_slow_link full ≡ nat_lt max_waiting many_now
-  full_is =
-      (λ i. nat_lt max_waiting (long i) && is_some (up_peer (here.is i)))
-      ∙ and-true (nat_lt max_waiting many_now)
+  full_is = grind (arith, long, here.is)
     where
       asks : Bool → List OutFrame
       asks b = cond b [] (wide (Message.Discover s) ∷ [])
@@ -129,7 +128,7 @@ module _ {h : History} {parts : Parts} (t : Follows h parts) (legal : IsLegal h)
   pub few_enough : many_now ≤ max_waiting → with_entry h (e []) ≡ just h (e [])
   few_enough few =
       none_lost h (e []) (so [], t.sound.played) (set parts.links pl full) (full_links [])
-      (full_alone ∙ ap (λ b. cond b (full ∷ []) []) (full_is ∙ le-ltb max_waiting many_now few))
+      (full_alone ∙ rw (full_is ∙ le-ltb max_waiting many_now few))
 
   -- else the link is lost with it
   module _ (many : max_waiting < many_now) (cs : List Change) where
@@ -158,16 +157,7 @@ module _ {h : History} {parts : Parts} (t : Follows h parts) (legal : IsLegal h)
       name = refl;
       same = λ j apart.
           let it = entry_link h.entries (e cs) l j body refl apart in
-          record {
-            opened = it.opened;
-            taken = it.taken;
-            given = it.given;
-            peer = it.peer;
-            awaits = it.awaits;
-            whole = it.whole;
-            talk = it.talk;
-            begun = it.begun;
-          };
+          search rules;
       opens = λ j.
           (lost_links k (loss l) refl l refl j).open_is
           ∙ ap (λ b. b && not (l == j)) (now_links j).open_is;

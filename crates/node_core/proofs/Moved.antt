@@ -1,12 +1,11 @@
 -- One scope whose own rows have changed, and the links that are told of it.
 use Rattle.node_core.proofs
-use proofs.Words.{Alike, and_parts, ap, AreTold, arith, Bool, Change, cond, count_of, facts, false}
-use proofs.Words.{first_of, Follows, get_or, heard, History, if_among, if_some, if_told, is_empty}
-use proofs.Words.{is_number, is_open, is_up, is_whole, IsChange, IsDifference, IsMovedBy}
-use proofs.Words.{IsOwnChange, IsRunningOf, KeptLink, link_version, List, listed, Message, not}
-use proofs.Words.{OutFrame, Parts, Pid, refl, Row, Running, running_rises, running_scopes, said_in}
-use proofs.Words.{said_to, same, scope_place, scope_words, ScopesFollow, set, set-get_or, Some}
-use proofs.Words.{subst, sym, talk, tells as tells_it, told, true, unwrap_or, ℕ, [], ◌==◌, ◌||◌}
+use proofs.Words.{Alike, ap, AreTold, arith, Bool, Change, cond, count_of, facts, false, Follows}
+use proofs.Words.{get_or, heard, History, if_among, if_some, if_told, is_empty, is_number, IsChange}
+use proofs.Words.{IsDifference, IsMovedBy, IsOwnChange, IsRunningOf, KeptLink, link_version, List}
+use proofs.Words.{listed, Message, not, OutFrame, Parts, Pid, refl, Row, rules, Running}
+use proofs.Words.{running_rises, running_scopes, said_in, said_to, same, scope_place, scope_words}
+use proofs.Words.{ScopesFollow, set, set-get_or, Some, subst, sym, told, true, ℕ, [], ◌==◌, ◌||◌}
 use proofs.Words.{◌∙◌, ◌≡◌}
 use Rattle.scope_core.specs.Calls.{Counts}
 use proofs.Scopes.{counts_listed}
@@ -21,18 +20,13 @@ told_frames : (rows : List Row) (numbers : List ℕ) (frames : Bool → List Out
     → (is_told ≡ true → parted ≡ version)
     → cond (is_empty rows || not is_told) [] (frames version)
     ≡ if_among (cond (not (is_empty rows)) numbers []) frames l parted
-told_frames rows numbers frames l parted version true q way =
-    grind (arith, q, way refl)
+told_frames rows numbers frames l parted version true q way = grind (arith, q, way refl)
 told_frames rows numbers frames l parted version false q way = grind (arith, q)
 
 -- a link that is told takes messages by its version
 told_way : (h : History) (l : ℕ) (s : List ℕ) (parted : Bool) → IsItsWay (facts h l) parted
     → told h.opening l s h.entries ≡ true → parted ≡ (link_version h.opening l h.entries == 2)
-told_way h l s parted way told_so =
-    let up = (and_parts (is_up l h.entries)
-    (unwrap_or (first_of (tells_it s) (talk h.opening l h.entries)) false) told_so).0 in
-    let both = and_parts (is_open l h.entries) (is_whole l h.entries) up in
-    way both.0 both.1
+told_way h l s parted way told_so = grind (arith, way)
 
 -- what the policy owes to a link for rows is what the links of these numbers are told
 pub rows_told : (h : History) (l : ℕ) (s : List ℕ) (say : List Row → Message) (rows : List Row)
@@ -62,14 +56,7 @@ pub moved_so : {m : Message} {count : List ℕ → Pid → ℕ} {old new : Runni
     {links links_new : List KeptLink} {cs own : List Change} → IsMovedBy count old new cs
     → AreTold (if_among (said_to old.told.items m) (said_in m)) links links_new
     → IsOwnChange old count own → IsMoved m count old new links links_new own
-moved_so by links own = record {
-  scope = by.scope;
-  heard = by.heard;
-  told = by.told;
-  rows = by.rows;
-  own = own;
-  links = links;
-}
+moved_so by links own = search rules
 
 module _ (h : History) (seat : ℕ) (parts : Parts) (t : Follows h parts) (s : List ℕ) (p : ℕ)
     (here : scope_place s parts.scopes ≡ Some p) (a b : Running) (at : a ≡ get_or parts.scopes p a)
@@ -153,4 +140,4 @@ pub unmoved : {h : History} {parts : Parts} → Follows h parts → (p : ℕ) {a
 unmoved {h} {parts} t p {a} at same {links} alike =
     subst (λ rs. Follows h (record parts { scopes = rs; links = links }))
     (sym ((λ i. set parts.scopes p ((same ∙ at) i)) ∙ set-get_or parts.scopes p a))
-    (alike_again h parts t links alike)
+    (alike_again t links alike)

@@ -31,10 +31,6 @@ pub record AreMoves (h k : History) (j : ℕ) (now : LinkState) (more : List Out
   pub waits : (l : ℕ) → (j == l) ≡ false → stays l ≡ true → waiting k l ≡ waiting h l
   pub numbers : kept_numbers k ≡ filter stays (kept_numbers h)
 
-with_words : (w v : LinkWords) (x : KeptLink) → v.facts x.number ≡ w.facts x.number
-    → v.waiting x.number ≡ w.waiting x.number → IsLinkOf w x → IsLinkOf v x
-with_words w v x same_facts same_frames a = same_link x same_facts same_frames a
-
 module _ (h k : History) (legal : IsPlayed h) (j : ℕ) (state : LinkState) (frames : List OutFrame)
     (gone : Option ℕ) (unbegun : begun k.opening j k.entries ≡ None)
     (moves : AreMoves h k j state frames (stays_but gone))
@@ -55,7 +51,7 @@ module _ (h k : History) (legal : IsPlayed h) (j : ℕ) (state : LinkState) (fra
   moved = moved_on state frames room (get_or kept p d)
 
   picked : {A : Type 0} (new old : ℕ → A) (l : ℕ) → j ≡ l → pick new old l ≡ new l
-  picked new old l q = ap (λ b. cond (b || stays_but gone l) (new l) (old l)) (eq-eqb j l q)
+  picked new old l q = rw (eq-eqb j l q)
 
   here : IsLinkOf between moved
   here = record {
@@ -76,7 +72,8 @@ module _ (h k : History) (legal : IsPlayed h) (j : ℕ) (state : LinkState) (fra
   other : (x : KeptLink) → nat_eq x.number moved.number ≡ false → IsLinkOf (link_words h) x
       → IsLinkOf between x
   other x apart a =
-      with_words (link_words h) between x (elsewhere (facts k) (facts h) (moves.others x.number))
+      same_link {w = link_words h} {v = between} x
+      (elsewhere (facts k) (facts h) (moves.others x.number))
       (elsewhere (waiting k) (waiting h) (moves.waits x.number)) a
     where
       unlike : (j == x.number) ≡ false
@@ -89,7 +86,7 @@ module _ (h k : History) (legal : IsPlayed h) (j : ℕ) (state : LinkState) (fra
 
   stayed : (x : KeptLink) → stays_but gone x.number ≡ true → IsLinkOf between x
       → IsLinkOf (link_words k) x
-  stayed x q a = with_words between (link_words k) x (sym (new (facts k) (facts h)))
+  stayed x q a = same_link {w = between} {v = link_words k} x (sym (new (facts k) (facts h)))
       (sym (new (waiting k) (waiting h))) a
     where
       new : {A : Type 0} (f g : ℕ → A) → pick f g x.number ≡ f x.number
@@ -122,14 +119,7 @@ none_is_empty (x ∷ xs) b q = grind (arith, eqb-true (length (x ∷ xs)) 0)
 pub stated : {link : StatelessLink} {state : LinkState} {v w : KeptLink} (frames : List OutFrame)
     → v ≡ in_state state link → link.prepared ≡ [] → w ≡ with_room (with_frames v frames) w.room
     → w ≡ moved_on state frames w.room (in_state state link)
-stated {w = w} frames is idle owed = owed ∙ λ i. record {
-  number = (is i).number;
-  state = (is i).state;
-  begun = (is i).begun;
-  frames = (is i).frames ++ frames;
-  prepared = (ap (λ (x : KeptLink). x.prepared) is ∙ idle) i;
-  room = w.room;
-}
+stated frames is idle owed = grind arith
 
 module _ (link : StatelessLink) (xs : List KeptLink) (p : ℕ) (w : KeptLink) where
   -- a link is put in, and another goes

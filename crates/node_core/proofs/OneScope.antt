@@ -37,8 +37,8 @@ module _ (w v : ScopeWords) (s : List ℕ) (y : Running) (here : IsRunningOf v y
   changed (r ∷ rs) (suc p) d rises a within is = (
     on r (same_sym r.scope s
         ∙ apart r.scope s (subst (λ u. text_cmp r.scope u ≡ Less) is
-        (below r.scope rs p d rises.0 (omega (arith, within))))) a.0,
-    changed rs p d rises.1 a.1 (omega (arith, within)) is,
+        (below r.scope rs p d rises.0 (omega arith)))) a.0,
+    changed rs p d rises.1 a.1 (omega arith) is,
   )
 
   pub one_scope_follows : (rs : List Running) (p : ℕ) (d : Running) → ScopesFollow w rs

@@ -1,5 +1,6 @@
 -- Links that open: the new link follows its opening, and all others are as before.
 use Rattle.node_core.proofs
+use Rattle.policy_audit.proofs as policy
 use proofs.Words.{Accepted, all_hold, all_left, all_reverse, AllByRecursion, ap, arith, Awaits}
 use proofs.Words.{begun, ByDial, ByPeer, challenge_in, dial_checks, dialled_link, dialled_waiting}
 use proofs.Words.{entered, Entry, eq-eqb, eqb-true, Event, facts, false, first_broken, Follows}
@@ -11,11 +12,11 @@ use proofs.Words.{not-true, opened_waiting, opening_waiting, option_map_or, own_
 use proofs.Words.{refl, Reply, running_scopes, same, scope_words, ScopesFollow, Some, Start}
 use proofs.Words.{start_of, subst, sym, true, unbroken, ℕ, [], ◌++◌, ◌<◌, ◌==◌, ◌||◌, ◌∙◌, ◌∷◌, ◌≡◌}
 use Rattle.handshake_frames.specs.Spelling.{name_bytes}
-use Rattle.policy_audit.proofs.KeptLinks.{links_below}
-use Rattle.policy_audit.proofs.Walked.{fresh, opens_number}
-use Rattle.policy_audit.proofs.NewLinks.{IsNewLink, opened_apart, opened_new, opened_open}
-use Rattle.policy_audit.proofs.HeardNow.{opening_heard}
-use Rattle.policy_audit.proofs.RowsAfter.{dialled_rows, opened_rows}
+use policy.KeptLinks.{links_below}
+use policy.Walked.{fresh, opens_number}
+use policy.NewLinks.{IsNewLink, opened_apart, opened_new, opened_open}
+use policy.HeardNow.{opening_heard}
+use policy.RowsAfter.{dialled_rows, opened_rows}
 use proofs.KeptOn.{facts_same, same_link}
 use Rattle.policy_audit.specs.Sides.{awaited_in}
 use proofs.Entered.{accepted_next, answered_by, made, step_follows}
@@ -50,10 +51,15 @@ module _ (h : History) (legal : IsPlayed h) (e : Entry) (is_made : IsStep h e)
       → AllByRecursion (IsLinkOf (link_words h)) xs
       → AllByRecursion (IsLinkOf (link_words k)) (xs ++ new ∷ [])
   each_more new it [] below all = (it, tt)
-  each_more new it (x ∷ xs) below all = (
-    others_link x (grind (arith, opens_number h e is_made st begins, eqb-true, leb-true)) all.0,
-    each_more new it xs (grind arith) all.1,
-  )
+  each_more new it (x ∷ xs) below all =
+      grind (
+        arith,
+        others_link x,
+        opens_number h e is_made st begins,
+        eqb-true,
+        leb-true,
+        each_more new it xs,
+      )
 
   -- one link more
   pub new_follows : (kept : List KeptLink) (new : KeptLink) → LinksFollow (link_words h) kept
@@ -121,7 +127,7 @@ module _ {h : History} {parts : Parts} (t : Follows h parts) (seat c : ℕ) wher
       let legal = t.sound.played in
       let next = accepted_next h seat (Event.Opened c) space (Reply.Link (next_number h)) []
       (rw (lt-ltb (kept_links h) 64 (let is = kept_are h parts.links t.links in
-      omega (arith, is, few)))) refl
+      omega arith))) refl
       (λ its. no_change h (just h opening)
       (λ s g p. sym (opened_rows h legal opening its refl c refl s g p))) in
       let is = answered_by next in (

@@ -3,7 +3,7 @@ use Rattle.node_core.proofs
 use Rattle.node_core.specs
 use proofs.Words.{Alike, All, AllByRecursion, AllZip, AreIdle, ArePrepared, arith, Bool, Change}
 use proofs.Words.{cond, count_after_join, count_after_leave, count_of, Err, false, filter, get_or}
-use proofs.Words.{get_or_default, GroupChange, if_some, inl, inr, is_empty, IsDifference, IsParting}
+use proofs.Words.{get_or_default, GroupChange, if_some, is_empty, IsDifference, IsParting}
 use proofs.Words.{IsPidListing, IsProper, KeptLink, length, List, local_count, map, mentions, min}
 use proofs.Words.{None, not, Ok, OnErr, OnOk, Option, OutFrame, Pid, refl, Result, Running, same}
 use proofs.Words.{same_decides, same_pid, same_pid_decides, same_sym, Some, subst, sym, Table}
@@ -91,8 +91,7 @@ module _ (r : Running) (g : List ℕ) (ps : List Pid) where
 
   left_times : (n m k l : ℕ) (here : Bool) → l ≡ min m k → (k ≡ n ⊎ m ≡ 0)
       → n - (n - cond here m 0) ≡ cond here l 0
-  left_times n m k l here is (inl q) = grind (arith, is, q)
-  left_times n m k l here is (inr q) = grind (arith, is, q)
+  left_times n m k l here is either = grind arith
 
   pub own_leave : All (λ q. q.node ≡ r.table.own) ps → (left : List Pid)
       → IsPidListing (λ p. min (mentions p ps) (local_count r.table g p)) left

@@ -1,17 +1,16 @@
 -- What an event with which links may end changes by itself: of peers' rows none, but in a scope
 -- that stops; and no monitors, but those of that scope.
 use Rattle.node_core.proofs
-use proofs.Words.{Accepted, ap, arith, audit_of, audited, Change, cond, Entry, eqb-true, Event}
-use proofs.Words.{false, follows_dropped, History, is_entered, IsPlayed, IsStep, just, List, listed}
-use proofs.Words.{next_number, past, Pid, refl, Reply, same, same_sym, stopped_lists, subst, sym}
-use proofs.Words.{true, ℕ, ◌∙◌, ◌∷◌, ◌≡◌}
+use proofs.Words.{Accepted, ap, arith, audit_of, Change, cond, Entry, Event, false, follows_dropped}
+use proofs.Words.{History, IsPlayed, IsStep, just, List, listed, Pid, refl, Reply, same, same_sym}
+use proofs.Words.{stopped_lists, subst, sym, ℕ, ◌∙◌, ◌≡◌}
 use Rattle.group_monitors.specs.declared.monitor.Monitor.{Monitor}
 use Rattle.group_monitors.specs.Follows.{concerns_monitors, FollowsPolicy}
 use Rattle.group_monitors.specs.Monitors.{without_scope}
 use Rattle.policy_audit.proofs.RowsAfter.{started_rows, stopped_rows}
 use proofs.Entered.{audit_next, made}
 use proofs.LostChanges.{LeavesPeers}
-use proofs.SlowLinks.{monitors_still}
+use proofs.SlowLinks.{audit_with, monitors_still}
 
 module _ (h : History) (seat : ℕ) where
   abbrev done : Event → List Change → Entry
@@ -70,15 +69,6 @@ module _ (h : History) (seat : ℕ) where
     pub monitors_drop : (s : List ℕ) (cs : List Change)
         → FollowsPolicy (audit_of (just h (done (Event.StopScope s) cs))) (without_scope s ms)
     monitors_drop s cs =
-        subst (λ k. FollowsPolicy k (without_scope s ms)) (sym audited_now)
-        (follows_dropped (audit_of h) e ms (audit_next h) t refl s refl)
-      where
-        e : Entry
-        e = done (Event.StopScope s) cs
-
-        real : is_entered e ≡ true
-        real = grind (arith, eqb-true (next_number h) 0)
-
-        audited_now : audit_of (just h e) ≡ just (audit_of h) e
-        audited_now =
-            (λ i. past h.opening (cond (real i) (e ∷ audited h.entries) (audited h.entries)))
+        subst (λ k. FollowsPolicy k (without_scope s ms))
+        (sym (audit_with h seat (Event.StopScope s) (Accepted Reply.Done) cs))
+        (follows_dropped (audit_of h) (done (Event.StopScope s) cs) ms (audit_next h) t refl s refl)

@@ -1,9 +1,9 @@
 -- What is read of the kept links, in the policy's words.
 use Rattle.node_core.proofs
-use proofs.Words.{AllByRecursion, and_parts, ap, arith, awaits, Bool, cond, eq-eqb, eqb-true, facts}
-use proofs.Words.{flat_map, Follows, frame_awaited, History, how_many, is_name_up, is_open, is_peer}
-use proofs.Words.{is_some, is_up, is_whole, IsLinkOf, IsState, kept_among, kept_numbers, kept_once}
-use proofs.Words.{KeptLink, link_words, LinkState, List, list_any, map, name_up_kept, nat_eq, None}
+use proofs.Words.{AllByRecursion, ap, arith, awaits, Bool, cond, eq-eqb, eqb-true, facts, flat_map}
+use proofs.Words.{Follows, frame_awaited, History, how_many, is_name_up, is_open, is_peer, is_some}
+use proofs.Words.{is_up, IsLinkOf, IsState, kept_among, kept_numbers, kept_once, KeptLink}
+use proofs.Words.{link_words, LinkState, List, list_any, map, name_up_kept, nat_eq, None}
 use proofs.Words.{occurrences, one_up, option_to_list, Parts, peer_of, refl, same, Some, sym, true}
 use proofs.Words.{up_peer, ℕ, [], ◌&&◌, ◌++◌, ◌∙◌, ◌∷◌, ◌≡◌, ◌≤◌}
 use Rattle.node_core.specs.Reading.{awaiting, frame_of, up_name, up_names}
@@ -16,19 +16,17 @@ use proofs.LinkTests.{agree, peer_by_test}
 
 module _ (h : History) (l : ℕ) where
   up_told : (s : LinkState) → IsState (facts h l) s → is_some (up_peer s) ≡ is_up l h.entries
-  up_told (LinkState.Up s) t = sym (λ i. t.0.open_now i && t.0.whole i)
-  up_told LinkState.Ended t = sym (ap (λ b. b && is_whole l h.entries) t)
+  up_told (LinkState.Up s) t = grind (arith, t.0.open_now, t.0.whole)
+  up_told LinkState.Ended t = grind (arith, t)
   up_told s t = grind (arith, t.0.whole)
 
   name_told : (s : LinkState) → IsState (facts h l) s → option_to_list (up_peer s) ≡ up_name h l
-  name_told (LinkState.Up s) t =
-      sym (λ i. cond (t.0.open_now i && t.0.whole i) (option_to_list (t.1.peer.peer i)) [])
+  name_told (LinkState.Up s) t = grind (arith, t.0.open_now, t.0.whole, t.1.peer.peer)
   name_told s t = ap (λ b. cond b (option_to_list (peer_of l h.entries)) []) (up_told s t)
 
   frame_told : (s : LinkState) → IsState (facts h l) s
       → frame_awaited s ≡ cond (is_open l h.entries) (Some (frame_of (awaits l h.entries))) None
-  frame_told LinkState.Ended t =
-      sym (ap (λ b. cond b (Some (frame_of (awaits l h.entries))) None) t)
+  frame_told LinkState.Ended t = grind (arith, t)
   frame_told s t = sym (λ i. cond (t.0.open_now i) (Some (frame_of (t.0.awaited i))) None)
 
 -- ---- lists of numbers
@@ -96,10 +94,12 @@ module _ {h : History} {parts : Parts} (t : Follows h parts) where
     where
       alone : (a b : ℕ) → (is_up a h.entries && is_peer n a h.entries) ≡ true
           → (is_up b h.entries && is_peer n b h.entries) ≡ true → a ≡ b
-      alone a b p q =
-          one_up h t.sound.played n a b (and_parts _ _ p).0 (and_parts _ _ q).0
-          (peer_by_test n (peer_of a h.entries) (and_parts (is_up a h.entries) _ p).1)
-          (peer_by_test n (peer_of b h.entries) (and_parts (is_up b h.entries) _ q).1)
+      alone a b p q = grind (
+        arith,
+        one_up h t.sound.played n a b,
+        peer_by_test n (peer_of a h.entries),
+        peer_by_test n (peer_of b h.entries),
+      )
 
   pub links_are : map (λ x. record { link = x.number; frame = frame_awaited x.state }) parts.links
       ≡ map (awaiting h) (kept_numbers h)

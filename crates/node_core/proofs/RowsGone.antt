@@ -40,9 +40,9 @@ pub few_rows : (t : Table) (rows : List Row)
     → length rows ≤ local_total t
 few_rows t rows few =
     let within = fewer_length same_row same_row_decides rows (own_rows t) (λ r. let is =
-    own_occurs t r in let some = few r in omega (arith, is, some)) in
+    own_occurs t r in let some = few r in omega arith) in
     let is = own_length t in
-    omega (arith, within, is)
+    omega arith
 
 -- the rows of the policy are as many as the table counts
 pub rows_total : (h : History) (s : List ℕ) (r : Running) → r.scope ≡ s
@@ -104,7 +104,7 @@ module _ (t : Table) (p : Pid) (own_one : t.own ≡ p.node) (gs : List GroupChan
 
   pub few_left : (most : ℕ) → local_total t ≤ most → length (rows_left gs) ≤ most
   few_left most few = (let within = few_rows t (rows_left gs) (λ r. grind (arith, exit_counts r)) in
-      omega (arith, within, few))
+      omega arith)
 
 -- they are the policy's rows of the process
 pub left_are : (h : History) (r : Running) → IsRunningOf (scope_words h) r → IsPlayed h → (p : Pid)

@@ -30,7 +30,7 @@ spelled (Message.Leave s rows) b q = (some_left rows q, b)
 spelled (Message.Down s) b q = tt
 
 below : (most : ℕ) → most ≤ 65536 → (rows : List Row) → length rows ≤ most → length rows < 2 ^ 32
-below most within rows few = omega (arith, within, few)
+below most within rows few = omega (arith, within)
 
 in_parts : (most : ℕ) → most ≤ 65536 → (m : Message) → IsBrief most m → is_said m ≡ true
     → HasParts m
@@ -55,18 +55,17 @@ may_be_said numbers links m b q false some =
 pub sync_said : (parted : Bool) (s : List ℕ) (rows : List Row) (total : ℕ)
     → length rows ≤ total → (parted ≡ false → total ≤ max_rows) → total < 2 ^ 32
     → CanBeSaid parted (Message.Sync s rows)
-sync_said true s rows total within few fits = omega (arith, within, fits)
-sync_said false s rows total within few fits = (let most = few refl in omega (arith, within, most))
+sync_said true s rows total within few fits = omega (arith, within)
+sync_said false s rows total within few fits = (let most = few refl in omega (arith, within))
 
 -- behind a Sync a Discover stands, or nothing
 pub heard_alone : (is_heard : Bool) (fs sync asks : List OutFrame) → is_heard ≡ true → fs ≡ sync
     → fs ≡ sync ++ cond is_heard [] asks
-heard_alone is_heard fs sync asks q e =
-    e ∙ sym (append-nil sync) ∙ ap (λ b. sync ++ cond b [] asks) (sym q)
+heard_alone is_heard fs sync asks q e = grind (arith, append-nil sync)
 
 pub asked_too : (is_heard : Bool) (fs sync asks : List OutFrame) → is_heard ≡ false
     → fs ≡ sync ++ asks → fs ≡ sync ++ cond is_heard [] asks
-asked_too is_heard fs sync asks q e = e ∙ ap (λ b. sync ++ cond b [] asks) (sym q)
+asked_too is_heard fs sync asks q e = grind arith
 
 -- ---- rows of one group
 
@@ -93,7 +92,7 @@ pub left_rows_are : (g : List ℕ) (ps gone : List Pid) (count : Pid → ℕ) (r
     → rows ≡ map (row g) (listing pid_cmp (λ p. min (mentions p ps) (count p)) ps)
 left_rows_are g ps gone count rows left a =
     moved_listing g ps (λ p. min (mentions p ps) (count p)) rows
-    (λ p some. occurs_stands same_pid p ps (omega (arith, some)))
+    (λ p some. occurs_stands same_pid p ps (omega arith))
     (subst (λ (c : Pid → ℕ). IsRowListing (λ f q. cond (same f g) (c q) 0) rows)
     (λ i q. IsListing.counts left q i) a)
 

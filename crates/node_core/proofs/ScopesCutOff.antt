@@ -26,13 +26,11 @@ module _ (m : ℕ) (n : List ℕ) (w v : ScopeWords) (a : AreCutOff m n w v) whe
     own = c.rows.own ∙ t.own ∙ sym a.own;
     rows = λ g p. c.rows.counts g p ∙ ap (cond (same p.node n) 0) (t.rows g p)
         ∙ sym (a.listed r.scope g p) ∙ ap (λ s. v.listed s g p) (sym c.scope);
-    heard = λ l. ap (is_number l) c.heard ∙ number_left l m r.heard.items
-        ∙ ap (λ b. is_number l r.heard.items && not b) (flip m l)
-        ∙ ap (λ b. b && not (nat_eq l m)) (t.heard l) ∙ sym (a.heard l r.scope)
+    heard = λ l. ap (is_number l) c.heard
+        ∙ grind (arith, number_left l m r.heard.items, flip m l, t.heard l, a.heard l r.scope)
         ∙ ap (v.heard l) (sym c.scope);
-    told = λ l. ap (is_number l) c.told ∙ number_left l m r.told.items
-        ∙ ap (λ b. is_number l r.told.items && not b) (flip m l)
-        ∙ ap (λ b. b && not (nat_eq l m)) (t.told l) ∙ sym (a.told l r.scope)
+    told = λ l. ap (is_number l) c.told
+        ∙ grind (arith, number_left l m r.told.items, flip m l, t.told l, a.told l r.scope)
         ∙ ap (v.told l) (sym c.scope);
   }
 

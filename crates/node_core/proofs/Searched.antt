@@ -1,19 +1,19 @@
 -- What a binary search finds among links and scopes, which are kept in order.
 use Rattle.node_core.proofs
 use Rattle.node_core.specs
+use Rattle.std.specs as std_specs
 use proofs.Words.{AllByRecursion, ap, arith, Bool, Climbs, cond, eq-eqb, eqb-true, Err, false, find}
 use proofs.Words.{Follows, get_or, History, is_some, kept_climbs, KeptLink, length, Less, lie}
 use proofs.Words.{link_place, List, list_all, list_any, lt-ltb, ltb-false, ltb-true, map, nat_eq}
 use proofs.Words.{nat_lt, None, Ok, Ordering, Parts, position, position-Some, refl, Result, Rises}
 use proofs.Words.{Running, running_rises, same, same_decides, scope_place, Some, subst, suc, sym}
 use proofs.Words.{text_cmp, texts_total, true, zero, ℕ, [], ◌+◌, ◌<◌, ◌∙◌, ◌∷◌, ◌≡◌}
-use Rattle.std.specs.declared.cmp.Ordering.TheVariants.{Equal, Greater}
-use Rattle.std.specs.Ordering.{is_lt, nat_cmp, ordering_reverse}
-use Rattle.std.specs.List.{position_or_len}
-use Rattle.std.specs.List.Sorted.{IsBinarySearchResult, IsPartitionPoint, IsSearchInRange}
-use Rattle.std.specs.List.Sorted.{IsSortedBy}
-use Rattle.std.specs.Result.{result_ok}
-use Rattle.std.specs.Cmp.{IsTotalOrder}
+use std_specs.declared.cmp.Ordering.TheVariants.{Equal, Greater}
+use std_specs.Ordering.{is_lt, nat_cmp, ordering_reverse}
+use std_specs.List.{position_or_len}
+use std_specs.List.Sorted.{IsBinarySearchResult, IsPartitionPoint, IsSearchInRange, IsSortedBy}
+use std_specs.Result.{result_ok}
+use std_specs.Cmp.{IsTotalOrder}
 use Rattle.std.proofs.lemmas.Cmp.{nat_cmp_total, tied_itself}
 use Rattle.std.proofs.lemmas.List.Sorted.{searchable_from_sorted}
 use Rattle.std.proofs.lemmas.List.Sums.{position_or_len_is}
@@ -33,29 +33,29 @@ module _ {X K : Type 0} {cmp : K → K → Ordering} (total : IsTotalOrder cmp)
 
   below : (k : K) (xs : List X) → AllByRecursion (λ y. cmp k y ≡ Less) (map key xs)
       → (j : ℕ) (d : X) → j < length xs → cmp k (key (get_or xs j d)) ≡ Less
-  below k [] a j d h = absurd (omega (arith, h))
+  below k [] a j d h = absurd (omega arith)
   below k (x ∷ xs) a zero d h = a.0
-  below k (x ∷ xs) a (suc j) d h = below k xs a.1 j d (omega (arith, h))
+  below k (x ∷ xs) a (suc j) d h = below k xs a.1 j d (omega arith)
 
   rises_at : (xs : List X) → Rises cmp (map key xs) → (i j : ℕ) (d : X) → i < j → j < length xs
       → cmp (key (get_or xs i d)) (key (get_or xs j d)) ≡ Less
-  rises_at [] r i j d l h = absurd (omega (arith, h))
-  rises_at (x ∷ xs) r i zero d l h = absurd (omega (arith, l))
-  rises_at (x ∷ xs) r zero (suc j) d l h = below (key x) xs r.0 j d (omega (arith, h))
+  rises_at [] r i j d l h = absurd (omega arith)
+  rises_at (x ∷ xs) r i zero d l h = absurd (omega arith)
+  rises_at (x ∷ xs) r zero (suc j) d l h = below (key x) xs r.0 j d (omega arith)
   rises_at (x ∷ xs) r (suc i) (suc j) d l h =
-      rises_at xs r.1 i j d (omega (arith, l)) (omega (arith, h))
+      rises_at xs r.1 i j d (omega arith) (omega arith)
 
   sorted : (xs : List X) → Rises cmp (map key xs)
       → IsSortedBy (λ a b. is_lt (cmp (key a) (key b))) xs
   sorted xs r k d l h =
       ap is_lt (total.antisymm _ _ ∙ ap ordering_reverse
-      (rises_at xs r k (k + 1) d (omega arith) (omega (arith, h))))
+      (rises_at xs r k (k + 1) d (omega arith) (omega arith)))
 
   -- it is the place of the first one with that key
   pub place_is : (xs : List X) (k : K) (r : Result ℕ ℕ) → Rises cmp (map key xs)
       → IsSearchInRange r (length xs) → IsBinarySearchResult (λ x. cmp (key x) k) xs r
       → result_ok r ≡ position (λ x. same (key x) k) xs
-  place_is [] k (Ok i) r h b = absurd (omega (arith, h))
+  place_is [] k (Ok i) r h b = absurd (omega arith)
   place_is [] k (Err i) r h b = refl
   place_is (x ∷ xs) k (Ok i) r h b =
       sym (ap (λ n. cond (nat_lt n (length (x ∷ xs))) (Some n) None) at
@@ -65,7 +65,7 @@ module _ {X K : Type 0} {cmp : K → K → Ordering} (total : IsTotalOrder cmp)
       there = exact _ _ (b x)
 
       at : position_or_len (λ y. same (key y) k) (x ∷ xs) ≡ i
-      at = position_or_len_is (λ y. same (key y) k) (x ∷ xs) i x (omega (arith, h))
+      at = position_or_len_is (λ y. same (key y) k) (x ∷ xs) i x (omega arith)
           (λ n l. apart _ k
           (λ q. lie (ap is_lt
           (sym (subst (λ z. cmp (key (get_or (x ∷ xs) n x)) z ≡ Less) there
@@ -88,17 +88,16 @@ module _ {X K : Type 0} {cmp : K → K → Ordering} (total : IsTotalOrder cmp)
             ltb-true n i,
             ltb-false n i,
           )))
-          (λ l. absurd (omega (arith, l)))
+          (λ l. absurd (omega arith))
 
 -- what stands at the first place that passes, and that nothing does where there is none
 module _ {A : Type 0} (test : A → Bool) where
   found_first : (xs : List A) (i : ℕ) (d : A) → i < length xs → test (get_or xs i d) ≡ true
       → ((k : ℕ) → k < i → test (get_or xs k d) ≡ false) → find test xs ≡ Some (get_or xs i d)
-  found_first [] i d l passes before = absurd (omega (arith, l))
-  found_first (x ∷ xs) zero d l passes before = ap (λ b. cond b (Some x) (find test xs)) passes
+  found_first [] i d l passes before = absurd (omega arith)
+  found_first (x ∷ xs) zero d l passes before = grind arith
   found_first (x ∷ xs) (suc i) d l passes before =
-      ap (λ b. cond b (Some x) (find test xs)) (before 0 (omega arith))
-      ∙ found_first xs i d (omega (arith, l)) passes (λ k m. before (suc k) (omega (arith, m)))
+      grind (arith, before 0, found_first xs i d, λ (k : ℕ). before (suc k))
 
   pub find_at : (xs : List A) (i : ℕ) (d : A) → position test xs ≡ Some i
       → find test xs ≡ Some (get_or xs i d)

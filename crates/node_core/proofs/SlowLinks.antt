@@ -1,20 +1,22 @@
 -- Links for which too many frames wait: which they are, and what is kept once one of them is lost.
 use Rattle.node_core.proofs
+use Rattle.policy_audit.proofs as policy
 use proofs.Words.{AllByRecursion, AllZip, and_parts, ap, arith, audit_of, audited, Bool, Change}
 use proofs.Words.{cond, Entry, eqb-true, Event, facts, false, filter, Follows, follows_other}
 use proofs.Words.{History, is_accepted, is_entered, is_kept, is_open, is_slow, is_some, is_whole}
 use proofs.Words.{IsCutOff, IsLegal, IsLinkOf, IsPlayed, IsState, IsStep, just, KeptLink, length}
 use proofs.Words.{lie, link_words, links, LinksFollow, LinkState, List, listed, loss, ltb-true, map}
 use proofs.Words.{max_waiting, nat_lt, next_number, no_value, Parts, past, Pid, refl, reverse}
-use proofs.Words.{Running, same, set, slow_links, Some, subst, suc, sym, true, up_peer, Verdict}
-use proofs.Words.{with_entry, without_number, zero, ℕ, [], ◌&&◌, ◌+◌, ◌<◌, ◌∙◌, ◌∷◌, ◌≡◌, ◌≤◌}
+use proofs.Words.{rules, Running, same, set, slow_links, Some, subst, suc, sym, true, up_peer}
+use proofs.Words.{Verdict, with_entry, without_number, zero, ℕ, [], ◌&&◌, ◌+◌, ◌<◌, ◌∙◌, ◌∷◌, ◌≡◌}
+use proofs.Words.{◌≤◌}
 use Rattle.group_monitors.specs.Follows.{concerns_monitors, FollowsPolicy}
 use Rattle.group_monitors.specs.declared.monitor.Monitor.{Monitor}
 use Rattle.std.proofs.lemmas.List.{reverse-reverse}
-use Rattle.policy_audit.proofs.KeptNumbers.{filter_both, reverse_filter}
-use Rattle.policy_audit.proofs.Losses.{alone, legal_few}
-use Rattle.policy_audit.proofs.Early.{early}
-use Rattle.policy_audit.proofs.RowsAfter.{lost_rows}
+use policy.KeptNumbers.{filter_both, reverse_filter}
+use policy.Losses.{alone, legal_few}
+use policy.Early.{early}
+use policy.RowsAfter.{lost_rows}
 use proofs.Entered.{audit_size, made}
 use proofs.Losing.{gone_by, gone_links, gone_scopes, IsUpWith}
 
@@ -46,10 +48,12 @@ module _ (k : History) (played : IsPlayed k) where
 
   slow_is : (x : KeptLink) → IsLinkOf (link_words k) x → is_slow_link x ≡ slow x.number
   slow_is x a =
-      slow_by x.number x.state (length x.frames) a.state
-      (λ unwhole. subst (λ fs. length fs ≤ 6) (sym a.frames)
-      (let few = early k played x.number unwhole in omega (arith, few)))
-      ∙ ap (λ fs. is_open x.number k.entries && nat_lt max_waiting (length fs)) a.frames
+      grind (
+        arith,
+        slow_by x.number x.state (length x.frames) a.state,
+        early k played x.number,
+        a.frames,
+      )
 
   slow_each : (kept : List KeptLink) → AllByRecursion (IsLinkOf (link_words k)) kept
       → map (λ x. x.number) (filter is_slow_link kept) ≡ filter slow (map (λ x. x.number) kept)
@@ -95,17 +99,17 @@ none_lost h e played kept t none =
 pub one_slow : (xs : List KeptLink) (p : ℕ) (y : KeptLink) → p < length xs
     → filter is_slow_link xs ≡ []
     → filter is_slow_link (set xs p y) ≡ cond (is_slow_link y) (y ∷ []) []
-one_slow [] p y less none = absurd (omega (arith, less))
+one_slow [] p y less none = absurd (omega arith)
 one_slow (x ∷ xs) zero y less none = grind (arith, none)
 one_slow (x ∷ xs) (suc p) y less none =
-    let less_on : p < length xs = omega (arith, less) in
+    let less_on : p < length xs = omega arith in
     grind (arith, none, one_slow xs p y less_on)
 
 -- ---- what is kept once one is lost
 
 -- an entry with the next number is one of the audit, where the monitors are read
 module _ (h : History) (seat : ℕ) (ev : Event) (v : Verdict) (cs : List Change) where
-  audit_with : audit_of (just h (made h seat ev v cs)) ≡ just (audit_of h) (made h seat ev v cs)
+  pub audit_with : audit_of (just h (made h seat ev v cs)) ≡ just (audit_of h) (made h seat ev v cs)
   audit_with =
       let es = audited h.entries in
       ap (λ b. past h.opening (cond b (made h seat ev v cs ∷ es) es)) real
@@ -126,22 +130,7 @@ pub recast : {h : History} {seat : ℕ} {ev : Event} {v : Verdict} {cs : List Ch
     → Follows (just h (made h seat ev v cs)) parts → (ds : List Change)
     → FollowsPolicy (audit_of (just h (made h seat ev v ds))) parts.monitors
     → Follows (just h (made h seat ev v ds)) parts
-recast t ds monitors = record {
-  sound = record {
-    played =
-        let it = t.sound.played.0 in
-        (record { number = it.number; judged = it.judged }, t.sound.played.1);
-    fits = t.sound.fits;
-    few = t.sound.few;
-    few_spawned = t.sound.few_spawned;
-    links = t.sound.links;
-  };
-  admission = t.admission;
-  processes = t.processes;
-  scopes = t.scopes;
-  links = t.links;
-  monitors = monitors;
-}
+recast t ds monitors = search rules
 
 -- the loss of an open link is a step
 pub lost_opens : (h : History) (j : ℕ) → is_open j h.entries ≡ true → IsStep h (loss j)

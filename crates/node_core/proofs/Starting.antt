@@ -1,14 +1,14 @@
 -- A scope that starts.
 use Rattle.node_core.proofs
-use proofs.Words.{Accepted, AllByRecursion, ap, AreTold, arith, Bool, checks, cond, count_of, Entry}
+use proofs.Words.{Accepted, AllByRecursion, ap, AreTold, arith, Bool, checks, count_of, Entry}
 use proofs.Words.{Event, false, first_broken, Follows, get_or, heard, History, if_among, insert}
 use proofs.Words.{is_among, is_full, is_number, is_running, IsRunningOf, IsStep, just, KeptLink}
 use proofs.Words.{le-ltb, length, length-map, Less, link_words, List, listed, lt-ltb, map, Message}
-use proofs.Words.{no_change, None, not, Option, Parts, Pid, placed, put_scope, refl, Reply, Rises}
-use proofs.Words.{Rule, Running, running_among, running_scopes, running_started, said_in}
-use proofs.Words.{same_decides, scope_words, ScopesFollow, shown_numbers, Some, started_links}
-use proofs.Words.{stopped_lists, suc, sym, text_cmp, texts_total, told, told_numbers, true, waiting}
-use proofs.Words.{zero, ℕ, [], ◌++◌, ◌<◌, ◌∙◌, ◌∷◌, ◌≡◌, ◌≤◌}
+use proofs.Words.{no_change, Parts, Pid, placed, put_scope, refl, Reply, Rises, Rule, Running}
+use proofs.Words.{running_among, running_scopes, running_started, said_in, same_decides}
+use proofs.Words.{scope_words, ScopesFollow, shown_numbers, Some, started_links, stopped_lists, suc}
+use proofs.Words.{sym, text_cmp, texts_total, told, told_numbers, true, waiting, zero, ℕ, [], ◌++◌}
+use proofs.Words.{◌<◌, ◌∙◌, ◌∷◌, ◌≡◌, ◌≤◌}
 use Rattle.std.proofs.lemmas.Map.Lookups.{exact_bytes}
 use Rattle.std.specs.Ordering.{is_lt}
 use Rattle.std.specs.List.Sorted.{IsPartitionedBy, IsPartitionPoint}
@@ -26,12 +26,7 @@ use proofs.Told.{discover_alike, told_follow, visible_told}
 pub put_each : (P : Running → Type 0) (r : Running) (xs : List Running) → P r → AllByRecursion P xs
     → AllByRecursion P (put_scope r xs)
 put_each P r [] p a = (p, tt)
-put_each P r (x ∷ xs) p a =
-    elim (is_lt (text_cmp x.scope r.scope)) as (λ b. AllByRecursion P
-    (cond b (x ∷ put_scope r xs) (r ∷ x ∷ xs))) [
-      | true ↦ (a.0, put_each P r xs p a.1)
-      | false ↦ (p, a)
-    ]
+put_each P r (x ∷ xs) p a = grind (arith, put_each P r xs p a.1)
 
 -- the names of the scopes
 abbrev pub names : List Running → List (List ℕ)
@@ -60,17 +55,17 @@ all_names P rs j d a l = each_at (λ r. P r.scope) rs j d (all_unmapped P (λ r.
 rising_before : (s : List ℕ) (rs : List Running) → Rises text_cmp (names rs)
     → (i j : ℕ) (d : Running) → i ≤ j → j < length rs → is_before s (get_or rs i d) ≡ false
     → is_before s (get_or rs j d) ≡ false
-rising_before s [] r i j d l h n = absurd (omega (arith, h))
+rising_before s [] r i j d l h n = absurd (omega arith)
 rising_before s (x ∷ xs) r zero zero d l h n = n
 rising_before s (x ∷ xs) r zero (suc j) d l h n =
     grind (
       arith,
       texts_total.trans x.scope (get_or xs j d).scope s
-          (all_names (λ t. text_cmp x.scope t ≡ Less) xs j d r.0 (omega (arith, h))),
+          (all_names (λ t. text_cmp x.scope t ≡ Less) xs j d r.0 (omega arith)),
     )
-rising_before s (x ∷ xs) r (suc i) zero d l h n = absurd (omega (arith, l))
+rising_before s (x ∷ xs) r (suc i) zero d l h n = absurd (omega arith)
 rising_before s (x ∷ xs) r (suc i) (suc j) d l h n =
-    rising_before s xs r.1 i j d (omega (arith, l)) (omega (arith, h)) n
+    rising_before s xs r.1 i j d (omega arith) (omega arith) n
 
 pub before_partitions : (s : List ℕ) (rs : List Running) → Rises text_cmp (names rs)
     → IsPartitionedBy (is_before s) rs
@@ -80,16 +75,15 @@ pub put_at : (r : Running) (rs : List Running) (i : ℕ) → i ≤ length rs
     → IsPartitionPoint (λ y. is_before r.scope y ≡ true) (λ y. is_before r.scope y ≡ false) rs i
     → insert rs i r ≡ put_scope r rs
 put_at r [] zero l p = refl
-put_at r [] (suc i) l p = absurd (omega (arith, l))
-put_at r (x ∷ xs) zero l p =
-    sym (ap (λ b. cond b (x ∷ put_scope r xs) (r ∷ x ∷ xs)) (p.1 0 x (omega arith) (omega arith)))
+put_at r [] (suc i) l p = absurd (omega arith)
+put_at r (x ∷ xs) zero l p = grind (arith, p.1 0 x)
 put_at r (x ∷ xs) (suc i) l p =
     ap (λ ys. x ∷ ys)
-    (put_at r xs i (omega (arith, l)) (
-      (λ k d a b. p.0 (suc k) d (omega arith) (omega (arith, b))),
-      (λ k d a b. p.1 (suc k) d (omega (arith, a)) (omega (arith, b))),
+    (put_at r xs i (omega arith) (
+      (λ k d a b. p.0 (suc k) d (omega arith) (omega arith)),
+      (λ k d a b. p.1 (suc k) d (omega arith) (omega arith)),
     ))
-    ∙ sym (ap (λ b. cond b (x ∷ put_scope r xs) (r ∷ x ∷ xs)) (p.0 0 x (omega arith) (omega arith)))
+    ∙ grind (arith, p.0 0 x)
 
 -- ---- a start
 
@@ -104,17 +98,10 @@ module _ (h : History) (seat : ℕ) (s : List ℕ) where
   abbrev pub started : History
   started = just h e
 
-  -- the first rule that is broken, where the scope runs or not and there is room for one or not
-  abbrev checked : Bool → Bool → Option Rule
-  checked runs room =
-      cond (not (not runs)) (Some Rule.ScopeRunning) (cond (not room) (Some Rule.ScopesFull) None)
-
   module _ (parts : Parts) (t : Follows h parts) (stopped : is_running h s ≡ false) where
     pub scopes_full : 64 ≤ length parts.scopes
         → first_broken (checks h seat (Event.StartScope s)) ≡ Some Rule.ScopesFull
-    scopes_full many =
-        λ i. checked (stopped i) (le-ltb (length (running_scopes h)) 64 (let is =
-        running_length h parts.scopes t.scopes in omega (arith, is, many)) i)
+    scopes_full many = grind (arith, le-ltb, running_length h parts.scopes t.scopes)
 
     module _ (its : IsStep h e) where
       still : (r : Running) → IsRunningOf (scope_words h) r → IsRunningOf (scope_words started) r
@@ -125,9 +112,6 @@ module _ (h : History) (seat : ℕ) (s : List ℕ) where
         heard = q.heard;
         told = q.told;
       }
-
-      nobody : (b : Bool) → (b ≡ true → is_running h s ≡ true) → false ≡ b
-      nobody b f = grind (arith, stopped)
 
       new_one : (r : Running) → r.scope ≡ s → r.table.own ≡ h.opening.name
           → ((g : List ℕ) (p : Pid) → count_of r.table g p ≡ 0) → r.heard.items ≡ []
@@ -141,11 +125,11 @@ module _ (h : History) (seat : ℕ) (s : List ℕ) where
             ∙ stopped_lists h s g p stopped);
         heard =
             λ l. ap (is_number l) unheard
-            ∙ nobody (heard h.opening l s h.entries) (heard_runs' h t.sound.played l s)
+            ∙ grind (arith, heard_runs' h t.sound.played l s)
             ∙ ap (λ x. heard h.opening l x h.entries) (sym named);
         told =
             λ l. ap (is_number l) untold
-            ∙ nobody (told h.opening l s h.entries) (told_runs h t.sound.played l s)
+            ∙ grind (arith, told_runs h t.sound.played l s)
             ∙ ap (λ x. told h.opening l x h.entries) (sym named);
       }
 
@@ -159,10 +143,8 @@ module _ (h : History) (seat : ℕ) (s : List ℕ) where
         (record parts { scopes = put_scope r parts.scopes; links = links }) (λ u. false)
         (λ x. x ≡ [])
     start_now space few r named own none unheard untold links tells =
-        let fits = lt-ltb (length (running_scopes h)) 64 (let is =
-        running_length h parts.scopes t.scopes in omega (arith, is, few)) in
         let next = accepted_next h seat (Event.StartScope s) space Reply.Done []
-        (λ i. checked (stopped i) (fits i)) refl
+        (grind (arith, lt-ltb, running_length h parts.scopes t.scopes)) refl
         (λ its. no_change h started
         (λ u g p. sym (started_rows h t.sound.played e its refl s refl u g p))) in
         let its = answered_by next in

@@ -1,12 +1,12 @@
 -- What a step answers, from what it enters.
 use Rattle.node_core.proofs
 use Rattle.node_core.specs
-use proofs.Words.{Accepted, after, Answered, Answers, ap, arith, Bool, Call, Change, checks, cond}
-use proofs.Words.{CoreFault, entered, Entry, entry_of, Err, Event, false, first_broken, Follows}
-use proofs.Words.{History, history, is_full, is_local, IsLegal, IsLegalIn, IsNext, judged, Keeps}
-use proofs.Words.{Kept, length, List, lt-ltb, ltb-true, nat_le, next_is, Ok, Opening, parts, Pid}
-use proofs.Words.{refl, Refused, Reply, Result, Rule, same, subst, suc, sym, true, Verdict, verdict}
-use proofs.Words.{with_entry, ℕ, [], ◌&&◌, ◌+◌, ◌<◌, ◌==◌, ◌^◌, ◌∙◌, ◌∷◌, ◌≡◌, ◌≤◌}
+use proofs.Words.{Accepted, after, Answered, Answers, ap, arith, Bool, Call, Change, CoreFault}
+use proofs.Words.{entered, Entry, entry_of, Err, Event, false, Follows, History, history, is_full}
+use proofs.Words.{is_local, IsLegal, IsLegalIn, IsNext, Keeps, Kept, length, List, lt-ltb, ltb-true}
+use proofs.Words.{nat_le, next_is, Ok, Opening, parts, Pid, refl, Refused, Reply, Result, Rule}
+use proofs.Words.{same, subst, suc, sym, true, Verdict, verdict, with_entry, ℕ, [], ◌&&◌, ◌+◌, ◌<◌}
+use proofs.Words.{◌==◌, ◌^◌, ◌∙◌, ◌∷◌, ◌≡◌, ◌≤◌}
 use Rattle.std.proofs.lemmas.Bool.Decides.{leb_tells}
 use Rattle.policy_audit.specs.Log.{IsAuditFault, Log}
 use Rattle.policy_audit.specs.declared.audit.AuditFault.{AuditFault}
@@ -60,7 +60,7 @@ module _ {o : Opening} {audit : Log} {kept : Kept} (core : IsCore o audit kept)
       let less : entered now.entries < now.opening.entries = grind (arith, ltb-true) in
       let fits = (seen is core.follows).sound.fits in
       let many = core_count in
-      omega (arith, less, fits, many)
+      omega arith
 
   pub core_local : (p : Pid)
       → (same p.node o.name && p.creation == kept.admission.creation) ≡ is_local now p
@@ -98,20 +98,8 @@ module _ (o : Opening) (es : List Entry) (legal : IsLegalIn o es) (seat : ℕ) (
   entries_are : (kept : Kept) (answered : Result Answered CoreFault) → Answers call e kept answered
       → one_more es seat e answered ≡ entries_then answered
   unfolding Answers
-  entries_are kept (Ok a) t = λ i. record {
-    number = number_is i;
-    seat = seat;
-    event = e;
-    verdict = Accepted (t.0 i);
-    change = a.changes.items;
-  } ∷ es
-  entries_are kept (Err (CoreFault.Refused r)) t = λ i. record {
-    number = number_is i;
-    seat = seat;
-    event = e;
-    verdict = Refused r;
-    change = [];
-  } ∷ es
+  entries_are kept (Ok a) t = grind (arith, number_is, t.0)
+  entries_are kept (Err (CoreFault.Refused r)) t = grind (arith, number_is)
   entries_are kept (Err CoreFault.OutOfMemory) t = refl
 
   legal_then : (kept : Kept) (answered : Result Answered CoreFault) → Answers call e kept answered
@@ -123,8 +111,8 @@ module _ (o : Opening) (es : List Entry) (legal : IsLegalIn o es) (seat : ℕ) (
 
   had_then : (answered : Result Answered CoreFault) {forgotten : ℕ} → forgotten ≤ length es
       → forgotten ≤ length (entries_then answered)
-  had_then (Ok a) had = omega (arith, had)
-  had_then (Err (CoreFault.Refused r)) had = omega (arith, had)
+  had_then (Ok a) had = omega arith
+  had_then (Err (CoreFault.Refused r)) had = omega arith
   had_then (Err CoreFault.OutOfMemory) had = had
 
   -- what monitors have still to be told stays kept
@@ -198,11 +186,7 @@ unstepped old new seat e space same = (space, same)
 pub full_step : (old : History) (seat : ℕ) (e : Event) → is_full old ≡ true
     → IsStepped old seat e old (Err (CoreFault.Refused Rule.EntriesFull))
 unfolding IsStepped
-full_step old seat e full = (
-  ap (λ b. cond b (Refused Rule.EntriesFull) (judged old seat e (first_broken (checks old seat e))))
-      full,
-  sym (ap (λ b. cond b old (with_entry old (entry_of old seat e))) full),
-)
+full_step old seat e full = (rw full refl, rw full refl)
 
 -- an audit that takes one entry more is that of a history that isn't full
 pub not_full : (log : Log) (h : History) → entered h.entries ≡ length log.entries
@@ -233,11 +217,7 @@ module _ (old new : History) (seat : ℕ) (e : Event) where
 
   then : (P : History → Type 0) → P old
       → (is_full old ≡ false → P (with_entry old (entry_of old seat e))) → P (after old seat e)
-  then P was now = by (is_full old) refl
-    where
-      by : (b : Bool) → is_full old ≡ b → P (cond b old (with_entry old (entry_of old seat e)))
-      by true q = was
-      by false q = now q
+  then P was now = grind arith
 
   pub stepped_legal : (result : Result Reply CoreFault) → IsLegal old
       → IsStepped old seat e new result → IsLegal new

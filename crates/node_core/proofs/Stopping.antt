@@ -57,7 +57,7 @@ module _ (h : History) (seat : ℕ) (s : List ℕ) (gs : List GroupChange) where
         rows =
             λ g p. q.rows g p
             ∙ sym (stopped_rows h t.sound.played e its refl s refl r.scope g p
-            ∙ ap (λ b. cond b 0 (listed h r.scope g p)) other);
+            ∙ rw other);
         heard = λ l. q.heard l
             ∙ sym ((stopped_heard h e refl s refl l r.scope).heard_is
             ∙ grind (arith, same_sym s r.scope, other));
@@ -68,10 +68,7 @@ module _ (h : History) (seat : ℕ) (s : List ℕ) (gs : List GroupChange) where
       all_still : (rs : List Running) → AllByRecursion (IsRunningOf (scope_words h)) rs
           → AllByRecursion (IsRunningOf (scope_words stopped)) (all_but s rs)
       all_still [] a = tt
-      all_still (r ∷ rs) a = elim (same r.scope s) as (λ b. same r.scope s ≡ b
-          → AllByRecursion (IsRunningOf (scope_words stopped))
-          (cond (not b) (r ∷ all_but s rs) (all_but s rs)))
-          [ true ↦ λ q. all_still rs a.1 | false ↦ λ q. (still r q a.0, all_still rs a.1) ] refl
+      all_still (r ∷ rs) a = grind (arith, still r, all_still rs a.1)
 
     pub stop_now : is_full h ≡ false → (links : List KeptLink)
         → AreTold (if_among (shown_numbers parts.links) (said_in (Message.Down s))) parts.links
@@ -90,7 +87,7 @@ module _ (h : History) (seat : ℕ) (s : List ℕ) (gs : List GroupChange) where
         ∙ ap (λ b. cond b 0 (listed h s g p)) ((same_decides s s).1 refl)) i) groups)
         (λ u g p other.
         sym (stopped_rows h t.sound.played e its refl s refl u g p
-        ∙ ap (λ b. cond b 0 (listed h u g p)) other))) in
+        ∙ rw other))) in
         let its = answered_by next in record {
           alone = next;
           follows = record {

@@ -1,11 +1,11 @@
 -- The frames that wait for a link are handed over.
 use Rattle.node_core.proofs
-use proofs.Words.{Accepted, ap, arith, Bool, cond, Entry, eq-eqb, eqb-true, Event, facts, false}
-use proofs.Words.{filter, flip, Follows, get_or, History, is_ended, is_full, is_open, IsAlone}
-use proofs.Words.{IsLinkOf, IsState, just, kept_climbs, KeptLink, length, link_place, link_words}
-use proofs.Words.{LinksFollow, LinkState, LinkWords, List, nat_eq, not, OutFrame, Parts, refl}
-use proofs.Words.{Reply, set, Some, subst, sym, true, waiting, without_ended, without_number, ℕ, []}
-use proofs.Words.{◌&&◌, ◌<◌, ◌==◌, ◌∙◌, ◌≡◌}
+use proofs.Words.{Accepted, ap, arith, Bool, Entry, eq-eqb, eqb-true, Event, facts, false, filter}
+use proofs.Words.{flip, Follows, get_or, History, is_ended, is_full, is_open, IsAlone, IsLinkOf}
+use proofs.Words.{IsState, just, kept_climbs, KeptLink, length, link_place, link_words, LinksFollow}
+use proofs.Words.{LinkState, LinkWords, List, nat_eq, not, OutFrame, Parts, refl, Reply, set, Some}
+use proofs.Words.{subst, sym, true, waiting, without_ended, without_number, ℕ, [], ◌&&◌, ◌<◌, ◌==◌}
+use proofs.Words.{◌∙◌, ◌≡◌}
 use Rattle.policy_audit.proofs.LinkFrames.{taken_links}
 use Rattle.policy_audit.proofs.LinksLeft.{taken_numbers}
 use proofs.Entered.{made, step_follows}
@@ -20,14 +20,7 @@ open_by h l s t = t.0.open_now
 
 -- a link for which nothing waits any more
 abbrev pub emptied : KeptLink → ℕ → KeptLink
-emptied x room = record {
-  number = x.number;
-  state = x.state;
-  begun = x.begun;
-  frames = [];
-  prepared = [];
-  room = room;
-}
+emptied x room = record x { frames = []; prepared = []; room = room }
 
 module _ (h : History) (seat j : ℕ) (frames : List OutFrame) (parts : Parts) (t : Follows h parts)
     (p : ℕ) (d : KeptLink) (found : link_place j parts.links ≡ Some p) where
@@ -41,8 +34,7 @@ module _ (h : History) (seat j : ℕ) (frames : List OutFrame) (parts : Parts) (
   it = link_at h t.sound.played parts.links t.links j p d found
 
   opens : (ended : Bool) → is_ended link.state ≡ ended → is_open j h.entries ≡ not ended
-  opens ended is = sym (ap (λ l. is_open l h.entries) it.1)
-      ∙ open_by h link.number link.state it.0.state ∙ ap not is
+  opens ended is = grind (arith, it.1, open_by h link.number link.state it.0.state)
 
   abbrev words : LinkWords
   words = link_words (just h take)
@@ -56,7 +48,7 @@ module _ (h : History) (seat j : ℕ) (frames : List OutFrame) (parts : Parts) (
 
   its_frames : (l : ℕ) → l ≡ j → waiting (just h take) l ≡ []
   its_frames l is = (taken_links h take refl j refl l).waiting_is
-      ∙ ap (λ b. cond b [] (waiting h l)) (eq-eqb j l (sym is))
+      ∙ rw (eq-eqb j l (sym is))
 
   -- an open link is kept
   open_taken : (room : ℕ) → is_ended link.state ≡ false

@@ -1,15 +1,14 @@
 -- Links for which further frames wait, or are prepared.
 use Rattle.node_core.proofs
 use proofs.Words.{Alike, AllByRecursion, and_false, ap, append-nil, append_assoc, AreIdle}
-use proofs.Words.{ArePrepared, AreTold, arith, Awaited, Awaits, bare, Begun, Bool, broken_off}
-use proofs.Words.{committed, cond, Dialled, eqb-true, facts, false, flip, Follows, has_bit, History}
-use proofs.Words.{if_among, if_visible, is_number, is_shown, IsDialled, IsGiven, IsIntroduced}
-use proofs.Words.{IsLinkOf, IsPlayed, IsSpelled, IsState, kept_among, KeptLink, lie, link_words}
-use proofs.Words.{LinkFacts, LinksFollow, LinkState, LinkWords, List, list_any, map, Message, Name}
-use proofs.Words.{nat_eq, None, not, Option, option_map_or, OutFrame, Parts, prepared_for, refl}
-use proofs.Words.{said_in, same, shown_numbers, subst, suc, sym, takes_parts, true, unroomed, wide}
-use proofs.Words.{with_frames, with_prepared, with_room, zero, ℕ, [], ◌&&◌, ◌++◌, ◌==◌, ◌∙◌, ◌∷◌}
-use proofs.Words.{◌≡◌}
+use proofs.Words.{ArePrepared, AreTold, arith, bare, Begun, Bool, broken_off, committed, cond}
+use proofs.Words.{eqb-true, facts, false, flip, Follows, has_bit, History, if_among, if_visible}
+use proofs.Words.{is_number, is_shown, IsLinkOf, IsPlayed, IsSpelled, IsState, kept_among, KeptLink}
+use proofs.Words.{lie, link_words, LinkFacts, LinksFollow, LinkState, LinkWords, List, list_any}
+use proofs.Words.{map, Message, nat_eq, None, not, Option, option_map_or, OutFrame, Parts}
+use proofs.Words.{prepared_for, refl, rules, said_in, same, shown_numbers, subst, suc, sym}
+use proofs.Words.{takes_parts, true, unroomed, wide, with_frames, with_prepared, with_room, zero, ℕ}
+use proofs.Words.{[], ◌&&◌, ◌++◌, ◌==◌, ◌∙◌, ◌∷◌, ◌≡◌}
 use Rattle.scope_core.proofs.Rising.{all_map, all_mapped, all_unmapped}
 use proofs.Zipped.{SoFar}
 
@@ -43,20 +42,11 @@ module _ (w v : LinkWords) (g : KeptLink → KeptLink)
         ∙ sym numbers;
     each =
         let roomless = all_map (IsLinkOf w) (λ x. IsLinkOf v (unroomed (g x))) (λ x it. let new =
-        on x it in record {
-          state = new.state;
-          begun = new.begun;
-          frames = new.frames;
-          idle = new.idle;
-        }) old t.each in
+        on x it in search rules) old t.each in
         let moved = subst (AllByRecursion (IsLinkOf v)) (sym q)
         (all_mapped (IsLinkOf v) (λ x. unroomed (g x)) old roomless) in
-        all_map (λ x. IsLinkOf v (unroomed x)) (IsLinkOf v) (λ x it. record {
-          state = it.state;
-          begun = it.begun;
-          frames = it.frames;
-          idle = it.idle;
-        }) new (all_unmapped (IsLinkOf v) unroomed new moved);
+        all_map (λ x. IsLinkOf v (unroomed x)) (IsLinkOf v) (λ x it. search rules) new
+        (all_unmapped (IsLinkOf v) unroomed new moved);
   }
 
 -- a link of which this is said takes messages so, where it is up
@@ -87,46 +77,15 @@ told_follow w v more facts numbers old new waits q t =
     numbers old new refl q t
 
 -- what is kept of a message doesn't matter to a state
-still_given : (f : LinkFacts) (b : Option Begun) {n : Name} {name : List ℕ} {creation : ℕ}
-    {visible : Bool} {version : ℕ} → IsGiven f n name creation visible version
-    → IsGiven (record f { begun = b }) n name creation visible version
-still_given f b it = record {
-  said = it.said;
-  name_is = it.name_is;
-  creation_is = it.creation_is;
-  visible_is = it.visible_is;
-  version_is = it.version_is;
-}
-
-still_awaits : (f : LinkFacts) (b : Option Begun) {frame : Awaited} {is_done : Bool}
-    → Awaits f frame is_done → Awaits (record f { begun = b }) frame is_done
-still_awaits f b it = record { open_now = it.open_now; whole = it.whole; awaited = it.awaited }
-
-still_introduced : (f : LinkFacts) (b : Option Begun) {name : List ℕ} {creation : ℕ}
-    {visible : Bool} {version number : ℕ} → IsIntroduced f name creation visible version number
-    → IsIntroduced (record f { begun = b }) name creation visible version number
-still_introduced f b it = record {
-  peer = record { peer = it.peer.peer; other = it.peer.other };
-  said = (it.said.0, still_given f b it.said.1);
-  challenge = it.challenge;
-}
-
-still_dialled : (f : LinkFacts) (b : Option Begun) {dial : Dialled} → IsDialled f dial
-    → IsDialled (record f { begun = b }) dial
-still_dialled f b it = record {
-  peer = record { peer = it.peer.peer; other = it.peer.other };
-  challenge = it.challenge;
-}
-
 pub still_state : (f : LinkFacts) (b : Option Begun) (s : LinkState) → IsState f s
     → IsState (record f { begun = b }) s
-still_state f b (LinkState.Name c) it = (still_awaits f b it.0, it.1)
-still_state f b (LinkState.Answer s) it = (still_awaits f b it.0, still_introduced f b it.1)
-still_state f b (LinkState.Reply s) it = (still_awaits f b it.0, still_introduced f b it.1)
-still_state f b (LinkState.Status d) it = (still_awaits f b it.0, still_dialled f b it.1)
-still_state f b (LinkState.Challenge d) it = (still_awaits f b it.0, still_dialled f b it.1)
-still_state f b (LinkState.Ack s) it = (still_awaits f b it.0, still_introduced f b it.1)
-still_state f b (LinkState.Up s) it = (still_awaits f b it.0, still_introduced f b it.1)
+still_state f b (LinkState.Name c) it = search rules
+still_state f b (LinkState.Answer s) it = search rules
+still_state f b (LinkState.Reply s) it = search rules
+still_state f b (LinkState.Status d) it = search rules
+still_state f b (LinkState.Challenge d) it = search rules
+still_state f b (LinkState.Ack s) it = search rules
+still_state f b (LinkState.Up s) it = search rules
 still_state f b LinkState.Ended it = it
 
 -- links for which further frames wait, where nothing is kept of messages of one scope any more
@@ -161,21 +120,18 @@ stopped_follow w v more s facts numbers old new waits q t =
     told x = with_frames x (more x.number (takes_parts x.state))
 
 -- all that a node keeps is as before where its links are the same but for their room
-pub alike_again : (h : History) (parts : Parts) → Follows h parts → (links : List KeptLink)
+pub alike_again : {h : History} {parts : Parts} → Follows h parts → (links : List KeptLink)
     → Alike parts.links links → Follows h (record parts { links = links })
-alike_again h parts t links q = record {
-  sound = t.sound;
-  admission = t.admission;
-  processes = t.processes;
-  scopes = t.scopes;
-  links = changed_follow (link_words h) (link_words h) (λ x. x) (λ x it. it) refl parts.links links
-      refl q t.links;
-  monitors = t.monitors;
-}
+alike_again {h} {parts} t links q =
+    let kept = changed_follow (link_words h) (link_words h) (λ x. x) (λ x it. it) refl parts.links
+    links refl q t.links in
+    search rules
 
 -- nothing is prepared for links that follow
-pub follow_idle : (w : LinkWords) (xs : List KeptLink) → AllByRecursion (IsLinkOf w) xs → AreIdle xs
-follow_idle w xs t = all_map (IsLinkOf w) (λ x. x.prepared ≡ []) (λ x it. it.idle) xs t
+pub follow_idle : {h : History} {parts : Parts} → Follows h parts → AreIdle parts.links
+follow_idle {h} {parts} t =
+    all_map (IsLinkOf (link_words h)) (λ x. x.prepared ≡ []) (λ x it. it.idle) parts.links
+    t.links.each
 
 -- ---- the links that are up and visible
 
@@ -225,8 +181,7 @@ pub visible_told : (h : History) (xs : List KeptLink) → IsPlayed h → LinksFo
     → (m : Message) → ((parted : Bool) → said_in m parted ≡ wide m ∷ []) → (l : ℕ)
     (parted : Bool) → if_visible h l m ≡ if_among (shown_numbers xs) (said_in m) l parted
 visible_told h xs legal t m alike l parted =
-    ap (λ b. cond b (wide m ∷ []) []) (sym (shown_number h xs legal t l))
-    ∙ ap (λ fs. cond (is_number l (shown_numbers xs)) fs []) (sym (alike parted))
+    grind (arith, shown_number h xs legal t l, alike parted)
 
 -- ---- frames that are prepared and wait then
 
@@ -237,10 +192,8 @@ forgot_bare old new q = through bare unroomed (λ x. unroomed (with_prepared x [
 
 pub forgotten : (xs : List KeptLink) → AreIdle xs
     → map (λ x. unroomed (with_prepared x [])) xs ≡ map unroomed xs
-forgotten xs idle =
-    map_same (λ x. unroomed (with_prepared x [])) unroomed xs
-    (all_map (λ x. x.prepared ≡ []) (λ x. bare x ≡ unroomed x)
-    (λ x none. λ i. record (unroomed x) { prepared = sym none i }) xs idle)
+forgotten [] idle = refl
+forgotten (x ∷ xs) idle = grind (arith, forgotten xs)
 
 module _ (more : ℕ → Bool → List OutFrame) where
   abbrev pub more_for : KeptLink → List OutFrame
@@ -256,25 +209,21 @@ module _ (more : ℕ → Bool → List OutFrame) where
   pub prepared_none : ((l : ℕ) (parted : Bool) → more l parted ≡ []) → (xs : List KeptLink)
       → ArePrepared more xs xs
   prepared_none none [] = refl
-  prepared_none none (x ∷ xs) = λ i. record (unroomed x) {
-    prepared = (sym (append-nil x.prepared)
-        ∙ ap (λ f. x.prepared ++ f) (sym (none x.number (takes_parts x.state)))) i;
-  } ∷ prepared_none none xs i
+  prepared_none none (x ∷ xs) =
+      grind (
+        arith,
+        prepared_none none xs,
+        none x.number (takes_parts x.state),
+        append-nil x.prepared,
+      )
 
   -- what is prepared waits
   pub prepared_waits : (old mid : List KeptLink) → AreIdle old → ArePrepared more old mid
       → AreTold more old (map committed mid)
-  prepared_waits old mid idle q =
-      map_map unroomed committed mid ∙ through (λ z. unroomed (committed z)) unroomed more_prepared
-      old mid q
-      ∙ map_same (λ x. unroomed (committed (more_prepared x)))
-      (λ x. unroomed (with_frames x (more_for x))) old
-      (all_map (λ x. x.prepared ≡ [])
-      (λ x. unroomed (committed (more_prepared x)) ≡ unroomed (with_frames x (more_for x)))
-      (λ x none. λ i. record (unroomed x) {
-        frames = x.frames ++ (none i ++ more_for x);
-        prepared = sym none i;
-      }) old idle)
+  prepared_waits [] [] idle q = refl
+  prepared_waits [] (y ∷ ys) idle q = grind arith
+  prepared_waits (x ∷ xs) [] idle q = grind arith
+  prepared_waits (x ∷ xs) (y ∷ ys) idle q = grind (arith, prepared_waits xs ys)
 
   pub prepared_on : (later : ℕ → Bool → List OutFrame) (old mid new : List KeptLink)
       → ArePrepared more old mid → ArePrepared later mid new
@@ -318,8 +267,7 @@ module _ (numbers : List ℕ) (frames : Bool → List OutFrame) where
 
   turned : (x : KeptLink) (n : ℕ) (b : Bool) → n ≡ x.number → b ≡ list_any (λ y. nat_eq y n) numbers
       → list_any (nat_eq x.number) numbers ≡ b
-  turned x n b is q = (λ i. list_any (λ y. flip x.number y i) numbers)
-      ∙ ap (λ m. list_any (λ y. nat_eq y m) numbers) (sym is) ∙ sym q
+  turned x n b is q = grind (arith, flip x.number)
 
   -- a link that isn't among these stays
   pub unprepared : (x : KeptLink) (n : ℕ) → n ≡ x.number

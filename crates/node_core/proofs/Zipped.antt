@@ -22,7 +22,7 @@ module _ {A : Type 0} (R : A → A → Type 0) where
   zipped_long i xs items so_far =
       let long = AllZip-long R (take i xs) (take i items) so_far.done in
       let rest : length (drop i items) ≡ length (drop i xs) = ap length so_far.rest in
-      ap length (sym (take-append-drop i items)) ∙ simp length-append (omega (arith, long, rest))
+      ap length (sym (take-append-drop i items)) ∙ simp length-append (omega arith)
       ∙ ap length (take-append-drop i xs)
 
   -- one more is changed
@@ -30,7 +30,7 @@ module _ {A : Type 0} (R : A → A → Type 0) where
       → R (get_or items i d) v → SoFar R (i + 1) xs (set items i v)
   zipped xs items i d v so_far here r =
       let long = zipped_long i xs items so_far in
-      let there : i < length xs = omega (arith, here, long) in
+      let there : i < length xs = omega arith in
       let rest = sym (drop-cons items i d here) ∙ so_far.rest ∙ drop-cons xs i d there in
       let same : get_or items i d ≡ get_or xs i d = cc in
       let more : drop (suc i) items ≡ drop (suc i) xs = cc in
@@ -53,7 +53,7 @@ module _ {A : Type 0} (R : A → A → Type 0) where
       → AllZip R xs items
   all_zipped i xs items so_far out =
       let long = zipped_long i xs items so_far in
-      subst (λ ys. AllZip R ys items) (take_all i xs (omega (arith, out, long)))
+      subst (λ ys. AllZip R ys items) (take_all i xs (omega arith))
       (subst (AllZip R (take i xs)) (take_all i items out) so_far.done)
 
 -- where what is related gives the same value, so do the lists

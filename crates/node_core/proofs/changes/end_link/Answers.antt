@@ -1,7 +1,7 @@
 use Rattle.node_core.proofs
 use proofs.Words.{arith, IsCutOff}
 use proofs.Zipped.{zipped}
-use Rattle.node_core.proofs.changes.end_link.Goals as goal
+use proofs.changes.end_link.Goals as goal
 
 pub loop-running-preserved : goal.loop-running-preserved
 loop-running-preserved c =

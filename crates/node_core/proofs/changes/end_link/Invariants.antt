@@ -1,7 +1,7 @@
 use Rattle.node_core.proofs
 use proofs.Words.{IsCutOff}
 use proofs.Zipped.{SoFar}
-use Rattle.node_core.proofs.changes.end_link.Given as goal
+use proofs.changes.end_link.Given as goal
 
 -- the link is gone for the scopes so far
 abbrev pub invariant-loop-running : goal.invariant-loop-running

@@ -1,7 +1,7 @@
 use Rattle.node_core.proofs
 use proofs.Words.{arith, HasParted, refl}
 use proofs.Zipped.{zipped}
-use Rattle.node_core.proofs.changes.leave_all.Goals as goal
+use proofs.changes.leave_all.Goals as goal
 
 pub loop-running-preserved : goal.loop-running-preserved
 loop-running-preserved c = zipped (HasParted c.args.leaving) c.args.scopes.now.items

@@ -1,7 +1,7 @@
 use Rattle.node_core.proofs
 use proofs.Words.{HasParted}
 use proofs.Zipped.{SoFar}
-use Rattle.node_core.proofs.changes.leave_all.Given as goal
+use proofs.changes.leave_all.Given as goal
 
 -- the rows have left the scopes so far
 abbrev pub invariant-loop-running : goal.invariant-loop-running

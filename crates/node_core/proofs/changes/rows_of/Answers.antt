@@ -2,7 +2,7 @@ use Rattle.node_core.proofs
 use proofs.Words.{ap, map, row, row_cmp, rows_total, same_row, take_all, ◌∙◌}
 use Rattle.dist_types.proofs.Sorts.{sorted_listing}
 use proofs.Said.{rows_length, rows_listing}
-use Rattle.node_core.proofs.changes.rows_of.Goals as goal
+use proofs.changes.rows_of.Goals as goal
 
 pub returns : goal.returns
 returns c =

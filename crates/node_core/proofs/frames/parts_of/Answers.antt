@@ -4,7 +4,7 @@ use Rattle.dist_types.proofs.Sorts.{all_from}
 use Rattle.link_frames.specs.Parts.{message2_bytes, parts}
 use Rattle.link_frames.specs.Stream.{max_body}
 use proofs.Told.{map_map, wide_body}
-use Rattle.node_core.proofs.frames.parts_of.Goals as goal
+use proofs.frames.parts_of.Goals as goal
 
 pub wide_frames-requires : goal.wide_frames-requires
 wide_frames-requires c =

@@ -2,7 +2,7 @@ use Rattle.node_core.proofs
 use proofs.Words.{AllByRecursion, into_iter_items, length, vec_capacity, vec_len, wide_frames, ◌++◌}
 use proofs.Words.{◌+◌, ◌≡◌, ◌≤◌}
 use Rattle.link_frames.specs.Stream.{max_body}
-use Rattle.node_core.proofs.frames.wide_frames.Given as goal
+use proofs.frames.wide_frames.Given as goal
 
 -- the bodies so far are frames, and there is room for the others, which are short
 abbrev pub invariant-loop-body : goal.invariant-loop-body

@@ -1,7 +1,7 @@
 use Rattle.node_core.proofs
 use proofs.Words.{IsPidListing, mentions, pid_cmp, pids_total, same_pid, subst, take_all, ◌∙◌}
 use Rattle.dist_types.proofs.Sorts.{sorted_listing}
-use Rattle.node_core.proofs.gathering.ascending.Goals as goal
+use proofs.gathering.ascending.Goals as goal
 
 pub returns : goal.returns
 returns c =

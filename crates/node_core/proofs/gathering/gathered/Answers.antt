@@ -3,7 +3,7 @@ use proofs.Words.{arith, length, refl, rules, ◌≡◌}
 use Rattle.std.proofs.Math.Seq.{take-append_seam}
 use proofs.MergedGroups.{are_some, HasSorted, sorted_gathered}
 use proofs.Zipped.{all_zipped, zipped}
-use Rattle.node_core.proofs.gathering.gathered.Goals as goal
+use proofs.gathering.gathered.Goals as goal
 
 pub merged-requires : goal.merged-requires
 merged-requires c = are_some c.args.groups.items c.requires

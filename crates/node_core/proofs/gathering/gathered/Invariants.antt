@@ -1,7 +1,7 @@
 use Rattle.node_core.proofs
 use proofs.MergedGroups.{HasSorted}
 use proofs.Zipped.{SoFar}
-use Rattle.node_core.proofs.gathering.gathered.Given as goal
+use proofs.gathering.gathered.Given as goal
 
 -- the processes of the changes so far are in their order
 abbrev pub invariant-loop-change : goal.invariant-loop-change

@@ -1,7 +1,7 @@
 use Rattle.node_core.proofs
 use proofs.Words.{ap, arith, rules, [], ◌++◌, ◌∙◌, ◌∷◌}
 use proofs.MergedGroups.{merged_behind, merged_first, merged_last}
-use Rattle.node_core.proofs.gathering.merge.Goals as goal
+use proofs.gathering.merge.Goals as goal
 
 pub returns-in_ok-push-in-Some : goal.returns-in_ok-push-in-Some
 returns-in_ok-push-in-Some c =

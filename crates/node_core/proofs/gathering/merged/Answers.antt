@@ -1,7 +1,7 @@
 use Rattle.node_core.proofs
 use proofs.Words.{ap, append_assoc, arith, into_iter_items, rules, sym, [], ◌++◌, ◌∙◌, ◌∷◌, ◌≡◌}
 use proofs.MergedGroups.{all_merged, merged_permuted, merges, some_permuted, sorted_by_group}
-use Rattle.node_core.proofs.gathering.merged.Goals as goal
+use proofs.gathering.merged.Goals as goal
 
 pub loop-change-preserved : goal.loop-change-preserved
 loop-change-preserved c =

@@ -1,7 +1,7 @@
 use Rattle.node_core.proofs
 use proofs.Words.{cond, LinkState, moved_on, narrow_frames, older_of, [], ◌++◌, ◌∙◌}
 use proofs.MovedOn.{put_in}
-use Rattle.node_core.proofs.handshaking.come_up.Goals as goal
+use proofs.handshaking.come_up.Goals as goal
 
 pub returns : goal.returns
 returns c = put_in c.args.link c.args.links.now.items c.args.place c.owe_all.new.link

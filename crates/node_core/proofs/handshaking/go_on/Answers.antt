@@ -1,7 +1,7 @@
 use Rattle.node_core.proofs
 use proofs.Words.{ap, cond, dial_beside, narrow_frames, None, ◌∙◌}
 use proofs.MovedOn.{put_in, stated}
-use Rattle.node_core.proofs.handshaking.go_on.Goals as goal
+use proofs.handshaking.go_on.Goals as goal
 
 pub returns : goal.returns
 returns c = put_in c.args.link c.args.links.now.items c.args.place c.owe_bodies.new.self

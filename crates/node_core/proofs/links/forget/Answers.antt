@@ -2,7 +2,7 @@ use Rattle.node_core.proofs
 use proofs.Words.{ap, arith, length, unroomed, with_prepared, [], ◌≡◌}
 use Rattle.std.proofs.Math.Seq.{take-append_seam}
 use proofs.Zipped.{all_zipped, zipped, zipped_map}
-use Rattle.node_core.proofs.links.forget.Goals as goal
+use proofs.links.forget.Goals as goal
 
 pub loop-link-preserved : goal.loop-link-preserved
 loop-link-preserved c =

@@ -1,7 +1,7 @@
 use Rattle.node_core.proofs
 use proofs.Words.{unroomed, with_prepared, [], ◌≡◌}
 use proofs.Zipped.{SoFar}
-use Rattle.node_core.proofs.links.forget.Given as goal
+use proofs.links.forget.Given as goal
 
 -- nothing is prepared for those so far
 abbrev pub invariant-loop-link : goal.invariant-loop-link

@@ -2,7 +2,7 @@ use Rattle.node_core.proofs
 use proofs.Words.{◌∙◌}
 use Rattle.std.proofs.lemmas.Result.{on_ok_weaker}
 use proofs.Told.{all_spelled}
-use Rattle.node_core.proofs.links.prepare.Goals as goal
+use proofs.links.prepare.Goals as goal
 
 pub returns-clause-ok : goal.returns-clause-ok
 returns-clause-ok c =

@@ -2,19 +2,17 @@ use Rattle.node_core.proofs
 use proofs.Words.{ap, arith, get_or_default, KeptLink, length, prepared_for, subst, sym}
 use proofs.Words.{takes_parts, unroomed, with_prepared, with_room, [], ◌++◌, ◌<◌, ◌∙◌}
 use Rattle.std.proofs.Math.Seq.{map-set_same}
-use Rattle.std.proofs.Common.{Err, false, Ok, OnErr, OnOk, Result, true, ◌≡◌}
+use Rattle.std.proofs.Common.{false, OnErr, OnOk, Result, true, ◌≡◌}
 use Rattle.std.specs.Result.{is_err}
 use proofs.Zipped.{all_zipped, zipped, zipped_long, zipped_map, zipped_still}
 use proofs.Told.{all_dropped, both, one_prepared, Prepared, unprepared}
-use Rattle.node_core.proofs.links.prepare_frames.Goals as goal
+use proofs.links.prepare_frames.Goals as goal
 
 err_is : {T E P : Type 0} (r : Result T E) → is_err r ≡ true → OnErr r P → P
-err_is (Ok x) e p = grind arith
-err_is (Err x) e p = p
+err_is r e p = grind arith
 
 err_not : {T E P : Type 0} (r : Result T E) → is_err r ≡ false → OnOk r P → P
-err_not (Ok x) e p = p
-err_not (Err x) e p = grind arith
+err_not r e p = grind arith
 
 pub loop-place-preserved-then-not-contains : goal.loop-place-preserved-then-not-contains
 loop-place-preserved-then-not-contains c =
@@ -25,7 +23,7 @@ loop-place-preserved-then-not-contains c =
     let same = unprepared numbers frames c.index.result.now c.number.result c.number.ensures
     c.if-not-contains.ensures.value in
     zipped_still (Prepared numbers frames) c.args.links.now.items c.loop-place.links.items
-    c.loop-place.place c.index.result.now c.loop-place.invariant (omega (arith, long))
+    c.loop-place.place c.index.result.now c.loop-place.invariant (omega arith)
     (rw (← c.index.ensures) same)
 
 pub returns-then-is_err-clause-forgot : goal.returns-then-is_err-clause-forgot
@@ -53,7 +51,7 @@ loop-place-preserved c =
     let y = c.prepare-prepared.new.self in
     let long = zipped_long (Prepared numbers frames) place c.args.links.now.items items
     c.loop-place.invariant in
-    let within : place < length items = omega (arith, long) in
+    let within : place < length items = omega arith in
     let made = err_not c.prepare-prepared.result (sym c.if-is_err.ensures.value)
     c.prepare-prepared.ensures.ok in
     let first = c.index.ensures
@@ -79,4 +77,4 @@ returns-clause-ok c =
     zipped_map (Prepared numbers frames) (λ x. unroomed (prepared_for numbers frames x)) unroomed
     (λ x y e. e) c.args.links.now.items c.loop-place.links.items
     (all_zipped (Prepared numbers frames) c.loop-place.place c.args.links.now.items
-    c.loop-place.links.items c.loop-place.invariant (omega (arith, long)))
+    c.loop-place.links.items c.loop-place.invariant (omega arith))

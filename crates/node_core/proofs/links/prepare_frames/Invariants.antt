@@ -1,7 +1,7 @@
 use Rattle.node_core.proofs
 use proofs.Zipped.{SoFar}
 use proofs.Told.{both, Prepared}
-use Rattle.node_core.proofs.links.prepare_frames.Given as goal
+use proofs.links.prepare_frames.Given as goal
 
 -- the frames are prepared for those so far
 abbrev pub invariant-loop-place : goal.invariant-loop-place

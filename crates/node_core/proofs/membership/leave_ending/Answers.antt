@@ -3,7 +3,7 @@ use proofs.Words.{subst, sym, [], ◌∙◌}
 use Rattle.dist_types.specs.Difference.{change_unless_empty}
 use proofs.AllLost.{none_ends}
 use proofs.OwnChanges.{AreAllProper, ending_weaker, ok_weaker, one_proper, own_leave}
-use Rattle.node_core.proofs.membership.leave_ending.Goals as goal
+use proofs.membership.leave_ending.Goals as goal
 
 pub returns-then-not-is_any_overfull : goal.returns-then-not-is_any_overfull
 returns-then-not-is_any_overfull c =

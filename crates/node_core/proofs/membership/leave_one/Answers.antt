@@ -1,7 +1,7 @@
 use Rattle.node_core.proofs
-use proofs.Words.{count_of, IsDifference, refl, subst}
+use proofs.Words.{arith, count_of, IsDifference, refl, subst}
 use proofs.Said.{leave_fault}
-use Rattle.node_core.proofs.membership.leave_one.Goals as goal
+use proofs.membership.leave_one.Goals as goal
 
 pub returns-in-Ok-clause-left : goal.returns-in-Ok-clause-left
 returns-in-Ok-clause-left c = record {
@@ -24,6 +24,4 @@ returns-in-Err-clause-refused c = rw c.fault_of.ensures
     c.in-Err.ensures.refused)
 
 pub returns-in-Err-clause-same : goal.returns-in-Err-clause-same
-returns-in-Err-clause-same c =
-    let r = c.args.running.now in
-    λ i. record { scope = r.scope; table = c.in-Err.ensures.same i; heard = r.heard; told = r.told }
+returns-in-Err-clause-same c = grind (arith, c.in-Err.ensures.same)

@@ -3,7 +3,7 @@ use proofs.Words.{◌∙◌}
 use proofs.Said.{joined_rows_are}
 use Rattle.std.proofs.lemmas.Result.{on_err_weaker}
 use proofs.Told.{forgotten}
-use Rattle.node_core.proofs.membership.tell_join.Goals as goal
+use proofs.membership.tell_join.Goals as goal
 
 pub returns-clause-same : goal.returns-clause-same
 returns-clause-same c = on_err_weaker c.tell-told.result

@@ -1,7 +1,7 @@
 use Rattle.node_core.proofs
 use proofs.Words.{AllByRecursion, count_of, into_iter_items, IsGroupListing, IsPidListing, map}
 use proofs.Words.{◌++◌}
-use Rattle.node_core.proofs.monitoring.contents_of.Given as goal
+use proofs.monitoring.contents_of.Given as goal
 
 -- the groups so far and those to come are all, and those so far have their members
 abbrev pub invariant-loop-group : goal.invariant-loop-group

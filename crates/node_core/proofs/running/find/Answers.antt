@@ -1,7 +1,7 @@
 use Rattle.node_core.proofs
 use proofs.Words.{ap, same, Some, sym, ◌∙◌}
 use proofs.Searched.{find_at, find_none}
-use Rattle.node_core.proofs.running.find.Goals as goal
+use proofs.running.find.Goals as goal
 
 pub returns-in-Some : goal.returns-in-Some
 returns-in-Some c = ap Some c.index-scopes-place.is

@@ -2,7 +2,7 @@ use Rattle.node_core.proofs
 use proofs.Words.{◌∙◌}
 use Rattle.std.proofs.lemmas.Result.{on_err_weaker}
 use proofs.Told.{forgotten}
-use Rattle.node_core.proofs.scoping.prepare_shown.Goals as goal
+use proofs.scoping.prepare_shown.Goals as goal
 
 pub returns-clause-same : goal.returns-clause-same
 returns-clause-same c = on_err_weaker c.prepare.result

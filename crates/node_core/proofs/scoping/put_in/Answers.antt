@@ -2,7 +2,7 @@ use Rattle.node_core.proofs
 use proofs.Words.{rules}
 use Rattle.std.proofs.lemmas.List.Sorted.{IsPartitionPoint-from_clause}
 use proofs.Starting.{before_partitions, is_before, put_at}
-use Rattle.node_core.proofs.scoping.put_in.Goals as goal
+use proofs.scoping.put_in.Goals as goal
 
 pub returns : goal.returns
 returns c =

@@ -1,7 +1,7 @@
 use Rattle.node_core.proofs
 use proofs.Words.{ap, sym, take, take_more, without_number, ◌∙◌}
 use proofs.AllLost.{cut_more, ends_more}
-use Rattle.node_core.proofs.slow.end_all.Goals as goal
+use proofs.slow.end_all.Goals as goal
 
 pub loop-end-preserved : goal.loop-end-preserved
 loop-end-preserved c =

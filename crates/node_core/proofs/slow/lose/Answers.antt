@@ -3,7 +3,7 @@ use proofs.Words.{append-nil, sym, [], ◌∙◌}
 use Rattle.std.proofs.lemmas.Result.{on_ok_weaker}
 use Rattle.node_core.specs.Ending.{is_stopped}
 use proofs.AllLost.{all_lost, none_lost}
-use Rattle.node_core.proofs.slow.lose.Goals as goal
+use proofs.slow.lose.Goals as goal
 
 pub returns-then-is_stopped : goal.returns-then-is_stopped
 returns-then-is_stopped c =

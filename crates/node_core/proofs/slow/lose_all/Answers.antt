@@ -1,7 +1,7 @@
 use Rattle.node_core.proofs
 use proofs.Words.{ap, append_assoc, take, take_more, ◌++◌, ◌∙◌}
 use proofs.AllLost.{lost_more}
-use Rattle.node_core.proofs.slow.lose_all.Goals as goal
+use proofs.slow.lose_all.Goals as goal
 
 pub loop-end-preserved : goal.loop-end-preserved
 loop-end-preserved c =

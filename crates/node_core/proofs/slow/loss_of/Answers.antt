@@ -2,7 +2,7 @@ use Rattle.node_core.proofs
 use proofs.Words.{ap, filter, not, ◌++◌, ◌∙◌}
 use Rattle.node_core.specs.Ending.{is_stopped}
 use proofs.AllLost.{loss_proper}
-use Rattle.node_core.proofs.slow.loss_of.Goals as goal
+use proofs.slow.loss_of.Goals as goal
 
 pub gathered-requires : goal.gathered-requires
 gathered-requires c =

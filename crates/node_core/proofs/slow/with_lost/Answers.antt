@@ -1,12 +1,10 @@
 use Rattle.node_core.proofs
-use proofs.Words.{append-nil, arith, Change, cond, is_empty, not, refl, sym, take, take_more}
-use proofs.Words.{vec_len, [], ◌++◌, ◌∙◌, ◌∷◌, ◌≡◌}
+use proofs.Words.{append-nil, arith, Change, cond, is_empty, not, sym, take, take_more, vec_len, []}
+use proofs.Words.{◌++◌, ◌∙◌, ◌∷◌, ◌≡◌}
 use Rattle.node_core.specs.Ending.{is_stopped}
 use proofs.Partings.{none_by}
 use proofs.AllLost.{one_loss}
-use Rattle.node_core.proofs.slow.with_lost.Goals.{else-not-is_empty}
-use Rattle.node_core.proofs.slow.with_lost.Goals.{then-not-is_empty+in_ok-try_clone+in_ok-push}
-use Rattle.node_core.proofs.slow.with_lost.Goals as goal
+use proofs.slow.with_lost.Goals as goal
 
 pub loop-running-preserved : goal.loop-running-preserved
 loop-running-preserved c =
@@ -18,19 +16,9 @@ loop-running-preserved c =
     let none = sym (none_by groups (vec_len c.in_ok-groups.groups) (omega arith))
     ∙ sym c.is_empty.ensures in
     let change : Change = record { scope = running.scope; groups = groups } in
-    let grown = elim c.if-not-is_empty.branch as (λ _. c.if-not-is_empty.changes.items
-    ≡ before ++ cond (not (is_empty groups)) (change ∷ []) []) [
-      | then-not-is_empty+in_ok-try_clone+in_ok-push w ↦
-          rw (
-            w.changes-is,
-            w.in_ok-push.ensures.items,
-            w.of.ensures,
-            w.in_ok-try_clone.ensures,
-            none ∙ w.if-not-is_empty.true,
-          ) refl
-      | else-not-is_empty w ↦
-          rw (w.changes-is, none ∙ w.if-not-is_empty.false) (sym (append-nil before))
-    ] in
+    let grown : c.if-not-is_empty.changes.items
+    ≡ before ++ cond (not (is_empty groups)) (change ∷ []) [] =
+    grind (arith, none, append-nil before, c.if-not-is_empty.branch) in
     rw (take_more scopes index running c.loop-running-test.true, ← c.running-item.is, grown)
     (one_loss c.args.ends.now (is_stopped c.args.stopped) c.args.own.now (take index scopes) before
     running groups c.loop-running.invariant c.in_ok-groups.ensures)

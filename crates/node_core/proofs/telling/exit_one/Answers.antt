@@ -5,9 +5,9 @@ use Rattle.std.proofs.lemmas.List.{nil_from_length}
 use proofs.RowsGone.{few_left}
 use Rattle.scope_core.proofs.Outcomes.{on_err}
 use proofs.Told.{forgot_bare, prepared_among, prepared_none}
-use Rattle.node_core.proofs.telling.exit_one.Goals.{else-not-is_empty}
-use Rattle.node_core.proofs.telling.exit_one.Goals.{then-not-is_empty+in_ok-rows_left+in_ok-try_clone+in_ok-told}
-use Rattle.node_core.proofs.telling.exit_one.Goals as goal
+use proofs.telling.exit_one.Goals.{else-not-is_empty}
+use proofs.telling.exit_one.Goals.{then-not-is_empty+in_ok-rows_left+in_ok-try_clone+in_ok-told}
+use proofs.telling.exit_one.Goals as goal
 
 pub tell-told-requires : goal.tell-told-requires
 tell-told-requires c =
@@ -44,7 +44,7 @@ returns-clause-told c =
           let none = nil_from_length groups (let empty =
           eqb-true (vec_len c.in_ok-groups.groups) 0
           (sym c.is_empty.ensures ∙ w.if-not-is_empty.false) in
-          omega (arith, empty, c.in_ok-groups.groups.ok)) in
+          omega (arith, c.in_ok-groups.groups.ok)) in
           rw w.links-is (prepared_none (exit_frames c.args.running.now groups)
           (λ l parted. ap (λ g. exit_frames c.args.running.now g l parted) none)
           c.args.links.now.items)

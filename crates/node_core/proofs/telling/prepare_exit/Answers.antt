@@ -1,16 +1,14 @@
 use Rattle.node_core.proofs
 use proofs.Words.{all_frames, append-nil, AreExits, arith, cond, exit_frames, is_empty, IsOwnScope}
-use proofs.Words.{local_total, not, refl, subst, sym, take, take_all, take_more, vec_len, [], ◌++◌}
-use proofs.Words.{◌∙◌, ◌∷◌, ◌≡◌, ◌≤◌}
+use proofs.Words.{local_total, not, subst, sym, take, take_all, take_more, vec_len, [], ◌++◌, ◌∙◌}
+use proofs.Words.{◌∷◌, ◌≡◌, ◌≤◌}
 use proofs.Exited.{exits_on}
 use proofs.Partings.{none_by}
 use Rattle.scope_core.proofs.Outcomes.{on_err}
 use proofs.KeptOn.{each_at}
 use proofs.OwnLimits.{limit_again}
 use proofs.Told.{prepared_bare}
-use Rattle.node_core.proofs.telling.prepare_exit.Goals.{else-not-is_empty}
-use Rattle.node_core.proofs.telling.prepare_exit.Goals.{then-not-is_empty+in_ok-try_clone+in_ok-push}
-use Rattle.node_core.proofs.telling.prepare_exit.Goals as goal
+use proofs.telling.prepare_exit.Goals as goal
 
 pub exit_one-requires : goal.exit_one-requires
 exit_one-requires c =
@@ -59,19 +57,10 @@ loop-running-preserved c =
     let groups = c.in_ok-groups.groups.items in
     let none = sym (none_by groups (vec_len c.in_ok-groups.groups)
     (omega (arith, c.in_ok-groups.groups.ok))) ∙ sym c.is_empty.ensures in
-    let grown = elim c.if-not-is_empty.branch as (λ _. c.if-not-is_empty.changes.items
+    let grown : c.if-not-is_empty.changes.items
     ≡ c.loop-running.changes.items ++ cond (not (is_empty groups))
-    (record { scope = c.running-item.result.scope; groups = groups } ∷ []) []) [
-      | then-not-is_empty+in_ok-try_clone+in_ok-push w ↦ rw (
-        w.changes-is,
-        w.in_ok-push.ensures.items,
-        w.of.ensures,
-        w.in_ok-try_clone.ensures,
-        none ∙ w.if-not-is_empty.true,
-      ) refl
-      | else-not-is_empty w ↦ rw (w.changes-is, none ∙ w.if-not-is_empty.false)
-          (sym (append-nil c.loop-running.changes.items))
-    ] in
+    (record { scope = c.running-item.result.scope; groups = groups } ∷ []) [] =
+    grind (arith, none, append-nil c.loop-running.changes.items, c.if-not-is_empty.branch) in
     rw (more, ← c.running-item.is)
     (exits_on c.args.pid.now (take c.loop-running.running-index c.args.scopes.now)
     c.running-item.result c.args.links.now.items c.loop-running.links.items

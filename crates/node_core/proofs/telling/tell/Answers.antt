@@ -1,7 +1,7 @@
 use Rattle.node_core.proofs
 use proofs.Words.{sym, ◌∙◌}
 use proofs.Said.{may_be_said}
-use Rattle.node_core.proofs.telling.tell.Goals as goal
+use proofs.telling.tell.Goals as goal
 
 pub prepare-requires : goal.prepare-requires
 prepare-requires c =

@@ -2,7 +2,7 @@ use Rattle.node_core.proofs
 use proofs.Words.{ap, ◌∙◌}
 use proofs.OwnChanges.{err_both, ok_both}
 use proofs.Told.{forgotten}
-use Rattle.node_core.proofs.telling.tell_exit.Goals as goal
+use proofs.telling.tell_exit.Goals as goal
 
 pub returns-clause-same : goal.returns-clause-same
 returns-clause-same c =

@@ -1,7 +1,7 @@
 use Rattle.node_core.proofs
 use proofs.Words.{into_iter_items, length, narrow_frames, vec_capacity, vec_len, ◌++◌, ◌+◌, ◌≡◌}
 use proofs.Words.{◌≤◌}
-use Rattle.node_core.proofs.waiting.put_bodies.Given as goal
+use proofs.waiting.put_bodies.Given as goal
 
 -- the bodies so far wait as frames, and there is room for the others
 abbrev pub invariant-loop-body : goal.invariant-loop-body

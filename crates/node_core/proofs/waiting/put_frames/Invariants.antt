@@ -1,6 +1,6 @@
 use Rattle.node_core.proofs
 use proofs.Words.{into_iter_items, length, vec_capacity, vec_len, ◌++◌, ◌+◌, ◌≡◌, ◌≤◌}
-use Rattle.node_core.proofs.waiting.put_frames.Given as goal
+use proofs.waiting.put_frames.Given as goal
 
 -- the frames so far wait, and there is room for the others
 abbrev pub invariant-loop-frame : goal.invariant-loop-frame

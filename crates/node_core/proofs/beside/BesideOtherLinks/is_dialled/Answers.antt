@@ -1,7 +1,7 @@
 use Rattle.node_core.proofs
 use proofs.Words.{dialled_peer, KeptLink, same, sym, ◌∙◌}
 use proofs.LinkTests.{any_some}
-use Rattle.node_core.proofs.beside.BesideOtherLinks.is_dialled.Goals as goal
+use proofs.beside.BesideOtherLinks.is_dialled.Goals as goal
 
 pub returns : goal.returns
 returns c =

@@ -2,7 +2,7 @@ use Rattle.node_core.proofs
 use proofs.Words.{ap, false, is_some, KeptLink, option_map_or, same, sym, up_peer, ◌∙◌}
 use proofs.Found.{place_found}
 use proofs.LinkTests.{any_some}
-use Rattle.node_core.proofs.beside.BesideOtherLinks.is_up.Goals as goal
+use proofs.beside.BesideOtherLinks.is_up.Goals as goal
 
 pub returns : goal.returns
 returns c =

@@ -5,7 +5,7 @@ use proofs.Answering.{accepts, refuses}
 use proofs.Cookies.{names_counted, names_follow}
 use proofs.Calm.{entered}
 use proofs.Entered.{audit_next}
-use Rattle.node_core.proofs.kept.Kept.allow.Goals as goal
+use proofs.kept.Kept.allow.Goals as goal
 
 pub returns-in-Ok : goal.returns-in-Ok
 returns-in-Ok g c =
@@ -16,7 +16,7 @@ returns-in-Ok g c =
     accepts c.requires _ _ refl _ _ _ c.done.ensures refl
     (rw (c.in-Ok.ensures.ok, c.as_slice.ensures)
     (entered t g.call.seat (Event.Allow names) refl c.requires.space
-    (rw (le-leb (different (names ++ allow_list g.call.past)) 1024 (omega (arith, is, few))))
+    (rw (le-leb (different (names ++ allow_list g.call.past)) 1024 (omega arith)))
     refl
     (λ its. (
       names_follow g.call.past c.args.self.now.admission t.admission g.call.seat Reply.Done
@@ -34,4 +34,4 @@ returns-in-Err-AllowFull g c =
     rw c.in-Err-AllowFull.ensures.same
     (refuses c.requires _ Rule.AllowFull
     (rw (lt-leb (different (c.args.names.now ++ allow_list g.call.past)) 1024
-    (omega (arith, is, over)))) refl)
+    (omega arith))) refl)

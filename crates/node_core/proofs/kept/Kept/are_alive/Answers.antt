@@ -1,7 +1,7 @@
 use Rattle.node_core.proofs
 use proofs.Words.{all_from_yields_List, is_number, rules, tests, YieldsList-from_slice, ◌∙◌}
 use proofs.Joining.{alive_all}
-use Rattle.node_core.proofs.kept.Kept.are_alive.Goals as goal
+use proofs.kept.Kept.are_alive.Goals as goal
 
 pub returns : goal.returns
 returns g c =

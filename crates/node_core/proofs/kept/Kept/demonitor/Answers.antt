@@ -4,7 +4,7 @@ use Rattle.group_monitors.proofs.FromPolicy.{follows_checked, follows_refused}
 use proofs.Answering.{accepts, refuses}
 use proofs.Calm.{entered}
 use proofs.Entered.{audit_next}
-use Rattle.node_core.proofs.kept.Kept.demonitor.Goals as goal
+use proofs.kept.Kept.demonitor.Goals as goal
 
 pub returns-in-Ok : goal.returns-in-Ok
 returns-in-Ok g c =

@@ -3,7 +3,7 @@ use proofs.Words.{refl, sym, ◌∙◌}
 use proofs.Answering.{accepts, refuses}
 use proofs.Openings.{dialled_now}
 use proofs.LinkTests.{not_some}
-use Rattle.node_core.proofs.kept.Kept.dial.Goals as goal
+use proofs.kept.Kept.dial.Goals as goal
 
 pub returns-in-Some : goal.returns-in-Some
 returns-in-Some g c = refuses c.requires.0 _ c.in-Some.rule (sym c.in-Some.ensures) refl

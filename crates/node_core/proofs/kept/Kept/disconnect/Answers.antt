@@ -1,11 +1,11 @@
 use Rattle.node_core.proofs
-use proofs.Words.{ap, AreCut, AreLost, false, get_or_default, is_some, length, option_map_or}
-use proofs.Words.{position-Some, refl, Rule, same, subst, sym, up_peer, ◌<◌, ◌∙◌}
+use proofs.Words.{ap, false, get_or_default, is_some, length, option_map_or, position-Some, refl}
+use proofs.Words.{Rule, same, sym, up_peer, ◌<◌, ◌∙◌}
 use proofs.Answering.{accepts, refuses}
 use proofs.Found.{place_found}
 use proofs.LinkTests.{up_is}
 use proofs.Losing.{parted}
-use Rattle.node_core.proofs.kept.Kept.disconnect.Goals as goal
+use proofs.kept.Kept.disconnect.Goals as goal
 
 pub returns-in_default : goal.returns-in_default
 returns-in_default g c =
@@ -21,18 +21,19 @@ returns g c =
     let h = g.call.past in
     let t = c.requires.keeps.follows in
     let links = c.args.self.now.links.items in
-    let scopes = c.args.self.now.scopes.items in
     let peer = c.args.peer.now in
     let found = rw c.deref.ensures.value at (sym c.place_of_up.ensures ∙ c.in-Some.is) in
     let at = position-Some (λ x. option_map_or (λ m. same m peer) (up_peer x.state) false) links
     c.in-Some.place c.index.result.now found in
     let within : c.in-Some.place < length links = at.0 in
-    let lost = subst (λ x. AreLost (up_peer x.state) scopes c.in_ok-changes.changes.items)
-    (c.index-2.ensures ∙ get_or_default links c.in-Some.place c.index-2.result.now
-    c.index.result.now within) (rw c.deref-2.ensures.value at c.in_ok-changes.ensures) in
-    let cuts = subst (λ x. AreCut x.number (up_peer x.state) scopes c.cut_link.new.scopes.items)
-    (c.index-3.ensures ∙ get_or_default links c.in-Some.place c.index-3.result.now
-    c.index.result.now within) c.cut_link.ensures in
+    let lost = rw (
+      c.deref-2.ensures.value,
+      c.index-2.ensures
+          ∙ get_or_default links c.in-Some.place c.index-2.result.now c.index.result.now within,
+    ) at c.in_ok-changes.ensures in
+    let cuts = rw (c.index-3.ensures
+    ∙ get_or_default links c.in-Some.place c.index-3.result.now c.index.result.now within)
+    at c.cut_link.ensures in
     let number = c.number-number.ensures ∙ ap (λ x. x.number) c.index.ensures in
     accepts c.requires _ _ refl _ _ _ c.changed.ensures refl (rw c.remove.ensures
     (parted h g.call.seat peer c.in_ok-changes.changes.items _ t c.in-Some.place c.index.result.now

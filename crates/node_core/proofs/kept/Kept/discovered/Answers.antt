@@ -5,7 +5,7 @@ use proofs.MessageRefused.{calm}
 use proofs.MessageRoom.{answered_now, asked_calm, few_told, follows_with, holds, roomed_links}
 use proofs.MessageRoom.{same_scope}
 use proofs.MessageSlow.{fell_behind, few_enough}
-use Rattle.node_core.proofs.kept.Kept.discovered.Goals as goal
+use proofs.kept.Kept.discovered.Goals as goal
 
 pub returns-then-not-can_be_told : goal.returns-then-not-can_be_told
 returns-then-not-can_be_told g c = λ body says.

@@ -7,7 +7,7 @@ use proofs.MessageParts.{roomy}
 use proofs.MessageRefused.{has_peer}
 use proofs.MessageRoom.{follows_with, same_links, still_scope}
 use proofs.MessageScopes.{downed}
-use Rattle.node_core.proofs.kept.Kept.downed.Goals as goal
+use proofs.kept.Kept.downed.Goals as goal
 
 pub unreachable-requires : goal.unreachable-requires
 unreachable-requires g c =

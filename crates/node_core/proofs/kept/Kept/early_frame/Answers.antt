@@ -43,7 +43,7 @@ go_on-requires-clause-ready g c =
     early_few t g.call.seat c.args.body.now held c.requires.unwhole c.requires.early
     c.deref.ensures.value c.in-On.state c.in-On.frames c.in-On.gives_up
     (rw (c.as_slice-bytes.ensures, c.of.ensures) at c.in-On.ensures) in
-    held_ready t held (length c.in-On.frames) (omega (arith, few, c.in_ok-make_room.ensures.ok))
+    held_ready t held (length c.in-On.frames) (omega (arith, c.in_ok-make_room.ensures.ok))
 
 pub unreachable-requires : goal.unreachable-requires
 unreachable-requires g c =

@@ -1,13 +1,13 @@
 use Rattle.node_core.proofs
-use proofs.Words.{all_frames, ap, committed, cond, link_words, lives_of, map, None, not, refl}
-use proofs.Words.{Reply, Rule, Some, sym, ◌∙◌}
+use proofs.Words.{all_frames, ap, committed, cond, lives_of, map, None, not, refl, Reply, Rule}
+use proofs.Words.{Some, sym, ◌∙◌}
 use proofs.Answering.{accepts_ending, refuses, wanted}
 use proofs.Ended.{turns_on}
 use proofs.Joining.{local_by}
 use proofs.OwnChanges.{dropped, partings_proper}
 use proofs.Told.{alike_again, follow_idle}
 use proofs.Exited.{exit_now, exit_own, exits_wait}
-use Rattle.node_core.proofs.kept.Kept.exit.Goals as goal
+use proofs.kept.Kept.exit.Goals as goal
 
 pub returns-then-not-is_local : goal.returns-then-not-is_local
 returns-then-not-is_local g c = refuses c.requires _ Rule.NotLocal
@@ -35,21 +35,20 @@ tell_exit-requires-clause-own g c =
 
 pub tell_exit-requires-clause-idle : goal.tell_exit-requires-clause-idle
 tell_exit-requires-clause-idle g c =
-    follow_idle (link_words g.call.past) c.args.self.now.links.items
-    c.requires.keeps.follows.links.each
+    follow_idle c.requires.keeps.follows
 
 pub returns-in_err-own : goal.returns-in_err-own
 returns-in_err-own g c = wanted c.requires _ _ refl
-    (alike_again g.call.past _ c.requires.keeps.follows c.tell_exit.new.links.items
+    (alike_again c.requires.keeps.follows c.tell_exit.new.links.items
     c.in_err-own.ensures.same) _ c.from_residual.ensures.1
 
 pub returns-in_err-ending : goal.returns-in_err-ending
 returns-in_err-ending g c =
     let t = c.requires.keeps.follows in
     let old = c.args.self.now.links.items in
-    let idle = follow_idle (link_words g.call.past) old t.links.each in
+    let idle = follow_idle t in
     wanted c.requires _ _ refl
-    (alike_again g.call.past _ t c.or_forget.new.links.items
+    (alike_again t c.or_forget.new.links.items
     (dropped (all_frames c.deref.result.now c.in_ok-own.ensures.told.all) old
     c.tell_exit.new.links.items c.or_forget.new.links.items idle
     c.in_ok-own.ensures.told.links c.in_err-ending.ensures.forgot))
@@ -70,7 +69,7 @@ returns g c =
     ∙ c.if-not-is_local.false in
     let own = c.in_ok-own.own.items in
     let prepared = c.tell_exit.new.links.items in
-    let idle = follow_idle (link_words h) c.args.self.now.links.items t.links.each in
+    let idle = follow_idle t in
     let told = exits_wait pid c.args.self.now.scopes.items c.args.self.now.links.items prepared
     own idle
     (rw c.deref.ensures.value at c.in_ok-own.ensures.told) in

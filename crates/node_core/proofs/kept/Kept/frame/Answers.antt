@@ -12,7 +12,7 @@ use Rattle.node_core.proofs.kept.Kept.frame.Goals as goal
 state : (g : Over) (c : After-state g)
     → IsState (facts g.call.past c.args.number) c.state.result.now
 state g c = subst (IsState _) (sym (c.state.ensures ∙ ap (λ x. x.state) c.index.ensures))
-    (state_there g.call.past _ c.requires.keeps.follows c.args.number c.in-Some.place
+    (state_there c.requires.keeps.follows c.args.number
     (rw c.deref.ensures.value at (sym c.place_of.ensures ∙ c.in-Some.is)) c.index.result.now)
 
 pub returns-in_default : goal.returns-in_default

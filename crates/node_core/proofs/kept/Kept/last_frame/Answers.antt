@@ -61,7 +61,7 @@ come_up-requires-clause-ready g c =
     ap length c.in_ok-arrival.ensures.discovers ∙ length-map c.deref.result.now _
     ∙ ap length c.deref.ensures.value in
     held_ready t held (length c.in-Up.frames + length asked)
-    (omega (arith, few, c.in_ok-make_room.ensures.ok, long, c.len.ensures))
+    (omega (arith, c.in_ok-make_room.ensures.ok, c.len.ensures))
 
 pub unreachable-requires : goal.unreachable-requires
 unreachable-requires g c =

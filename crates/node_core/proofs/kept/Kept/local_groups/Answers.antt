@@ -6,7 +6,7 @@ use proofs.Entered.{audit_next}
 use proofs.MessagePlaces.{runs_here, scope_here, stopped_here}
 use proofs.Scopes.{local_groups_are}
 use proofs.Searched.{scopes_ascend}
-use Rattle.node_core.proofs.kept.Kept.local_groups.Goals as goal
+use proofs.kept.Kept.local_groups.Goals as goal
 
 pub returns-in_default : goal.returns-in_default
 returns-in_default g c =

@@ -1,11 +1,10 @@
 use Rattle.node_core.proofs
-use proofs.Words.{AreCut, AreLost, get_or_default, length, refl, Rule, subst, sym, up_peer, ◌<◌}
-use proofs.Words.{◌∙◌}
+use proofs.Words.{get_or_default, length, refl, Rule, sym, ◌<◌, ◌∙◌}
 use proofs.Answering.{accepts, refuses}
 use proofs.KeptOn.{link_at, not_kept}
 use proofs.Losing.{lost}
 use proofs.Searched.{links_in_order}
-use Rattle.node_core.proofs.kept.Kept.lost.Goals as goal
+use proofs.kept.Kept.lost.Goals as goal
 
 pub returns-in_default : goal.returns-in_default
 returns-in_default g c = refuses c.requires _ Rule.NoSuchLink
@@ -18,16 +17,14 @@ returns g c =
     let h = g.call.past in
     let t = c.requires.keeps.follows in
     let links = c.args.self.now.links.items in
-    let scopes = c.args.self.now.scopes.items in
     let found = rw c.deref.ensures.value at (sym c.place_of.ensures ∙ c.in-Some.is) in
     let at = link_at h t.sound.played links t.links c.args.number c.in-Some.place c.index.result.now
     found in
     let within : c.in-Some.place < length links = at.2 in
-    let gone = subst (λ x. AreLost (up_peer x.state) scopes c.in_ok-changes.changes.items)
-    c.index.ensures (rw c.deref-2.ensures.value at c.in_ok-changes.ensures) in
-    let cuts = subst (λ x. AreCut x.number (up_peer x.state) scopes c.cut_link.new.scopes.items)
-    (c.index-2.ensures ∙ get_or_default links c.in-Some.place c.index-2.result.now
-    c.index.result.now within) c.cut_link.ensures in
+    let gone = rw (c.deref-2.ensures.value, c.index.ensures) at c.in_ok-changes.ensures in
+    let cuts = rw (c.index-2.ensures
+    ∙ get_or_default links c.in-Some.place c.index-2.result.now c.index.result.now within)
+    at c.cut_link.ensures in
     accepts c.requires _ _ refl _ _ _ c.changed.ensures refl
     (rw c.remove.ensures
     (lost h g.call.seat c.args.number c.in_ok-changes.changes.items _ t c.in-Some.place

@@ -7,7 +7,7 @@ use proofs.MessagePlaces.{runs_here, scope_here, stopped_here}
 use proofs.Moved.{unmoved}
 use proofs.Scopes.{members_are}
 use proofs.Searched.{scopes_ascend}
-use Rattle.node_core.proofs.kept.Kept.members.Goals as goal
+use proofs.kept.Kept.members.Goals as goal
 
 pub returns-in_default : goal.returns-in_default
 returns-in_default g c =

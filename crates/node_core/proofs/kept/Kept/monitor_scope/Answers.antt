@@ -8,7 +8,7 @@ use proofs.Entered.{audit_next, made}
 use proofs.MessagePlaces.{runs_here, scope_here, stopped_here}
 use proofs.Scopes.{contents_are}
 use proofs.Searched.{scopes_ascend}
-use Rattle.node_core.proofs.kept.Kept.monitor_scope.Goals as goal
+use proofs.kept.Kept.monitor_scope.Goals as goal
 
 pub returns-in_default : goal.returns-in_default
 returns-in_default g c =

@@ -2,13 +2,13 @@ use Rattle.node_core.proofs
 use proofs.Words.{arith, kept_links, le-ltb, length, refl, Rule, ◌<◌, ◌∙◌}
 use proofs.Answering.{accepts, refuses}
 use proofs.Openings.{kept_are, opened_now}
-use Rattle.node_core.proofs.kept.Kept.opened.Goals as goal
+use proofs.kept.Kept.opened.Goals as goal
 
 pub returns-then-len-ge-MAX_LINKS : goal.returns-then-len-ge-MAX_LINKS
 returns-then-len-ge-MAX_LINKS g c =
     let is = kept_are g.call.past c.args.self.now.links.items c.requires.0.keeps.follows.links in
     refuses c.requires.0 _ Rule.LinksFull
-    (rw (le-ltb (kept_links g.call.past) 64 (omega (arith, is)))) refl
+    (rw (le-ltb (kept_links g.call.past) 64 (omega arith))) refl
 
 pub returns : goal.returns
 returns g c =

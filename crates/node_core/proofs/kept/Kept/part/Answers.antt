@@ -6,7 +6,7 @@ use proofs.MessageKept.{unasked}
 use proofs.MessageParts.{part_calm, part_kept, taken_back}
 use proofs.MessageRefused.{gathered_rows, has_peer}
 use proofs.MessageRoom.{follows_with, same_links, same_scope, still_scope}
-use Rattle.node_core.proofs.kept.Kept.part.Goals as goal
+use proofs.kept.Kept.part.Goals as goal
 
 pub returns-in_err-undo : goal.returns-in_err-undo
 returns-in_err-undo g c = λ body says.

@@ -2,7 +2,7 @@ use Rattle.node_core.proofs
 use proofs.Words.{ap, refl, Rule, sym, ℕ, ◌+◌, ◌∙◌}
 use proofs.Answering.{accepts, refuses}
 use proofs.Anew.{anew_now, creation_spent}
-use Rattle.node_core.proofs.kept.Kept.restart.Goals as goal
+use proofs.kept.Kept.restart.Goals as goal
 
 pub returns-then-creation : goal.returns-then-creation
 returns-then-creation g c =

@@ -4,7 +4,7 @@ use proofs.Answering.{accepts}
 use proofs.Cookies.{cookie_follows}
 use proofs.Calm.{entered}
 use proofs.Entered.{audit_next}
-use Rattle.node_core.proofs.kept.Kept.set_cookie.Goals as goal
+use proofs.kept.Kept.set_cookie.Goals as goal
 
 pub returns : goal.returns
 returns g c =

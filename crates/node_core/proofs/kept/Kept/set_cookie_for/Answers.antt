@@ -4,7 +4,7 @@ use proofs.Answering.{accepts, failed}
 use proofs.Cookies.{cookie_calm, cookie_for_follows, peers_fit}
 use proofs.Calm.{entered}
 use proofs.Entered.{audit_next}
-use Rattle.node_core.proofs.kept.Kept.set_cookie_for.Goals as goal
+use proofs.kept.Kept.set_cookie_for.Goals as goal
 
 pub returns-in_err-give_cookie : goal.returns-in_err-give_cookie
 returns-in_err-give_cookie g c =

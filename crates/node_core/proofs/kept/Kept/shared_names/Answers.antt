@@ -1,7 +1,7 @@
 use Rattle.node_core.proofs
 use proofs.Words.{same, same_decides, sym}
 use proofs.Found.{found_passes}
-use Rattle.node_core.proofs.kept.Kept.shared_names.Goals as goal
+use proofs.kept.Kept.shared_names.Goals as goal
 
 pub copy_or-requires : goal.copy_or-requires
 copy_or-requires c =

@@ -4,7 +4,7 @@ use proofs.Answering.{accepts, refuses}
 use proofs.Lives.{next_is_new, pids_fit, pids_full, spawn_answer, spawned_follow}
 use proofs.Calm.{entered}
 use proofs.Entered.{audit_next}
-use Rattle.node_core.proofs.kept.Kept.spawn.Goals as goal
+use proofs.kept.Kept.spawn.Goals as goal
 
 pub returns-then-is_full : goal.returns-then-is_full
 returns-then-is_full g c =

@@ -1,5 +1,5 @@
 use Rattle.node_core.proofs
-use proofs.Words.{ap, arith, committed, length, link_words, map, Message, refl, Reply, Rises, Rule}
+use proofs.Words.{ap, arith, committed, length, map, Message, refl, Reply, Rises, Rule}
 use proofs.Words.{running_rises, said_in, shown_numbers, subst, sym, text_cmp, ◌<◌, ◌∙◌}
 use proofs.Answering.{accepts_ending, refuses, wanted}
 use proofs.Ended.{turns_on}
@@ -7,7 +7,7 @@ use proofs.MessagePlaces.{placed_is}
 use proofs.Told.{alike_again, dropped_again, follow_idle, prepared_told}
 use proofs.Starting.{scopes_full, start_now}
 use proofs.Searched.{scopes_ascend}
-use Rattle.node_core.proofs.kept.Kept.start_scope.Goals as goal
+use proofs.kept.Kept.start_scope.Goals as goal
 
 pub returns-then-is_some : goal.returns-then-is_some
 returns-then-is_some g c = refuses c.requires _ Rule.ScopeRunning
@@ -26,8 +26,7 @@ returns-then-len-ge-MAX_SCOPES g c =
 
 pub asked_scope-requires : goal.asked_scope-requires
 asked_scope-requires g c =
-    follow_idle (link_words g.call.past) c.args.self.now.links.items
-    c.requires.keeps.follows.links.each
+    follow_idle c.requires.keeps.follows
 
 pub returns-in_err-running : goal.returns-in_err-running
 returns-in_err-running g c =
@@ -36,7 +35,7 @@ returns-in_err-running g c =
       links = c.asked_scope.new.links;
     }) refl
     (rw c.in_ok-reserve.ensures.items
-    (alike_again g.call.past _ c.requires.keeps.follows c.asked_scope.new.links.items
+    (alike_again c.requires.keeps.follows c.asked_scope.new.links.items
     c.in_err-running.ensures.same)) _ c.from_residual-in_err-running.ensures.1
 
 pub ending_with-ending-requires : goal.ending_with-ending-requires
@@ -48,10 +47,10 @@ returns-in_err-ending g c =
     let old = c.args.self.now.links.items in
     wanted c.requires _
     (record c.args.self.now { scopes = c.reserve.new.self; links = c.or_forget.new.links }) refl
-    (rw c.in_ok-reserve.ensures.items (alike_again g.call.past _ t c.or_forget.new.links.items
+    (rw c.in_ok-reserve.ensures.items (alike_again t c.or_forget.new.links.items
     (dropped_again (shown_numbers old) (said_in (Message.Discover c.args.scope.now)) old
     c.asked_scope.new.links.items c.or_forget.new.links.items
-    (follow_idle (link_words g.call.past) old t.links.each) c.in_ok-running.ensures.told
+    (follow_idle t) c.in_ok-running.ensures.told
     c.in_err-ending.ensures.forgot)))
     _ c.from_residual-in_err-ending.ensures.1
 
@@ -76,7 +75,7 @@ returns g c =
     let old = c.args.self.now.links.items in
     let prepared = c.asked_scope.new.links.items in
     let told = prepared_told (shown_numbers old) (said_in (Message.Discover scope)) old prepared
-    (follow_idle (link_words h) old t.links.each) new.told in
+    (follow_idle t) new.told in
     let turns = start_now h g.call.seat scope _ t stopped c.requires.space few
     c.in_ok-running.running new.scope (new.own ∙ ap (λ o. o.name) c.requires.keeps.opening) new.rows
     new.links.0 new.links.1 (map committed prepared) told in

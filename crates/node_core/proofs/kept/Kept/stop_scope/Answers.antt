@@ -1,6 +1,6 @@
 use Rattle.node_core.proofs
-use proofs.Words.{ap, broken_off, committed, IsDifference, link_words, map, Message, no_count, refl}
-use proofs.Words.{Reply, Rule, said_in, shown_numbers, subst, sym}
+use proofs.Words.{ap, broken_off, committed, IsDifference, map, Message, no_count, refl, Reply}
+use proofs.Words.{Rule, said_in, shown_numbers, subst, sym}
 use proofs.Answering.{accepts_ending, refuses, wanted}
 use proofs.Ended.{turns_on}
 use proofs.MessagePlaces.{runs_here, scope_here, stopped_here}
@@ -9,7 +9,7 @@ use proofs.Scopes.{counts_listed}
 use proofs.Told.{alike_again, dropped_again, follow_idle, prepared_told}
 use proofs.Stopping.{both_ways, ends_unbroken, stop_now}
 use proofs.Searched.{scopes_ascend}
-use Rattle.node_core.proofs.kept.Kept.stop_scope.Goals as goal
+use proofs.kept.Kept.stop_scope.Goals as goal
 
 pub returns-in_default : goal.returns-in_default
 returns-in_default g c =
@@ -19,12 +19,11 @@ returns-in_default g c =
 
 pub tell_stop-requires : goal.tell_stop-requires
 tell_stop-requires g c =
-    follow_idle (link_words g.call.past) c.args.self.now.links.items
-    c.requires.keeps.follows.links.each
+    follow_idle c.requires.keeps.follows
 
 pub returns-in_err-own : goal.returns-in_err-own
 returns-in_err-own g c = wanted c.requires _ _ refl
-    (alike_again g.call.past _ c.requires.keeps.follows c.tell_stop.new.links.items
+    (alike_again c.requires.keeps.follows c.tell_stop.new.links.items
     c.in_err-own.ensures.same) _ c.from_residual-in_err-own.ensures.1
 
 pub ending_with-ending-requires : goal.ending_with-ending-requires
@@ -36,10 +35,10 @@ returns-in_err-ending g c =
     let t = c.requires.keeps.follows in
     let old = c.args.self.now.links.items in
     wanted c.requires _ _ refl
-    (alike_again g.call.past _ t c.or_forget.new.links.items
+    (alike_again t c.or_forget.new.links.items
     (dropped_again (shown_numbers old) (said_in (Message.Down c.args.scope.now)) old
     c.tell_stop.new.links.items c.or_forget.new.links.items
-    (follow_idle (link_words g.call.past) old t.links.each) c.in_ok-own.ensures.told
+    (follow_idle t) c.in_ok-own.ensures.told
     c.in_err-ending.ensures.forgot))
     _ c.from_residual-in_err-ending.ensures.1
 
@@ -57,7 +56,7 @@ returns g c =
     let old = c.args.self.now.links.items in
     let prepared = c.tell_stop.new.links.items in
     let told = prepared_told (shown_numbers old) (said_in (Message.Down scope)) old prepared
-    (follow_idle (link_words h) old t.links.each) c.in_ok-own.ensures.told in
+    (follow_idle t) c.in_ok-own.ensures.told in
     let broken = map (broken_off scope) prepared in
     let turns = stop_now h g.call.seat scope c.in_ok-groups.groups.items _ t runs groups
     c.requires.space (map committed prepared) told in

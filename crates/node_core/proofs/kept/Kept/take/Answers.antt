@@ -4,7 +4,7 @@ use proofs.Answering.{accepts, refuses}
 use proofs.KeptOn.{link_at, not_kept}
 use proofs.Taking.{emptied, taken_now}
 use proofs.Searched.{links_in_order}
-use Rattle.node_core.proofs.kept.Kept.take.Goals as goal
+use proofs.kept.Kept.take.Goals as goal
 
 pub returns-in_default : goal.returns-in_default
 returns-in_default g c = refuses c.requires _ Rule.NoSuchLink

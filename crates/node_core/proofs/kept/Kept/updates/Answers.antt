@@ -1,7 +1,7 @@
 use Rattle.node_core.proofs
-use proofs.Words.{ap, arith, audit_of, audited, Err, Event, follows_moved, IsSome, length, lie}
-use proofs.Words.{List, no_value, None, Ok, OnErr, OnOk, Option, option_map, refl, Reply, Result}
-use proofs.Words.{Rule, Some, subst, suc, sym, with_place, ℕ, ◌∙◌, ◌≡◌}
+use proofs.Words.{ap, arith, audit_of, audited, Event, follows_moved, IsSome, length, List, None}
+use proofs.Words.{OnErr, OnOk, Option, option_map, refl, Reply, Result, Rule, Some, suc, with_place}
+use proofs.Words.{ℕ, ◌∙◌, ◌≡◌}
 use Rattle.group_monitors.specs.declared.monitor.Monitor.{Monitor}
 use Rattle.group_monitors.specs.Monitors.{monitor_of, updates_behind}
 use Rattle.group_monitors.proofs.FromPolicy.{follows_refused, follows_seen, follows_told}
@@ -9,20 +9,18 @@ use Rattle.group_monitors.proofs.Reached.{reach_found}
 use proofs.Answering.{accepts, refuses}
 use proofs.Calm.{entered}
 use proofs.Entered.{audit_next}
-use Rattle.node_core.proofs.kept.Kept.updates.Goals as goal
+use proofs.kept.Kept.updates.Goals as goal
 
 -- the place of a monitor that is there is moved
 advanced : {E : Type 0} (o : Result (Unit {0}) E) (found : Option Monitor)
     (ms new : List (ℕ × Monitor)) → IsSome found → OnOk o (IsSome found × (new ≡ ms))
     → OnErr o (found ≡ None) → new ≡ ms
-advanced (Ok u) found ms new some ok refused = ok.1
-advanced (Err e) found ms new some ok refused = lie (sym (subst IsSome refused some))
+advanced o found ms new some ok refused = grind arith
 
 -- what is told is told of a monitor
 told_one : {A : Type 0} (f : Monitor → A) (found : Option Monitor) (a : A)
     → option_map f found ≡ Some a → IsSome found
-told_one f None a is = no_value (sym is)
-told_one f (Some m) a is = refl
+told_one f found a is = grind arith
 
 pub updates-requires-clause-kept : goal.updates-requires-clause-kept
 updates-requires-clause-kept g c =
@@ -57,7 +55,7 @@ returns g c =
     (monitor_of monitors g.call.seat c.args.number) c.in-Ok.updates behind in
     let place : c.args.place
     ≡ suc (length (audited h.entries)) = (let is = c.requires.0.number_is ∙ audit_next h in
-    omega (arith, is)) in
+    omega arith) in
     let moved = advanced c.advance_to.result (monitor_of monitors g.call.seat c.args.number)
     (with_place g.call.seat c.args.number c.args.place monitors) c.advance_to.new.self some
     (rw c.requires.0.seat_is at c.advance_to.ensures.ok)

@@ -7,7 +7,7 @@ use proofs.MessageParts.{roomy}
 use proofs.MessageRefused.{has_peer, its_rows, peer_is}
 use proofs.MessageRoom.{follows_with, same_links, same_scope}
 use proofs.MessageScopes.{refused_calm, went_on}
-use Rattle.node_core.proofs.kept.Kept.whole.Goals as goal
+use proofs.kept.Kept.whole.Goals as goal
 
 pub unreachable-requires : goal.unreachable-requires
 unreachable-requires g c =

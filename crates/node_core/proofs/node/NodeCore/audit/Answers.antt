@@ -3,7 +3,7 @@ use proofs.Words.{ap, sym}
 use Rattle.policy_audit.proofs.Losses.{made_audited, made_entered, made_legal}
 use proofs.Entered.{seen}
 use proofs.StepAnswers.{core_count, core_limit, its_history}
-use Rattle.node_core.proofs.node.NodeCore.audit.Goals as goal
+use proofs.node.NodeCore.audit.Goals as goal
 
 pub returns-clause-entries : goal.returns-clause-entries
 returns-clause-entries c =

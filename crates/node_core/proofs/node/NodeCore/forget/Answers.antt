@@ -3,7 +3,7 @@ use proofs.Words.{length, refl, ◌+◌}
 use Rattle.policy_audit.specs.Pages.{page_size}
 use Rattle.policy_audit.proofs.Losses.{made_audited}
 use proofs.HandedOut.{handed_out, not_none, spare_here}
-use Rattle.node_core.proofs.node.NodeCore.forget.Goals as goal
+use proofs.node.NodeCore.forget.Goals as goal
 
 pub invariant_of-self : goal.invariant_of-self
 invariant_of-self c =

@@ -2,7 +2,7 @@ use Rattle.node_core.proofs
 use proofs.Words.{ap, false, is_some, option_map_or, same, up_peer, ◌∙◌}
 use proofs.Found.{place_found}
 use proofs.LinkTests.{up_is}
-use Rattle.node_core.proofs.node.NodeCore.is_peer_up.Goals as goal
+use proofs.node.NodeCore.is_peer_up.Goals as goal
 
 pub returns : goal.returns
 returns c =

@@ -3,7 +3,7 @@ use proofs.Words.{arith, length, sym, ◌+◌, ◌<◌, ◌∙◌}
 use Rattle.std.proofs.lemmas.Bool.Decides.{nat_tests}
 use Rattle.policy_audit.specs.Pages.{page_size}
 use proofs.HandedOut.{spare_kept, spare_now}
-use Rattle.node_core.proofs.node.NodeCore.is_spare.Goals as goal
+use proofs.node.NodeCore.is_spare.Goals as goal
 
 pub returns-then-number-len : goal.returns-then-number-len
 returns-then-number-len c =

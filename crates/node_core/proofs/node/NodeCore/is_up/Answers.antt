@@ -1,7 +1,7 @@
 use Rattle.node_core.proofs
 use proofs.Words.{◌∙◌}
 use proofs.ReadLinks.{link_up}
-use Rattle.node_core.proofs.node.NodeCore.is_up.Goals as goal
+use proofs.node.NodeCore.is_up.Goals as goal
 
 pub returns : goal.returns
 returns c = rw (← c.self.view_is) ((rw c.deref.ensures.value at c.is_up.ensures)

@@ -2,7 +2,7 @@ use Rattle.node_core.proofs
 use proofs.Words.{arith, false, is_local, lives_of, sym, ◌∙◌, ◌≡◌}
 use proofs.Entered.{seen}
 use proofs.StepAnswers.{core_local, its_history}
-use Rattle.node_core.proofs.node.NodeCore.living.Goals as goal
+use proofs.node.NodeCore.living.Goals as goal
 
 pub returns-then-is_local : goal.returns-then-is_local
 returns-then-is_local c =

@@ -1,12 +1,12 @@
 use Rattle.node_core.proofs
-use proofs.Words.{ap, cond, None, not, Reply, Rule, Some, sym, ◌∙◌}
+use proofs.Words.{ap, Reply, sym, ◌∙◌}
 use Rattle.policy_audit.proofs.Losses.{legal_played}
 use proofs.Scopes.{groups_are, local_groups_are, local_members_are, members_are}
-use Rattle.node_core.proofs.node.NodeCore.look.Goals as goal
+use proofs.node.NodeCore.look.Goals as goal
 
 pub returns-in_ok-of-in-Members : goal.returns-in_ok-of-in-Members
 returns-in_ok-of-in-Members c = rw c.in-Members.is (λ seat. (
-  ap (λ b. cond (not b) (Some Rule.NoScope) None) c.in-Some.ensures.found.2,
+  rw c.in-Some.ensures.found.2,
   ap Reply.Pids
       (sym (c.in_ok-of-in-Members.ensures ∙ members_are c.args.self.now.history c.args.scope.now
       c.in-Some.running.now c.in-Some.ensures.found.0 c.in-Some.ensures.found.1
@@ -15,7 +15,7 @@ returns-in_ok-of-in-Members c = rw c.in-Members.is (λ seat. (
 
 pub returns-in_ok-of-in-LocalMembers : goal.returns-in_ok-of-in-LocalMembers
 returns-in_ok-of-in-LocalMembers c = rw c.in-LocalMembers.is (λ seat. (
-  ap (λ b. cond (not b) (Some Rule.NoScope) None) c.in-Some.ensures.found.2,
+  rw c.in-Some.ensures.found.2,
   ap Reply.Pids (sym
       (c.in_ok-of-in-LocalMembers.ensures
       ∙ local_members_are c.args.self.now.history c.args.scope.now c.in-Some.running.now
@@ -26,7 +26,7 @@ returns-in_ok-of-in-LocalMembers c = rw c.in-LocalMembers.is (λ seat. (
 
 pub returns-in_ok-of-in-Groups : goal.returns-in_ok-of-in-Groups
 returns-in_ok-of-in-Groups c = rw c.in-Groups.is (λ seat. (
-  ap (λ b. cond (not b) (Some Rule.NoScope) None) c.in-Some.ensures.found.2,
+  rw c.in-Some.ensures.found.2,
   ap Reply.Groups
       (sym (c.in_ok-of-in-Groups.ensures ∙ groups_are c.args.self.now.history c.args.scope.now
       c.in-Some.running.now c.in-Some.ensures.found.0 c.in-Some.ensures.found.1 _
@@ -35,7 +35,7 @@ returns-in_ok-of-in-Groups c = rw c.in-Groups.is (λ seat. (
 
 pub returns-in_ok-of-in-LocalGroups : goal.returns-in_ok-of-in-LocalGroups
 returns-in_ok-of-in-LocalGroups c = rw c.in-LocalGroups.is (λ seat. (
-  ap (λ b. cond (not b) (Some Rule.NoScope) None) c.in-Some.ensures.found.2,
+  rw c.in-Some.ensures.found.2,
   ap Reply.Groups
       (sym (c.in_ok-of-in-LocalGroups.ensures
       ∙ local_groups_are c.args.self.now.history c.args.scope.now c.in-Some.running.now

@@ -2,13 +2,13 @@ use Rattle.node_core.proofs
 use proofs.Words.{arith, history, rules}
 use Rattle.group_monitors.proofs.Reached.{reach_start}
 use proofs.Anew.{begun}
-use Rattle.node_core.proofs.node.NodeCore.new.Goals as goal
+use proofs.node.NodeCore.new.Goals as goal
 
 pub invariant_of-result : goal.invariant_of-result
 invariant_of-result c = record {
   within = c.new-audit.ensures.limit;
   legal = rw c.new-audit.ensures.empty.0 tt;
-  had = (let none = c.new-audit.ensures.empty.1 in omega (arith, none));
+  had = (let none = c.new-audit.ensures.empty.1 in omega arith);
   reach = rw (c.new-audit.ensures.empty.0, c.new-audit.ensures.empty.1) reach_start;
   follows = rw (
     c.new-audit.ensures.empty.0,

@@ -1,7 +1,7 @@
 use Rattle.node_core.proofs
 use proofs.Words.{ap, occurrences, same, ◌∙◌}
 use proofs.ReadLinks.{names_are, names_once}
-use Rattle.node_core.proofs.node.NodeCore.peers.Goals as goal
+use proofs.node.NodeCore.peers.Goals as goal
 
 pub returns-clause-names : goal.returns-clause-names
 returns-clause-names c =

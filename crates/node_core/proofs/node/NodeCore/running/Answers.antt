@@ -3,7 +3,7 @@ use proofs.Words.{history}
 use Rattle.policy_audit.proofs.Losses.{made_legal}
 use proofs.Scopes.{not_running, running_here}
 use proofs.Searched.{scopes_ascend}
-use Rattle.node_core.proofs.node.NodeCore.running.Goals as goal
+use proofs.node.NodeCore.running.Goals as goal
 
 pub returns-clause-found : goal.returns-clause-found
 returns-clause-found c =

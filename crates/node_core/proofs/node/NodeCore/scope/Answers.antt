@@ -7,7 +7,7 @@ use Rattle.std.proofs.lemmas.Grind.{common_steps}
 use Rattle.std.proofs.lemmas.Option.{gets, slice_get-map, slice_get_past}
 use specs.declared.running.Running.{Running}
 use specs.ScopeFacts.{scope_words, ScopesFollow}
-use Rattle.node_core.proofs.node.NodeCore.scope.Goals as goal
+use proofs.node.NodeCore.scope.Goals as goal
 
 -- the name of the scope at a place
 named : (h : History) (scopes : List Running) (k : ℕ) → ScopesFollow (scope_words h) scopes

@@ -8,7 +8,7 @@ use proofs.Entered.{seen}
 use proofs.MessagePlaces.{waits_none, waits_some}
 use proofs.Searched.{links_in_order}
 use proofs.StepAnswers.{its_history}
-use Rattle.node_core.proofs.node.NodeCore.waiting.Goals as goal
+use proofs.node.NodeCore.waiting.Goals as goal
 
 pub returns-in_err-place-clause-waiting : goal.returns-in_err-place-clause-waiting
 returns-in_err-place-clause-waiting c =
@@ -24,7 +24,7 @@ returns-clause-waiting c =
 
 -- as many as wait
 few : (b : Bool) (n m : ℕ) → Some n ≡ cond b (Some m) None → m ≤ max_waiting → n ≤ max_waiting
-few b n m is most = grind (arith, is, most)
+few b n m is most = grind arith
 
 pub returns-clause-few : goal.returns-clause-few
 returns-clause-few c =
