@@ -21,10 +21,6 @@ impl Progress {
 }
 
 impl Gate for Progress {
-    fn reading(&self, _link: u32) {}
-
-    fn answered(&self, _link: u32) {}
-
     fn came_up(&self, _link: u32) {
         self.is_up.store(true, Ordering::SeqCst);
     }

@@ -95,10 +95,10 @@ impl WriteEnd {
 /// Is told of each read and of each call of a reader. No lock is held then.
 pub trait Gate {
     /// The reader of that link is about to read.
-    fn reading(&self, link: u32);
+    fn reading(&self, _link: u32) {}
 
     /// A frame of that link was answered.
-    fn answered(&self, link: u32);
+    fn answered(&self, _link: u32) {}
 
     /// The link has come up with the frame that was answered last.
     fn came_up(&self, _link: u32) {}
@@ -107,11 +107,7 @@ pub trait Gate {
 /// A gate that holds nobody.
 pub struct OpenGate;
 
-impl Gate for OpenGate {
-    fn reading(&self, _link: u32) {}
-
-    fn answered(&self, _link: u32) {}
-}
+impl Gate for OpenGate {}
 
 /// What a writer writes to, and hangs up at its end.
 pub trait LinkOut: Write {

@@ -33,6 +33,8 @@ pub struct Shared {
     wants: u32,
     /// The number of the last entry that is news, or 0. No contract rests on it.
     last_news: u32,
+    /// Whether the last entry owes no link a frame, and ends none. No contract rests on it.
+    quiet: bool,
     /// Which writers rest. No contract rests on it.
     resting: Resting,
 }
@@ -46,6 +48,7 @@ impl Drop for Shared {
             stuck: _,
             wants: _,
             last_news: _,
+            quiet: _,
             resting: _,
         } = self;
     }
@@ -77,6 +80,7 @@ impl Shared {
             stuck: false,
             wants: 0,
             last_news: 0,
+            quiet: true,
             resting: Resting::NOBODY,
         })
     }
@@ -125,15 +129,6 @@ impl Shared {
         CallFault::Core(CoreFault::OutOfMemory)
     }
 
-    /// Notes that there was memory for an event.
-    fn note_plenty(&mut self)
-        ensures { self.new ≡ self.old }
-    {
-        if self.wants < LASTING {
-            self.wants = 0;
-        }
-    }
-
     pub(crate) fn is_stuck(&self) -> bool {
         self.stuck
     }
@@ -170,7 +165,7 @@ impl Shared {
 
     /// Whether a writer that rests has something to do behind the last entry.
     pub(crate) fn calls_writers(&self) -> bool {
-        !self.resting.is_empty() && (self.core.is_full() || self.may_owe()) && self.calls_resting()
+        !self.resting.is_empty() && (self.core.is_full() || !self.quiet) && self.calls_resting()
     }
 
     /// Whether a writer that rests has something to do.
@@ -185,14 +180,6 @@ impl Shared {
         false
     }
 
-    /// Whether a link may be owed a frame, or may have ended, with the last entry.
-    fn may_owe(&self) -> bool {
-        match self.core.audit().get(self.core.audit().len() as u32) {
-            Some(entry) => !is_quiet(&entry.event),
-            None => false,
-        }
-    }
-
     /// The number of the last entry that is news to who watches the node: rows changed, or a peer came or went. 0 if there is none.
     pub fn last_news(&self) -> u32 {
         self.last_news
@@ -203,13 +190,18 @@ impl Shared {
         self.last_news as usize == self.core.audit().len()
     }
 
-    /// Notes whether the last entry is news.
-    fn note_news(&mut self, number: u32)
+    /// Notes that there was memory for the last event, and whom its entry may concern.
+    fn note_entry(&mut self, number: u32)
         ensures { self.new ≡ self.old }
     {
-        if let Some(entry) = self.core.audit().get(number)
-            && is_news(&self.core, entry)
-        {
+        if self.wants < LASTING {
+            self.wants = 0;
+        }
+        let Some(entry) = self.core.audit().get(number) else {
+            return;
+        };
+        self.quiet = is_quiet(&entry.event);
+        if is_news(&self.core, entry) {
             self.last_news = number;
         }
     }
@@ -232,26 +224,20 @@ impl Shared {
             stuck: _,
             wants: _,
             last_news: _,
+            quiet: _,
             resting: _,
         } = self;
         core
-    }
-
-    /// Whether the pass is of this node, as far as its seat and its number of calls tell.
-    fn fits(&self, pass: &Pass) -> bool
-        ensures { IsTrue result ↔ Fits self.now pass.now }
-    {
-        match self.counts.get(pass.seat as usize) {
-            Some(count) => *count == pass.count(),
-            None => false,
-        }
     }
 
     /// Whether a call with the pass would be taken: its seat is one of the node's, which has as many entries of it as the pass has calls.
     pub fn knows(&self, pass: &Pass) -> bool
         ensures { IsTrue result ↔ Fits self.now pass.now }
     {
-        self.fits(pass)
+        match self.counts.get(pass.seat as usize) {
+            Some(count) => *count == pass.count(),
+            None => false,
+        }
     }
 
     /// Applies an event for the seat of the pass, and leaves the answer in the pass. All that grows has grown before the step.
@@ -263,7 +249,7 @@ impl Shared {
         ensures found { IsSound self.old }
         ensures left { IsSound self.new }
     {
-        if !self.fits(pass) {
+        if !self.knows(pass) {
             drop(event);
             return Err(CallFault::StrangePass);
         }
@@ -279,7 +265,6 @@ impl Shared {
             drop(copy);
             return Err(self.note_want());
         };
-        self.note_plenty();
         let call = Call {
             number,
             event: copy,
@@ -302,7 +287,7 @@ impl Shared {
         let verdict = judge(&mut self.core, seat, event)?;
         let number = self.core.audit().len() as u32;
         self.counts[seat as usize] += 1;
-        self.note_news(number);
+        self.note_entry(number);
         Ok((number, verdict))
     }
 }

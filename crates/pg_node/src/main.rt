@@ -51,13 +51,9 @@ fn main(rt: HostRuntime) -> ExitCode {
         Ok(words) => words,
         Err(status) => return status,
     };
-    let matches = match matches(&rt, alloc, words.as_slice()) {
-        Ok(matches) => matches,
-        Err(status) => return status,
-    };
-    let start = match prepare(&rt, alloc, &matches) {
+    let start = match begun(&rt, alloc, words.as_slice()) {
         Ok(start) => start,
-        Err(fault) => return told(&rt, fault.status, &fault.reason),
+        Err(status) => return status,
     };
     let Start {
         options,
@@ -130,6 +126,16 @@ fn matches<'a, R: AllocGlobal + Print + Eprint>(
     words: &'a [String],
 ) -> Result<ArgMatches<'a>, ExitCode> {
     matched(rt, command(alloc), words)
+}
+
+/// What the program runs with, by these words, or the status of the fault that was told.
+fn begun<'a, R: AllocGlobal + Print + Eprint + RandomSource + Files>(
+    rt: &R,
+    alloc: Global,
+    words: &'a [String],
+) -> Result<Start<'a>, ExitCode> {
+    let matches = matches(rt, alloc, words)?;
+    prepare(rt, alloc, &matches).map_err(|fault| told(rt, fault.status, &fault.reason))
 }
 
 /// What the program runs with.

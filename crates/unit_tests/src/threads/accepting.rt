@@ -55,8 +55,6 @@ impl Heard {
 }
 
 impl Gate for Heard {
-    fn reading(&self, _link: u32) {}
-
     fn answered(&self, link: u32) {
         if link > 1 {
             self.later.fetch_add(1, Ordering::SeqCst);

@@ -145,8 +145,6 @@ impl Gate for Holding<'_> {
             }
         }
     }
-
-    fn answered(&self, _link: u32) {}
 }
 
 /// The node b@h with link 1 open, the pass of its reader, and that of its writer.

@@ -61,7 +61,7 @@ returns-clause-room c =
     c.self.view_is ∙ c.requires.free in
     let within = subst (λ (r : Room). c.args.seat < length r.counts) (sym c.self.view_is)
     c.requires.seat in
-    c.note_news.ensures
+    c.note_entry.ensures
     ∙ room_moved c.self.inside.core.history c.judge.new.core.history c.self.inside.counts.items
     c.self.inside.core.forgotten c.judge.new.core.forgotten c.args.seat c.index_mut.result.now
     c.args.event free c.in_ok-verdict.ensures.entered within c.index_mut.ensures.value
@@ -74,7 +74,7 @@ returns-clause-left c =
     c.self.view_is ∙ c.requires.free in
     let within = subst (λ (r : Room). c.args.seat < length r.counts) (sym c.self.view_is)
     c.requires.seat in
-    subst IsSound (sym c.note_news.ensures)
+    subst IsSound (sym c.note_entry.ensures)
     (sound_moved c.self.inside.core.history c.judge.new.core.history c.self.inside.counts.items
     c.self.inside.core.forgotten c.judge.new.core.forgotten c.args.seat c.index_mut.result.now
     c.args.event free c.in_ok-verdict.ensures.entered within

@@ -19,21 +19,21 @@ after c = record {
 }
 
 is_answered : (c : goal.After-keep) → IsAnswered c.args.self.now c.args.pass.now c.args.event
-    c.in-Ok-advance.verdict c.note_plenty.new.self (after c)
+    c.in-Ok-advance.verdict c.advance.new.self (after c)
 is_answered c =
     let free : is_full c.args.self.now.history ≡ false =
     ap (λ (r : Room). is_full r.history) (sym c.self.view_is) ∙ sym c.if-is_full.ensures in
     subst (λ (r : Record). IsAnswered c.args.self.now r c.args.event c.in-Ok-advance.verdict
-    c.note_plenty.new.self (after c)) c.pass.view_is (answered c.args.self.now c.note_plenty.new.self _
+    c.advance.new.self (after c)) c.pass.view_is (answered c.args.self.now c.advance.new.self _
     c.args.event c.in-Ok-advance.number c.in-Ok-advance.verdict (first c ++ c.keep.new.calls.items)
-    (rw c.pass.view_is (c.if-not-fits.ensures.0 refl)) free c.in-Ok-advance.ensures.number
-    c.in-Ok-advance.ensures.verdict (c.note_plenty.ensures ∙ c.in-Ok-advance.ensures.room)
+    (rw c.pass.view_is (c.if-not-knows.ensures.0 refl)) free c.in-Ok-advance.ensures.number
+    c.in-Ok-advance.ensures.verdict c.in-Ok-advance.ensures.room
     (ap (λ (cs : List Call). first c ++ cs)
     (rw (c.in-Ok.ensures.same, c.in-Ok.ensures.copy) at c.keep.ensures.calls)
     ∙ sym (append_assoc (first c) c.pass.inside.calls.items _)))
 
 pub returns-clause-ok : goal.returns-clause-ok
-returns-clause-ok c = told_ok c.args.self.now c.note_plenty.new.self c.args.pass.now (after c)
+returns-clause-ok c = told_ok c.args.self.now c.advance.new.self c.args.pass.now (after c)
     c.args.event c.keep.result c.in-Ok-advance.verdict
     (ap (λ (cs : List Call). last_reply (first c ++ cs)) c.keep.ensures.calls
     ∙ ap last_reply (sym (append_assoc (first c) c.room_and_copy.new.calls.items _))
@@ -41,6 +41,6 @@ returns-clause-ok c = told_ok c.args.self.now c.note_plenty.new.self c.args.pass
     c.keep.ensures.answer (is_answered c)
 
 pub returns-clause-refused : goal.returns-clause-refused
-returns-clause-refused c = told_refusal c.args.self.now c.note_plenty.new.self c.args.pass.now
+returns-clause-refused c = told_refusal c.args.self.now c.advance.new.self c.args.pass.now
     (after c) c.args.event c.keep.result c.in-Ok-advance.verdict c.keep.ensures.answer
     (is_answered c)
