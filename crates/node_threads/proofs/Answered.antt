@@ -1,8 +1,8 @@
 -- What an answered call adds to its pass.
 use Rattle.node_threads.specs
 use Rattle.std.proofs.Common.{ap, append-nil, append_assoc, arith, Bool, cond, Err, false, inl, inr}
-use Rattle.std.proofs.Common.{List, None, Ok, Option, refl, Result, Some, subst, sym, true, ℕ, []}
-use Rattle.std.proofs.Common.{◌&&◌, ◌++◌, ◌+◌, ◌∙◌, ◌∷◌, ◌≡◌, ◌≢◌, ◌⊎◌}
+use Rattle.std.proofs.Common.{List, Ok, refl, Result, Some, subst, sym, true, ℕ, []}
+use Rattle.std.proofs.Common.{◌&&◌, ◌++◌, ◌∙◌, ◌∷◌, ◌≡◌, ◌≢◌, ◌⊎◌}
 use Rattle.policy_audit.specs.declared.event.Event.{Event}
 use Rattle.policy_audit.specs.declared.event.Event.TheVariants.{Frame, Lost}
 use Rattle.policy_audit.specs.declared.reply.Reply.{Reply}
@@ -10,8 +10,7 @@ use Rattle.policy_audit.specs.declared.rule.Rule.{Rule}
 use Rattle.policy_audit.specs.declared.rule.Rule.TheVariants.{EntriesFull}
 use Rattle.policy_audit.specs.declared.entry.Verdict.{Verdict}
 use Rattle.policy_audit.specs.History.{History}
-use Rattle.policy_audit.specs.Sides.{AwaitAck, AwaitAnswer, AwaitChallenge, Awaited, AwaitMessage}
-use Rattle.policy_audit.specs.Sides.{AwaitName, AwaitReply, awaits, AwaitStatus}
+use Rattle.policy_audit.specs.Sides.{Awaited, AwaitName, awaits}
 use Rattle.policy_audit.specs.Checks.{Check, checks, first_broken, frame_checks}
 use Rattle.policy_audit.specs.Policy.{is_full, judged, next_number}
 use Rattle.node_core.specs.declared.fault.CoreFault.TheVariants.{OutOfMemory, Refused}
@@ -22,9 +21,8 @@ use specs.declared.pass.Call.{Call}
 use specs.Applied.{Called, with_call}
 use specs.Calls.{Gains, is_up_answer, is_up_reply, Record}
 use specs.Ends.{end_of, read_end_after}
-use specs.Entered.{EndsAt, Enters, is_entered, IsEntry, verdict_in}
+use specs.Entered.{EndsAt, Enters, is_entered, verdict_in}
 use specs.Reading.{Gave}
-use Rattle.std.specs.Prelude.{nat_lt}
 use specs.declared.retreat.RetreatStep.{RetreatStep}
 use specs.Retreat.{GivesUp, Leaves, step_after}
 use Rattle.policy_audit.specs.declared.event.Event.TheVariants as event
@@ -75,16 +73,10 @@ module _ (h : History) (seat : ℕ) where
   frame_entered : (l : ℕ) (body : List ℕ) (a : Awaited) →
       all_entered (frame_checks h l body a) ≡ true
   frame_entered l body AwaitName = grind arith
-  frame_entered l body AwaitAnswer = grind arith
-  frame_entered l body AwaitReply = grind arith
-  frame_entered l body AwaitStatus = grind arith
-  frame_entered l body AwaitChallenge = grind arith
-  frame_entered l body AwaitAck = grind arith
-  frame_entered l body AwaitMessage = grind arith
+  frame_entered l body a = grind arith
 
   checks_entered : (e : Event) → all_entered (checks h seat e) ≡ true
   checks_entered (event.Frame l body) = grind (arith, frame_entered l body (awaits l h.entries))
-  checks_entered (event.Lost l) = refl
   checks_entered e = refl
 
   judged_entered : (e : Event) (cs : List Check) → all_entered cs ≡ true →
@@ -173,12 +165,7 @@ pub fault_refuses : (fault : CallFault) (v : Verdict) → verdict_in (Err fault)
     (rule : Rule) × (v ≡ verdicts.Refused rule)
 fault_refuses StrangePass v q = cc
 fault_refuses (Core OutOfMemory) v q = cc
-fault_refuses (Core (Refused rule)) v q = by (is_entered rule) q
-  where
-    by : (b : Bool) → cond b (Some (verdicts.Refused rule)) None ≡ Some v →
-        (r : Rule) × (v ≡ verdicts.Refused r)
-    by true q = (rule, cc)
-    by false q = cc
+fault_refuses (Core (Refused rule)) v q = (rule, grind arith)
 
 -- one call without a reply
 pub ends_at : {e : Event} {fault : CallFault} {p : Record} {more : List Call} {p' : Record} →
@@ -221,12 +208,7 @@ module _ (link : ℕ) (body : List ℕ) (done : Bool) (p p' : Record) where
 -- where a Lost isn't called again it is the last, whatever was wanting before
 last_step : (tries : ℕ) (answer : Result Reply CallFault) → step_after tries answer ≢ steps.Again →
     step_after tries answer ≡ step_after 63 answer
-last_step tries (Err (Core OutOfMemory)) other = by (nat_lt (tries + 1) 64) other
-  where
-    by : (b : Bool) → cond b steps.Again steps.Stuck ≢ steps.Again →
-        cond b steps.Again steps.Stuck ≡ steps.Stuck
-    by true other = absurd (other refl)
-    by false other = refl
+last_step tries (Err (Core OutOfMemory)) other = grind (arith, other)
 last_step tries (Err (Core (Refused EntriesFull))) other = refl
 last_step tries (Err (Core (Refused rule))) other = refl
 last_step tries (Err StrangePass) other = refl

@@ -2,16 +2,16 @@
 use Rattle.node_threads.specs
 use Rattle.std.proofs.Common.{ap, arith, Bool, cond, false, get_or, inl, inr, length, List, refl}
 use Rattle.std.proofs.Common.{replicate, slice_index, slice_set, subst, suc, sym, true, zero, ℕ, []}
-use Rattle.std.proofs.Common.{◌+◌, ◌<◌, ◌==◌, ◌∙◌, ◌∷◌, ◌≡◌, ◌≤◌}
-use Rattle.std.specs.List.{AllByRecursion, filter}
+use Rattle.std.proofs.Common.{◌+◌, ◌<◌, ◌∙◌, ◌∷◌, ◌≡◌, ◌≤◌}
+use Rattle.std.specs.List.{AllByRecursion}
 use Rattle.std.proofs.lemmas.Grind.{get_or-set_at}
 use Rattle.std.proofs.lemmas.List.{get_or-set_other, get_or_default, length-set}
 use Rattle.std.proofs.lemmas.List.Sums.{count_by-le-length, length-filter}
 use Rattle.std.proofs.lemmas.Bool.Decides.{eqb_tells}
 use Rattle.policy_audit.specs.declared.entry.Entry.{Entry}
 use Rattle.policy_audit.specs.declared.event.Event.{Event}
-use Rattle.policy_audit.specs.History.{audited, entered, History, is_accepted, is_entered, just}
-use Rattle.policy_audit.specs.History.{lose, past}
+use Rattle.policy_audit.specs.History.{audited, entered, History, is_entered, just}
+use Rattle.policy_audit.specs.History.{lose}
 use Rattle.policy_audit.specs.Owed.{slow_links, with_entry}
 use Rattle.policy_audit.specs.Policy.{after, entry_of, is_full, IsLegal, next_number}
 use specs.Calls.{entries_of, of}
@@ -26,16 +26,8 @@ audited_lose (l ∷ ls) es = audited_lose ls es
 -- so the audit has the entry alone more
 audited_with : (h : History) (e : Entry) → is_entered e ≡ true
     → audited (with_entry h e).entries ≡ e ∷ audited h.entries
-audited_with h e numbered = by (is_accepted e.verdict)
-  where
-    own : audited (e ∷ h.entries) ≡ e ∷ audited h.entries
-    own = ap (λ (b : Bool). cond b (e ∷ audited h.entries) (audited h.entries)) numbered
-
-    by : (b : Bool)
-        → audited (cond b (past h.opening (lose (slow_links (just h e)) (e ∷ h.entries)))
-        (just h e)).entries ≡ e ∷ audited h.entries
-    by true = audited_lose (slow_links (just h e)) (e ∷ h.entries) ∙ own
-    by false = own
+audited_with h e numbered =
+    grind (arith, audited_lose (slow_links (just h e)) (e ∷ h.entries))
 
 -- the audit after an event has its entry, unless it was full
 pub audited_after : (h new : History) (seat : ℕ) (e : Event) → is_full h ≡ false
@@ -44,15 +36,10 @@ audited_after h new seat e free is = ap (λ (x : History). audited x.entries) is
     ∙ ap (λ (b : Bool). audited (cond b h (with_entry h (entry_of h seat e))).entries) free
     ∙ audited_with h (entry_of h seat e) (grind arith)
 
-longer : (b : Bool) (e : Entry) (es : List Entry) (n : ℕ) → length es ≡ n
-    → length (cond b (e ∷ es) es) ≡ cond b (suc n) n
-longer true e es n is = omega (arith, is)
-longer false e es n is = is
-
 -- the length of the audit
 pub audited_length : (es : List Entry) → length (audited es) ≡ entered es
 audited_length [] = refl
-audited_length (e ∷ es) = longer (is_entered e) e (audited es) (entered es) (audited_length es)
+audited_length (e ∷ es) = grind (arith, audited_length es)
 
 -- and the number of the entry that came last
 pub number_after : (h new : History) (seat : ℕ) (e : Event) → is_full h ≡ false
@@ -65,28 +52,17 @@ number_after h new seat e free is =
 pub entries_of_le : (seat : ℕ) (es : List Entry) → entries_of seat es ≤ length es
 entries_of_le seat es = rw (length-filter (of seat) es) (count_by-le-length (of seat) es)
 
-one_longer : (b : Bool) (e : Entry) (es : List Entry)
-    → length (cond b (e ∷ es) es) ≡ cond b (length es + 1) (length es)
-one_longer true e es = omega arith
-one_longer false e es = refl
-
 -- an entry counts for its own seat
-entries_of_entered : (seat : ℕ) (e : Entry) (es : List Entry)
-    → entries_of seat (e ∷ es) ≡ cond (e.seat == seat) (entries_of seat es + 1) (entries_of seat es)
-entries_of_entered seat e es = one_longer (e.seat == seat) e (filter (of seat) es)
-
 one_count : (counts : List ℕ) (es : List Entry) (e : Entry) (seat : ℕ) → e.seat < length counts
     → slice_index counts e.seat ≡ entries_of e.seat es
     → slice_index counts seat ≡ entries_of seat es
     → slice_index (one_more e.seat counts) seat ≡ entries_of seat (e ∷ es)
 one_count counts es e seat inside mine its =
     elim (eqb_tells e.seat seat) [
-      | inl t ↦ rw (entries_of_entered seat e es, t.0)
-          (rw (get_or-set_at counts e.seat seat (slice_index counts e.seat + 1) 0 (sym t.1) inside)
-          (omega (arith, mine, its, ap (λ k. entries_of k es) t.1)))
-      | inr f ↦ rw (entries_of_entered seat e es, f.0)
-          (rw (get_or-set_other counts e.seat seat (slice_index counts e.seat + 1) 0
-          (λ q. f.1 (sym q))) its)
+      | inl t ↦ rw (get_or-set_at counts e.seat seat (slice_index counts e.seat + 1) 0 (sym t.1)
+          inside) (grind (arith, t.0, mine, ap (λ k. entries_of k es) t.1))
+      | inr f ↦ rw (get_or-set_other counts e.seat seat (slice_index counts e.seat + 1) 0
+          (λ q. f.1 (sym q))) (grind (arith, f.0, its))
     ]
 
 -- counts stay right when a seat's count moves with its entry

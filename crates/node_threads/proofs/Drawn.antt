@@ -16,11 +16,10 @@ use specs.declared.accepting.Stop.{Stop}
 use specs.declared.pass.Call.{Call}
 use specs.Calls.{Gains, Record}
 use specs.Drawing.{AreNext, challenges, challenges_in, Draws, new_challenges}
-use specs.Accepting.{Finishes, IsAtWork, IsOfLink, IsUnentered, Opens, Serves, Turns}
+use specs.Accepting.{Finishes, IsAtWork, IsOfLink, IsUnentered, Opens, Turns}
 use specs.Challenges.{AllWillHave, DrawnSoFar, HaveDrawn, opened_with, Spends, WillHave}
 use proofs.Openings.{draws_first, draws_one, draws_then, gained, gained_none, gained_then}
 use proofs.Pairs.{at_work}
-use specs.declared.accepting.AcceptEnd.TheVariants as ends
 
 -- ---- an Opened
 
@@ -128,8 +127,6 @@ one_has_more : (pairs : List Pair) (held : List Held) (words more : List ℕ) (p
     AllWillHave (pairs ++ pair ∷ []) (words ++ more) (held ++ one ∷ [])
 one_has_more [] [] words more pair one all will =
     (more, [], ap (λ ws. ws ++ more) all ∙ sym (append-nil more), will, refl)
-one_has_more [] (h ∷ held) words more pair one all will = absurd all
-one_has_more (p ∷ pairs) [] words more pair one all will = absurd all
 one_has_more (p ∷ pairs) (h ∷ held) words more pair one all will = (
   all.0,
   all.1 ++ more,
@@ -137,6 +134,7 @@ one_has_more (p ∷ pairs) (h ∷ held) words more pair one all will = (
   all.3,
   one_has_more pairs held all.1 more pair one all.4 will,
 )
+one_has_more pairs held words more pair one all will = absurd all
 
 -- when all are back
 all_have : (pairs : List Pair) (words : List ℕ) (held : List Held) (back : List Pair) →

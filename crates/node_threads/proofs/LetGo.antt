@@ -1,8 +1,8 @@
 -- Calls that are let go, and those that are kept behind them.
 use Rattle.node_threads.specs
-use Rattle.std.proofs.Common.{ap, append-nil, append_assoc, arith, drop, length, length-append}
-use Rattle.std.proofs.Common.{List, refl, subst, suc, sym, zero, ℕ, [], ◌++◌, ◌+◌, ◌-◌, ◌<◌, ◌^◌}
-use Rattle.std.proofs.Common.{◌∙◌, ◌∷◌, ◌≡◌, ◌≤◌}
+use Rattle.std.proofs.Common.{ap, append-nil, arith, drop, length, length-append}
+use Rattle.std.proofs.Common.{List, refl, suc, sym, ℕ, [], ◌++◌, ◌+◌, ◌-◌, ◌<◌, ◌^◌}
+use Rattle.std.proofs.Common.{◌∙◌, ◌∷◌, ◌≡◌}
 use Rattle.std.specs.Prelude.{slice_get}
 use Rattle.std.proofs.Math.Seq.{drop-append_seam}
 use specs.declared.pass.Call.{Call}

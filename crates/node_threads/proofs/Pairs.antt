@@ -10,7 +10,7 @@ use specs.declared.accepting.Held.{Held}
 use specs.declared.accepting.Held.TheVariants.{Ended, Running}
 use specs.declared.accepting.Stop.{Stop}
 use specs.Calls.{Record}
-use specs.Accepting.{Finishes, FirstAre, HasRested, HasServed, HaveServed, IsAtWork, Opens, SoFar}
+use specs.Accepting.{Finishes, FirstAre, HaveServed, IsAtWork, Opens, SoFar}
 use specs.Accepting.{Turns, WillRest, WillServe, Works}
 use Rattle.node_threads.proofs.Openings.{opens_none}
 
@@ -26,20 +26,17 @@ module _ {A B : Type 0} (First Other : A → B → Type 0) where
       → FirstAre First Other n (xs ++ x ∷ []) (ys ++ y ∷ [])
   other_push zero [] [] x y are one = (one, refl)
   other_push (suc n) [] [] x y are one = cc
-  other_push n [] (b ∷ ys) x y are one = absurd are
-  other_push zero (a ∷ xs) [] x y are one = absurd are
-  other_push (suc n) (a ∷ xs) [] x y are one = absurd are
   other_push zero (a ∷ xs) (b ∷ ys) x y are one = (are.0, other_push 0 xs ys x y are.1 one)
   other_push (suc n) (a ∷ xs) (b ∷ ys) x y are one = (are.0, other_push n xs ys x y are.1 one)
+  other_push n xs ys x y are one = absurd are
 
   -- one more of the first, where all are
   pub first_push : (xs : List A) (ys : List B) (x : A) (y : B) →
       FirstAre First Other (length xs) xs ys → First x y →
       FirstAre First Other (length (xs ++ x ∷ [])) (xs ++ x ∷ []) (ys ++ y ∷ [])
   first_push [] [] x y are one = (one, refl)
-  first_push [] (b ∷ ys) x y are one = absurd are
-  first_push (a ∷ xs) [] x y are one = absurd are
   first_push (a ∷ xs) (b ∷ ys) x y are one = (are.0, first_push xs ys x y are.1 one)
+  first_push xs ys x y are one = absurd are
 
 -- pairs come back as their threads promise
 pub all_finished : (n : ℕ) (pairs : List Pair) (held : List Held) (back : List Pair) →

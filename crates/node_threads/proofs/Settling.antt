@@ -1,10 +1,11 @@
 -- Passes whose calls are compared with the entries of their seats.
 use Rattle.node_threads.specs
-use Rattle.std.proofs.Common.{ap, arith, Bool, cond, false, get_or, inl, inr, length, List, map}
-use Rattle.std.proofs.Common.{refl, reverse, set, subst, suc, sym, take, true, zero, ℕ, [], ◌++◌}
-use Rattle.std.proofs.Common.{◌+◌, ◌<◌, ◌==◌, ◌∙◌, ◌∷◌, ◌≡◌, ◌≢◌, ◌≤◌, ◌⊎◌}
+use Rattle.std.proofs.Common.{ap, arith, get_or, inl, inr, length, List, map}
+use Rattle.std.proofs.Common.{refl, reverse, set, subst, suc, sym, take, zero, ℕ, [], ◌++◌}
+use Rattle.std.proofs.Common.{◌+◌, ◌<◌, ◌∙◌, ◌∷◌, ◌≡◌, ◌≢◌, ◌≤◌}
 use Rattle.std.specs.List.{All, AllByRecursion, filter}
 use Rattle.std.specs.Borrow.{Bor}
+use Rattle.std.proofs.lemmas.Bool.{eq-eqb, eqb-true}
 use Rattle.std.proofs.lemmas.Bool.Decides.{eqb_tells}
 use Rattle.std.proofs.lemmas.Grind.{get_or-set_at}
 use Rattle.std.proofs.lemmas.List.{get_or-map, get_or-set_other, get_or-take, length-map}
@@ -60,69 +61,37 @@ put_elsewhere lists seat s new other =
 
 -- ---- passes of a seat
 
-one_longer : (b : Bool) (p : Record) (ps : List Record) →
-    length (cond b (p ∷ ps) ps) ≡ cond b (length ps + 1) (length ps)
-one_longer true p ps = omega arith
-one_longer false p ps = refl
-
-abbrev Counts : ℕ → Record → List Record → Type 0
-Counts seat p ps = (p.seat ≡ seat) × (passes_of seat (p ∷ ps) ≡ passes_of seat ps + 1)
-
-abbrev CountsNot : ℕ → Record → List Record → Type 0
-CountsNot seat p ps = (p.seat ≢ seat) × (passes_of seat (p ∷ ps) ≡ passes_of seat ps)
-
--- a pass counts for its own seat
-pass_adds : (seat : ℕ) (p : Record) (ps : List Record) → Counts seat p ps ⊎ CountsNot seat p ps
-pass_adds seat p ps =
-    let n = passes_of seat ps in
-    let more = one_longer (p.seat == seat) p (filter (λ (q : Record). q.seat == seat) ps) in
-    elim (eqb_tells p.seat seat) [
-      | inl t ↦ inl (t.1, more ∙ ap (λ (b : Bool). cond b (n + 1) n) t.0)
-      | inr f ↦ inr (f.1, more ∙ ap (λ (b : Bool). cond b (n + 1) n) f.0)
-    ]
-
 -- what holds of all passes holds of one of the seat, where there is one
 some_pass : (P : Record → Type 0) (seat : ℕ) (ps : List Record) → 1 ≤ passes_of seat ps →
     AllByRecursion P ps → (p : Record) × (p.seat ≡ seat) × P p
 some_pass P seat [] has all = absurd (omega (arith, has))
-some_pass P seat (p ∷ ps) has all = elim (pass_adds seat p ps) [
-  | inl t ↦ (p, t.0, all.0)
-  | inr f ↦ some_pass P seat ps (omega (arith, has, f.1)) all.1
+some_pass P seat (p ∷ ps) has all = elim (eqb_tells p.seat seat) [
+  | inl t ↦ (p, t.1, all.0)
+  | inr f ↦ some_pass P seat ps (grind (arith, f.0)) all.1
 ]
 
 -- a pass of the seat is counted
 one_pass : (seat : ℕ) (ps : List Record) (i : ℕ) (d : Record) → i < length ps →
     (get_or ps i d).seat ≡ seat → 1 ≤ passes_of seat ps
 one_pass seat [] i d below is = absurd (omega (arith, below))
-one_pass seat (p ∷ ps) zero d below is = elim (pass_adds seat p ps) [
-  | inl t ↦ omega (arith, t.1)
-  | inr f ↦ absurd (f.0 is)
-]
+one_pass seat (p ∷ ps) zero d below is = grind (arith, eq-eqb p.seat seat is)
 one_pass seat (p ∷ ps) (suc i) d below is =
-    let rest = one_pass seat ps i d (omega (arith, below)) is in
-    elim (pass_adds seat p ps) [
-      | inl t ↦ omega (arith, t.1)
-      | inr f ↦ omega (arith, rest, f.1)
-    ]
+    grind (arith, one_pass seat ps i d (omega (arith, below)) is)
 
 -- and so are two
 two_passes : (seat : ℕ) (ps : List Record) (k i : ℕ) (d e : Record) → k < i → i < length ps →
     (get_or ps k e).seat ≡ seat → (get_or ps i d).seat ≡ seat → 2 ≤ passes_of seat ps
 two_passes seat [] k i d e before below first second = absurd (omega (arith, below))
 two_passes seat (p ∷ ps) k zero d e before below first second = absurd (omega (arith, before))
-two_passes seat (p ∷ ps) zero (suc i) d e before below first second =
-    let rest = one_pass seat ps i d (omega (arith, below)) second in
-    elim (pass_adds seat p ps) [
-      | inl t ↦ omega (arith, rest, t.1)
-      | inr f ↦ absurd (f.0 first)
-    ]
-two_passes seat (p ∷ ps) (suc k) (suc i) d e before below first second =
-    let earlier : k < i = omega (arith, before) in
-    let rest = two_passes seat ps k i d e earlier (omega (arith, below)) first second in
-    elim (pass_adds seat p ps) [
-      | inl t ↦ omega (arith, rest, t.1)
-      | inr f ↦ omega (arith, rest, f.1)
-    ]
+two_passes seat (p ∷ ps) zero (suc i) d e before below first second = grind (
+  arith,
+  one_pass seat ps i d (omega (arith, below)) second,
+  eq-eqb p.seat seat first,
+)
+two_passes seat (p ∷ ps) (suc k) (suc i) d e before below first second = grind (
+  arith,
+  two_passes seat ps k i d e (omega (arith, before)) (omega (arith, below)) first second,
+)
 
 -- ---- the calls of each seat's pass
 
@@ -189,26 +158,14 @@ module _ (P : Entry → Type 0) where
   pub all_reversed : (es : List Entry) → AllByRecursion P es → AllByRecursion P (reverse es)
   all_reversed es all = recursion_from_All P (reverse es) (all_turned es all)
 
-one_call : (b : Bool) (e : Entry) (es : List Entry) →
-    map call_of (cond b (e ∷ es) es) ≡ cond b (call_of e ∷ map call_of es) (map call_of es)
-one_call true e es = refl
-one_call false e es = refl
-
-abbrev Makes : ℕ → Entry → List Entry → Type 0
-Makes seat e es = (e.seat ≡ seat) × (calls_made seat (e ∷ es) ≡ call_of e ∷ calls_made seat es)
-
-abbrev MakesNot : ℕ → Entry → List Entry → Type 0
-MakesNot seat e es = (e.seat ≢ seat) × (calls_made seat (e ∷ es) ≡ calls_made seat es)
-
 -- the calls that made the entries of a seat, where one entry is before them
-calls_before : (seat : ℕ) (e : Entry) (es : List Entry) → Makes seat e es ⊎ MakesNot seat e es
-calls_before seat e es =
-    let calls = calls_made seat es in
-    let more = one_call (e.seat == seat) e (filter (of seat) es) in
-    elim (eqb_tells e.seat seat) [
-      | inl t ↦ inl (t.1, more ∙ ap (λ (b : Bool). cond b (call_of e ∷ calls) calls) t.0)
-      | inr f ↦ inr (f.1, more ∙ ap (λ (b : Bool). cond b (call_of e ∷ calls) calls) f.0)
-    ]
+calls_own : (seat : ℕ) (e : Entry) (es : List Entry) → e.seat ≡ seat →
+    calls_made seat (e ∷ es) ≡ call_of e ∷ calls_made seat es
+calls_own seat e es is = grind (arith, eq-eqb e.seat seat is)
+
+calls_other : (seat : ℕ) (e : Entry) (es : List Entry) → e.seat ≢ seat →
+    calls_made seat (e ∷ es) ≡ calls_made seat es
+calls_other seat e es other = grind (arith, eqb-true e.seat seat)
 
 -- ---- the last calls, one entry back
 
@@ -235,30 +192,22 @@ module _ (calls : List Call) (e : Entry) (more : List Call) where
       Agree (reverse calls) (call_of e ∷ more) → Agree (reverse earlier) more
   agree_before earlier (inl none) agree =
       subst (λ (cs : List Call). Agree (reverse cs) more) (sym none.1) tt
-  agree_before earlier (inr last) agree =
-      let back = ap reverse last ∙ reverse-push earlier (call_of e) in
-      let both : Agree (call_of e ∷ reverse earlier) (call_of e ∷ more) =
-      subst (λ (cs : List Call). Agree cs (call_of e ∷ more)) back agree in
-      both.1
+  agree_before earlier (inr last) agree = (subst (λ cs. Agree cs (call_of e ∷ more))
+      (ap reverse last ∙ reverse-push earlier (call_of e)) agree).1
 
   pub agree_with : (earlier : List Call) → Precede calls e earlier →
       Agree (reverse earlier) more → Agree (reverse calls) (call_of e ∷ more)
   agree_with earlier (inl none) agree =
       subst (λ (cs : List Call). Agree (reverse cs) (call_of e ∷ more)) (sym none.0) tt
-  agree_with earlier (inr last) agree =
-      let back = ap reverse last ∙ reverse-push earlier (call_of e) in
-      subst (λ (cs : List Call). Agree cs (call_of e ∷ more)) (sym back) (refl, agree)
+  agree_with earlier (inr last) agree = subst (λ cs. Agree cs (call_of e ∷ more))
+      (sym (ap reverse last ∙ reverse-push earlier (call_of e))) (refl, agree)
 
 module _ (seats : ℕ) (lists : Lists) (e : Entry) (es : List Entry) (inside : e.seat < seats) where
   -- the last call of an entry's seat has to be that of the entry, where there is one
   pub precede_last : AreLast seats lists (e ∷ es) →
       (earlier : List Call) × Precede (at_seat e.seat lists) e earlier
-  precede_last last = elim (calls_before e.seat e es) [
-    | inl t ↦
-        precede_some (at_seat e.seat lists) e (calls_made e.seat es)
-        (subst (Agree (reverse (at_seat e.seat lists))) t.1 (last e.seat inside))
-    | inr f ↦ absurd (f.0 refl)
-  ]
+  precede_last last = precede_some (at_seat e.seat lists) e (calls_made e.seat es)
+      (rw (calls_own e.seat e es refl) at (last e.seat inside))
 
   module _ (earlier : Calls) (long : seats ≤ length lists)
       (precede : Precede (at_seat e.seat lists) e earlier.now) where
@@ -274,29 +223,21 @@ module _ (seats : ℕ) (lists : Lists) (e : Entry) (es : List Entry) (inside : e
 
     -- then the earlier ones are those of the entries before
     pub last_before : AreLast seats lists (e ∷ es) → AreLast seats (set lists e.seat earlier) es
-    last_before last = λ seat below. elim (calls_before seat e es) [
-      | inl t ↦
-          let made = subst (Agree (reverse (at_seat seat lists))) t.1 (last seat below) in
-          let rest = agree_before (at_seat seat lists) e (calls_made seat es) earlier.now
-          (before_of seat t.0) made in
-          subst (λ (cs : List Call). MadeLast seat cs es) (sym (here seat t.0)) rest
-      | inr f ↦
-          let made = subst (Agree (reverse (at_seat seat lists))) f.1 (last seat below) in
-          subst (λ (cs : List Call). MadeLast seat cs es) (sym (there seat f.0)) made
+    last_before last = λ seat below. elim (eqb_tells e.seat seat) [
+      | inl t ↦ subst (λ cs. MadeLast seat cs es) (sym (here seat t.1))
+          (agree_before (at_seat seat lists) e (calls_made seat es) earlier.now (before_of seat t.1)
+          (rw (calls_own seat e es t.1) at (last seat below)))
+      | inr f ↦ subst (λ cs. MadeLast seat cs es) (sym (there seat f.1))
+          (rw (calls_other seat e es f.1) at (last seat below))
     ]
 
     pub before_last : AreLast seats (set lists e.seat earlier) es → AreLast seats lists (e ∷ es)
-    before_last last = λ seat below. elim (calls_before seat e es) [
-      | inl t ↦
-          let rest = subst (λ (cs : List Call). MadeLast seat cs es) (here seat t.0)
-          (last seat below) in
-          let made = agree_with (at_seat seat lists) e (calls_made seat es) earlier.now
-          (before_of seat t.0) rest in
-          subst (Agree (reverse (at_seat seat lists))) (sym t.1) made
-      | inr f ↦
-          let made = subst (λ (cs : List Call). MadeLast seat cs es) (there seat f.0)
-          (last seat below) in
-          subst (Agree (reverse (at_seat seat lists))) (sym f.1) made
+    before_last last = λ seat below. elim (eqb_tells e.seat seat) [
+      | inl t ↦ rw (calls_own seat e es t.1)
+          (agree_with (at_seat seat lists) e (calls_made seat es) earlier.now (before_of seat t.1)
+          (subst (λ cs. MadeLast seat cs es) (here seat t.1) (last seat below)))
+      | inr f ↦ rw (calls_other seat e es f.1)
+          (subst (λ cs. MadeLast seat cs es) (there seat f.1) (last seat below))
     ]
 
 -- where there are no entries, there is nothing to agree on
@@ -318,10 +259,6 @@ precede_one calls earlier c e is last =
 pub precede_none : (calls earlier others : List Call) (c : Call) (e : Entry) →
     calls ≡ earlier ++ c ∷ [] → c ≢ call_of e → Precede calls e others → ⊥
 precede_none calls earlier others c e is other (inl none) =
-    let back : c ∷ reverse earlier ≡ [] =
-    sym (reverse-push earlier c) ∙ ap reverse (sym is ∙ none.0) in
-    cc
+    cc (reverse-push earlier c, none.0)
 precede_none calls earlier others c e is other (inr last) =
-    let back : c ∷ reverse earlier ≡ call_of e ∷ reverse others =
-    sym (reverse-push earlier c) ∙ ap reverse (sym is ∙ last) ∙ reverse-push others (call_of e) in
-    other cc
+    other (cc (reverse-push earlier c, reverse-push others (call_of e)))

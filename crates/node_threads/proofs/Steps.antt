@@ -16,7 +16,6 @@ use Rattle.link_frames.specs.declared.fault.FeedFault.{FeedFault}
 use Rattle.link_frames.specs.Stream.{SplitsLink}
 use Rattle.link_frames.proofs.LinkLemmas.{goes_on as link_goes_on, IsRest-empty}
 use Rattle.policy_audit.specs.declared.entry.Verdict.{Verdict}
-use Rattle.policy_audit.specs.declared.rule.Rule.{Rule}
 use Rattle.node_core.specs.declared.fault.CoreFault.TheVariants.{OutOfMemory, Refused}
 use specs.declared.fault.CallFault.{CallFault}
 use specs.declared.fault.CallFault.TheVariants.{Core, StrangePass}
@@ -28,7 +27,7 @@ use specs.declared.pass.Call.{Call}
 use specs.Calls.{Gains, is_up, is_up_answer, Record}
 use specs.Cutting.{CutsOff, is_done}
 use specs.Ends.{end_of, read_end_of_feed, reader_gives_up}
-use specs.Entered.{Enters, IsEntry, verdict_in}
+use specs.Entered.{IsEntry, verdict_in}
 use specs.Reading.{AreFrames, Gave, Handed, HasReason, IsRead, Moves, OfHandshake, ReadsOn, ReadsTo}
 use specs.Reading.{Stops}
 use proofs.Answered.{ends_at, ends_then, fault_refuses, gains_lighter, gains_more, gains_none}

@@ -1,7 +1,7 @@
 -- Passes that let no call go, of a node that has handed out no entry.
 use Rattle.node_threads.specs
-use Rattle.std.proofs.Common.{ap, append-nil, arith, Bool, cond, false, length, List, map, refl}
-use Rattle.std.proofs.Common.{reverse, sym, true, ℕ, [], ◌++◌, ◌<◌, ◌==◌, ◌∙◌, ◌∷◌, ◌≡◌}
+use Rattle.std.proofs.Common.{ap, append-nil, arith, length, List, map, refl}
+use Rattle.std.proofs.Common.{reverse, sym, ℕ, [], ◌∙◌, ◌∷◌, ◌≡◌}
 use Rattle.std.specs.List.{filter}
 use Rattle.std.proofs.lemmas.List.{length-map, length-reverse, map-append, reverse-append}
 use Rattle.std.proofs.lemmas.List.{reverse-reverse}
@@ -25,12 +25,6 @@ agree_same (x ∷ xs) (y ∷ ys) q agree =
     let rest = agree_same xs ys (omega (arith, q)) agree.1 in
     ap (λ (z : Call). z ∷ xs) agree.0 ∙ ap (λ (zs : List Call). y ∷ zs) rest
 
-tail : (b : Bool) (e : Entry) (fs : List Entry) →
-    reverse (map call_of fs) ++ map call_of (cond b (e ∷ []) [])
-    ≡ reverse (map call_of (cond b (e ∷ fs) fs))
-tail true e fs = sym (reverse-append (call_of e ∷ []) (map call_of fs))
-tail false e fs = append-nil (reverse (map call_of fs))
-
 -- the calls of a seat are those of its entries, in the other order
 turned : (seat : ℕ) (es : List Entry) →
     calls_of seat es ≡ reverse (map call_of (filter (of seat) es))
@@ -42,7 +36,11 @@ turned seat (e ∷ es) =
       map-append call_of (filter (of seat) (reverse es)) (filter (of seat) (e ∷ [])),
       turned seat es,
     )
-    (tail (e.seat == seat) e (filter (of seat) es))
+    (grind (
+      arith,
+      reverse-append (call_of e ∷ []) (map call_of (filter (of seat) es)),
+      append-nil (reverse (map call_of (filter (of seat) es))),
+    ))
 
 module _ (room : Room) (p : Record) (whole : IsWhole room p) where
   abbrev es : List Entry

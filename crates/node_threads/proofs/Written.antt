@@ -23,7 +23,6 @@ use specs.Ends.{take_end, writer_gives_up}
 use specs.Entered.{IsEntry, verdict_in}
 use specs.Writing.{AreTakes, frames_in, HasReason, IsSent, Took, wires, WritesTo}
 use proofs.Answered.{accepted, ends_at, ends_then, enters, fault_refuses, gains_lighter, gains_more}
-use proofs.Answered.{gains_none}
 use specs.declared.ends.WriteEnd.TheVariants as ends
 
 wires-append : (xs ys : List Call) → wires (xs ++ ys) ≡ wires xs ++ wires ys

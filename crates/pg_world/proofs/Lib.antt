@@ -16,14 +16,9 @@ mod Starting
 mod Steady
 mod Losing
 mod Next
-mod Queued
 mod Calling
-mod Cutting
 mod Opening
-mod Dialling
-mod Accepting
-mod Handing
-mod Delivering
+mod Carrying
 mod Staying
 mod Playing
 mod Exchanged

@@ -1,18 +1,11 @@
 -- A world stays one with the losses that come with an entry of one node.
 use Rattle.pg_world.proofs
 use proofs.Words.{Bool, cond, Entry, entry_played, false, History, is_accepted, IsNext, IsPlayed}
-use proofs.Words.{IsStep, IsWorld, just, List, lose, loss, next_step, Nodes, past, refl, set-set}
-use proofs.Words.{slice_get, slice_set, slow_links, Some, subst, true, Wire, with_entry, world, ℕ}
-use proofs.Words.{[], ◌∷◌, ◌≡◌}
+use proofs.Words.{IsWorld, just, List, lose, loss, next_step, past, refl, set-set, slice_get}
+use proofs.Words.{slice_set, slow_links, Some, subst, true, Wire, with_entry, world, ℕ, [], ◌∷◌}
+use proofs.Words.{◌≡◌}
 use proofs.Puts.{get_same}
 use proofs.Steady.{quiet}
-
--- a loss opens no link, nothing comes with it and nothing is handed out
-one_lost : (w : Nodes) → IsWorld w → (i : ℕ) (k : History) → slice_get w.nodes i ≡ Some k → (l : ℕ)
-    → IsStep k (loss l) → IsWorld (world (slice_set w.nodes i (just k (loss l))) w.wires)
-one_lost w sound i k here l made = quiet w sound i k (loss l) here
-    (record { step = made; room = (sound.nodes i k here).room }) tt tt (λ m. refl) (λ m. refl)
-    (λ m. refl)
 
 module _ (hs : List History) (xs : List Wire) (i : ℕ) (h : History) (e : Entry)
     (here : slice_get hs i ≡ Some h) (sound : IsWorld (world (slice_set hs i (just h e)) xs)) where
@@ -20,12 +13,24 @@ module _ (hs : List History) (xs : List Wire) (i : ℕ) (h : History) (e : Entry
   abbrev lost : List ℕ → History
   lost ls = past h.opening (lose ls (e ∷ h.entries))
 
+  -- a loss opens no link, nothing comes with it and nothing is handed out
   all_lost : (ls : List ℕ) → IsPlayed (lost ls) → IsWorld (world (slice_set hs i (lost ls)) xs)
   all_lost [] legal = sound
-  all_lost (l ∷ ls) legal = subst (λ ks. IsWorld (world ks xs))
-      (set-set hs i (lost ls) (lost (l ∷ ls)))
-      (one_lost (world (slice_set hs i (lost ls)) xs) (all_lost ls legal.1) i (lost ls)
-      (get_same hs i (lost ls) h here) l legal.0)
+  all_lost (l ∷ ls) legal =
+      let before = all_lost ls legal.1 in
+      let now = get_same hs i (lost ls) h here in
+      subst (λ ks. IsWorld (world ks xs)) (set-set hs i (lost ls) (lost (l ∷ ls)))
+      (quiet {w = world (slice_set hs i (lost ls)) xs} (record {
+        sound = before;
+        i = i;
+        h = lost ls;
+        e = loss l;
+        here = now;
+        step = legal.0;
+        room = (before.nodes i (lost ls) now).room;
+        written = tt;
+        late = tt;
+      }) (λ k. refl) (λ k. refl) (λ k. refl))
 
   pub losses_kept : IsNext h e → IsPlayed h → IsWorld (world (slice_set hs i (with_entry h e)) xs)
   losses_kept next legal = by (is_accepted e.verdict)

@@ -9,7 +9,6 @@ use proofs.Words.{under_way, Wire, wires_after, with_queue, WorldFault, WorldSte
 use Rattle.node_core.specs.Step.{IsStepped}
 use specs.Steps.{IsWorldStep}
 use Rattle.node_core.specs.declared.fault.CoreFault.TheVariants as core_fault
-use Rattle.policy_audit.specs.declared.rule.Rule.TheVariants as rule
 use specs.declared.side.Side.TheVariants as side
 use specs.declared.world_step.WorldStep.TheVariants as step
 use specs.declared.fault.WorldFault.TheVariants as fault
@@ -33,26 +32,26 @@ same_wire xs n f stays = by (slice_get xs n) refl
     by (Some x) e = ap (slice_set xs n) (stays x) ∙ same_element xs n x e
 
 -- a queue that stays
-same_queue : (at : Side) (x : Wire) → changed_queue at (λ q. q) x ≡ x
-same_queue side.Dialler x = refl
-same_queue y x = refl
+same_queue : (at : Side) (f : List OutFrame → List OutFrame) (x : Wire)
+    → f (under_way at x) ≡ under_way at x → changed_queue at f x ≡ x
+same_queue side.Dialler f x same = ap (λ q. with_queue side.Dialler q x) same
+same_queue side.Acceptor f x same = ap (λ q. with_queue side.Acceptor q x) same
 
 -- ---- steps
 
 -- a fault comes from the node
 fault_is : (t : WorldStep) (a : Result Reply CoreFault) (xs : List Wire) (f : WorldFault)
     → Err f ≡ answer_of t a xs → (g : CoreFault) × (a ≡ Err g) × (f ≡ fault.Core g)
-fault_is t (Ok r) xs f e = no_reply t e
+fault_is t (Ok r) xs f e = absurd (no_reply t e)
   where
-    no_reply : (t : WorldStep) → Err f ≡ answer_of t (Ok r) xs
-        → (g : CoreFault) × (Ok r ≡ Err g) × (f ≡ fault.Core g)
+    no_reply : (t : WorldStep) → Err f ≡ answer_of t (Ok r) xs → ⊥
     no_reply (step.Call i seat ev) e = cc
     no_reply x e = cc
 fault_is t (Err g) xs f e = (g, refl, its t e)
   where
     its : (t : WorldStep) → Err f ≡ answer_of t (Err g) xs → f ≡ fault.Core g
-    its (step.Call i seat ev) e = ap (λ v. elim v as (λ _. WorldFault) [ Ok r ↦ f | Err g ↦ g ]) e
-    its x e = ap (λ v. elim v as (λ _. WorldFault) [ Ok r ↦ f | Err g ↦ g ]) e
+    its (step.Call i seat ev) e = cc
+    its x e = cc
 
 -- the wires after such a fault
 pub wires_stay : (t : WorldStep) (g : CoreFault) (xs : List Wire)
@@ -60,17 +59,15 @@ pub wires_stay : (t : WorldStep) (g : CoreFault) (xs : List Wire)
 wires_stay (step.Dial i j seat c) g xs k = append-nil xs
 wires_stay (step.Accept n seat c) g xs k = same_wire xs n (λ x. x) (λ x. refl)
 wires_stay (step.Hand n at seat) g xs k = same_wire xs n (changed_queue (other at) (λ q. q))
-    (same_queue (other at))
+    (λ x. same_queue (other at) (λ q. q) x refl)
 wires_stay (step.Deliver n at seat) g xs k = same_wire xs n (changed_queue at (left_by (Err g)))
-    (λ x. ap (λ q. with_queue at q x) (stays g k (under_way at x)) ∙ same_queue at x)
+    (λ x. same_queue at (left_by (Err g)) x (stays g k (under_way at x)))
   where
     stays : (g : CoreFault) → IsTrue (keeps_wires (step.Deliver n at seat) (fault.Core g))
         → (q : List OutFrame) → left_by (Err g) q ≡ q
-    stays (core_fault.Refused rule.EntriesFull) k q = refl
-    stays (core_fault.Refused r) k q = grind arith
-    stays x k q = refl
+    stays g k q = grind arith
 wires_stay (step.Cut n at seat) g xs k = same_wire xs n (changed_queue at (cut_by (Err g)))
-    (λ x. ap (λ q. with_queue at q x) (stays g k (under_way at x)) ∙ same_queue at x)
+    (λ x. same_queue at (cut_by (Err g)) x (stays g k (under_way at x)))
   where
     stays : (g : CoreFault) → IsTrue (keeps_wires (step.Cut n at seat) (fault.Core g))
         → (q : List OutFrame) → cut_by (Err g) q ≡ q
@@ -100,21 +97,15 @@ module _ (old new : Nodes) (t : WorldStep) where
   unfolding IsWorldStep
   memory_same s = by (turn_of old t) s
     where
-      kept : (t : WorldStep) → IsTrue (keeps_wires t (fault.Core core_fault.OutOfMemory))
-      kept (step.Deliver n at seat) = refl
-      kept t = refl
-
       by : (u : Turn) → Turns old t u new (Err (fault.Core core_fault.OutOfMemory)) → new ≡ old
       by (Refuses g) s = s.1
       by (Asks i seat e) s =
           let it = fault_is t s.answer old.wires (fault.Core core_fault.OutOfMemory) s.answered in
-          let is : s.answer ≡ Err core_fault.OutOfMemory =
-          it.1 ∙ ap (λ v. elim v as (λ _. Result Reply CoreFault)
-          [ fault.Core g ↦ Err g | _ ↦ s.answer ]) (sym it.2) in
+          let is : s.answer ≡ Err core_fault.OutOfMemory = cc (it.1, it.2) in
           let stays = node_stays s.before s.after seat e
           (subst (λ a. IsStepped s.before seat e s.after a) is s.stepped) in
           let nodes : new.nodes ≡ old.nodes = s.nodes ∙ ap (slice_set old.nodes i) stays
           ∙ same_element old.nodes i s.before s.stands in
           let wires : new.wires ≡ old.wires = s.wires ∙ ap (λ a. wires_after t a old.wires) is
-          ∙ wires_stay t core_fault.OutOfMemory old.wires (kept t) in
+          ∙ wires_stay t core_fault.OutOfMemory old.wires (grind arith) in
           λ k. record { nodes = nodes k; wires = wires k }

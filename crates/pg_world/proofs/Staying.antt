@@ -2,13 +2,10 @@
 use Rattle.pg_world.proofs
 use proofs.Words.{IsWorld, IsWorldStep, IsWrittenStep, Nodes, Result, turn_of, WorldFault}
 use proofs.Words.{WorldReply, WorldStep}
-use proofs.Accepting.{accepts}
 use proofs.Calling.{calls, restarts}
-use proofs.Cutting.{cuts}
-use proofs.Delivering.{delivers}
-use proofs.Dialling.{dials}
-use proofs.Handing.{hands}
+use proofs.Carrying.{cuts, delivers, hands}
 use proofs.Next.{Keeps, stays_by}
+use proofs.Opening.{accepts, dials}
 use Rattle.pg_world.specs.declared.world_step.WorldStep.TheVariants as step
 
 module _ (w : Nodes) (sound : IsWorld w) where

@@ -1,190 +1,186 @@
 -- A world stays one with an entry of one node.
 use Rattle.pg_world.proofs
-use proofs.Words.{ap, append-nil, arith, bodies, Bool, came, Carries, ends, entered, entered_next}
-use proofs.Words.{Entry, false, FramesAreLate, handed, HasEnd, History, is_open, is_opened_by}
-use proofs.Words.{IsEnd, IsLate, IsNext, IsNode, IsPlayed, IsStep, IsWorld, IsWritten, just, lie}
-use proofs.Words.{link_at, List, next_step, node_at, Nodes, not, other, refl, Side, slice_get}
-use proofs.Words.{slice_set, Some, subst, sym, true, under_way, Wire, world, ℕ, [], ◌&&◌, ◌++◌}
-use proofs.Words.{◌||◌, ◌∙◌, ◌∷◌, ◌≡◌, ◌≤◌}
-use proofs.Entering.{carries_on, none_came, none_handed, same_link, same_node, SameEnds}
-use proofs.Entering.{stays_wired}
+use proofs.Words.{ap, arith, Bool, came, Carries, entered, eqb-false, eqb-true, false}
+use proofs.Words.{FramesAreLate, handed, HasEnd, History, is_open, is_opened_by, IsEnd, IsNode}
+use proofs.Words.{IsWired, IsWorld, just, lie, link_at, List, node_at, Nodes, other, refl, shared}
+use proofs.Words.{Side, slice_get, slice_set, Some, Speaks, SpeaksShared, subst, sym, true, Wire}
+use proofs.Words.{world, ℕ, [], ◌<◌, ◌==◌, ◌∙◌, ◌∷◌, ◌≡◌}
+use proofs.Entering.{after, carries_as_before, ends_low, legal, Makes, none_came, none_handed}
+use proofs.Entering.{same_ends, SameEnds, stays_wired, was}
 use proofs.Sharing.{shares_after}
-use proofs.Puts.{Apart, compare, Compared, get_other, get_same, Same, value_of}
+use proofs.Puts.{found, get_other, get_same, IsFound, Kept, Put, value_of}
+use Rattle.frame_laws.proofs.OneVersion.{never_whole}
+use Rattle.pg_world.specs.declared.side.Side.TheVariants as side
 
-pub same_ends : (x : Wire) → SameEnds x x
-same_ends x = record { from = refl; to = refl; dialled = refl; accepted = refl }
-
--- a step of a node, an entry or the loss of a link, for which its audit has room
-pub record IsMade (h : History) (e : Entry) : Type 0 where
-  pub step : IsStep h e
-  pub room : entered (e ∷ h.entries) ≤ h.opening.entries
-
-pub made_of : (h : History) (e : Entry) → IsNext h e → IsMade h e
-made_of h e next =
-    let more = entered_next e h.entries next.number in
-    let room = next.room in
-    record { step = next_step h e next; room = omega (arith, more, room) }
-
--- the histories after a step of node i
-abbrev pub after : Nodes → ℕ → History → Entry → List History
-after w i h e = slice_set w.nodes i (just h e)
-
-module _ (w : Nodes) (sound : IsWorld w) (i : ℕ) (h : History) (e : Entry)
-    (here : slice_get w.nodes i ≡ Some h) (made : IsMade h e) (written : IsWritten e.event)
-    (late : IsLate h.entries e.event) where
-  legal : IsPlayed h
-  legal = (sound.nodes i h here).legal
-
-  abbrev later : List History
-  later = after w i h e
-
-  now_here : slice_get later i ≡ Some (just h e)
-  now_here = get_same w.nodes i (just h e) h here
+module _ {w : Nodes} (m : Makes w) where
+  open m use {sound, i, h, e, here}
 
   -- what holds of each history holds so
   each : (P : History → Type 0) → ((k : ℕ) (g : History) → slice_get w.nodes k ≡ Some g → P g)
-      → P (just h e) → (k : ℕ) (g : History) → slice_get later k ≡ Some g → P g
-  each P all this k g q = by (compare k i)
+      → P (just h e) → (k : ℕ) (g : History) → slice_get (after m) k ≡ Some g → P g
+  each P all this k g q = by (found w.nodes i (just h e) h here k g q)
     where
-      by : Compared k i → P g
-      by (Same is) = subst P (value_of (sym now_here ∙ ap (slice_get later) (sym is) ∙ q)) this
-      by (Apart apart) = all k g (sym (get_other w.nodes i (just h e) k apart) ∙ q)
+      by : IsFound w.nodes i (just h e) k g → P g
+      by (Put is its) = subst P its this
+      by (Kept apart its) = all k g its
 
-  pub nodes_after : (k : ℕ) (g : History) → slice_get later k ≡ Some g → IsNode g
+  nodes_after : (k : ℕ) (g : History) → slice_get (after m) k ≡ Some g → IsNode g
   nodes_after = each IsNode sound.nodes (let node = sound.nodes i h here in record {
-    legal = (made.step, node.legal);
-    room = made.room;
+    legal = (m.step, node.legal);
+    room = m.room;
     name = node.name;
     creation = node.creation;
     entries = node.entries;
     links = node.links;
-    written = (written, node.written);
+    written = (m.written, node.written);
   })
 
-  pub late_after : (k : ℕ) (g : History) → slice_get later k ≡ Some g → FramesAreLate g.entries
-  late_after = each (λ g. FramesAreLate g.entries) sound.late (late, sound.late i h here)
+  late_after : (k : ℕ) (g : History) → slice_get (after m) k ≡ Some g → FramesAreLate g.entries
+  late_after = each (λ g. FramesAreLate g.entries) sound.late (m.late, sound.late i h here)
 
-  -- a history as it was, with its opening
-  record Was (k : ℕ) (g : History) : Type 0 where
-    before : History
-    stands : slice_get w.nodes k ≡ Some before
-    opening : before.opening ≡ g.opening
-
-  was : (k : ℕ) (g : History) → slice_get later k ≡ Some g → Was k g
-  was k g q = by (compare k i)
-    where
-      by : Compared k i → Was k g
-      by (Same is) =
-          record {
-            before = h;
-            stands = ap (slice_get w.nodes) is ∙ here;
-            opening = ap (λ v. v.opening)
-                (value_of (sym now_here ∙ ap (slice_get later) (sym is) ∙ q));
-          }
-      by (Apart apart) =
-          record {
-            before = g;
-            stands = sym (get_other w.nodes i (just h e) k apart) ∙ q;
-            opening = refl;
-          }
-
-  pub names_after : (k j : ℕ) (f g : History) → slice_get later k ≡ Some f
-      → slice_get later j ≡ Some g → f.opening.name ≡ g.opening.name → k ≡ j
+  names_after : (k j : ℕ) (f g : History) → slice_get (after m) k ≡ Some f
+      → slice_get (after m) j ≡ Some g → f.opening.name ≡ g.opening.name → k ≡ j
   names_after k j f g p q named =
-      let a = was k f p in
-      let b = was j g q in
-      sound.names k j a.before b.before a.stands b.stands (ap (λ o. o.name) a.opening ∙ named
-      ∙ sym (ap (λ o. o.name) b.opening))
+      let a = was m k f p in
+      let b = was m j g q in
+      sound.names k j a.before b.before a.stands b.stands (cc (a.opening, named, b.opening))
+
+  -- ---- its links and its wires
 
   -- an open link was open, or was opened by the entry
-  pub data IsOpenFrom (k l : ℕ) : Type 0 where
+  data IsOpenFrom (k l : ℕ) : Type 0 where
     WasOpen : (g : History) → slice_get w.nodes k ≡ Some g → is_open l g.entries ≡ true
         → IsOpenFrom k l
     OpenedNow : k ≡ i → is_opened_by l e ≡ true → IsOpenFrom k l
 
-  pub open_from : (k : ℕ) (g : History) → slice_get later k ≡ Some g → (l : ℕ)
+  open_from : (k : ℕ) (g : History) → slice_get (after m) k ≡ Some g → (l : ℕ)
       → is_open l g.entries ≡ true → IsOpenFrom k l
-  open_from k g q l opens = by (compare k i)
+  open_from k g q l opens = by (found w.nodes i (just h e) h here k g q)
     where
-      now : k ≡ i → (a : Bool) → is_opened_by l e ≡ a → (b c : Bool) → is_open l h.entries ≡ c
-          → (a || (not b && c)) ≡ true → IsOpenFrom k l
-      now is true p b c r o = OpenedNow is p
-      now is false p true c r o = lie (sym o)
-      now is false p false false r o = lie (sym o)
-      now is false p false true r o = WasOpen h (ap (slice_get w.nodes) is ∙ here) r
+      now : k ≡ i → is_open l (e ∷ h.entries) ≡ true → (a : Bool) → is_opened_by l e ≡ a
+          → IsOpenFrom k l
+      now is o true p = OpenedNow is p
+      now is o false p = WasOpen h (ap (slice_get w.nodes) is ∙ here) (grind arith)
 
-      by : Compared k i → IsOpenFrom k l
-      by (Same is) = now is (is_opened_by l e) refl (ends l h.entries e.verdict e.event)
-          (is_open l h.entries) refl
-          (subst (λ v. is_open l v.entries ≡ true)
-          (sym (value_of (sym now_here ∙ ap (slice_get later) (sym is) ∙ q))) opens)
-      by (Apart apart) = WasOpen g (sym (get_other w.nodes i (just h e) k apart) ∙ q) opens
+      by : IsFound w.nodes i (just h e) k g → IsOpenFrom k l
+      by (Put is its) = now is (subst (λ v. is_open l v.entries ≡ true) (sym its) opens)
+          (is_opened_by l e) refl
+      by (Kept apart its) = WasOpen g its opens
 
-  -- ---- the wires have the ends that they had
+  -- the link at a side of the wire at a place is as it was, or is the new one
+  pub data IsLinkFrom (place : ℕ) (at : Side) (n : ℕ) (y : Wire) (s : Side) (l : ℕ) : Type 0 where
+    WasLink : (x : Wire) → slice_get w.wires n ≡ Some x
+        → ((t : Side) → node_at t x ≡ node_at t y) → link_at s x ≡ Some l
+        → IsLinkFrom place at n y s l
+    NewLink : n ≡ place → s ≡ at → node_at s y ≡ i → entered h.entries < l
+        → IsLinkFrom place at n y s l
 
-  module _ (ys : List Wire) (opens_none : (l : ℕ) → is_opened_by l e ≡ false)
-      (back : (n : ℕ) (y : Wire) → slice_get ys n ≡ Some y
-      → (x : Wire) × (slice_get w.wires n ≡ Some x) × SameEnds x y)
-      (forth : (n : ℕ) (x : Wire) → slice_get w.wires n ≡ Some x
-      → (y : Wire) × (slice_get ys n ≡ Some y) × SameEnds x y)
-      (carried : (n : ℕ) (y : Wire) → slice_get ys n ≡ Some y → (to : Side)
-      → Carries later y to) where
-    end_was : (x y : Wire) → SameEnds x y → (at : Side) (k l : ℕ) → IsEnd y at k l → IsEnd x at k l
-    end_was x y same at k l it =
-        record {
-          node = sym (same_node x y same at) ∙ it.node;
-          link = sym (same_link x y same at) ∙ it.link;
-        }
+  -- a wire that may stand at a place afterwards
+  pub record IsGood (place : ℕ) (at : Side) (n : ℕ) (y : Wire) : Type 0 where
+    pub wired : IsWired (after m) y
+    pub carried : (to : Side) → Carries (after m) y to
+    pub links : (s : Side) (l : ℕ) → link_at s y ≡ Some l → IsLinkFrom place at n y s l
 
-    end_now : (x y : Wire) → SameEnds x y → (at : Side) (k l : ℕ) → IsEnd x at k l → IsEnd y at k l
-    end_now x y same at k l it =
-        record { node = same_node x y same at ∙ it.node; link = same_link x y same at ∙ it.link }
+  -- so is one with the ends that it had
+  pub good : (place : ℕ) (at : Side) (n : ℕ) (x y : Wire) → slice_get w.wires n ≡ Some x
+      → SameEnds x y → ((to : Side) → Carries (after m) y to) → IsGood place at n y
+  good place at n x y stands ends carried = record {
+    wired = stays_wired m x y ends (sound.wired n x stands);
+    carried = carried;
+    links = λ s l q. WasLink x stands (λ t. sym (ends.node t)) (sym (ends.link s) ∙ q);
+  }
 
-    has_end : (k l : ℕ) → IsOpenFrom k l → HasEnd ys k l
-    has_end k l (OpenedNow is q) = lie (sym q ∙ opens_none l)
-    has_end k l (WasOpen g q o) =
-        let it = sound.ends k g q l o in
-        let y = forth it.number it.wire it.stands in
-        record {
-          number = it.number;
-          wire = y.0;
-          at = it.at;
-          stands = y.1;
-          ends = end_now it.wire y.0 y.2 it.at k l it.ends;
-        }
+  module _ (place : ℕ) (at : Side) (ys : List Wire)
+      (all : (n : ℕ) (y : Wire) → slice_get ys n ≡ Some y → IsGood place at n y)
+      (forth : (k l : ℕ) → HasEnd w.wires k l → HasEnd ys k l)
+      (newly : (l : ℕ) → is_opened_by l e ≡ true → HasEnd ys i l) where
+    -- a new link was no end
+    too_new : (n : ℕ) (x : Wire) → slice_get w.wires n ≡ Some x → (s : Side) (l : ℕ)
+        → link_at s x ≡ Some l → node_at s x ≡ i → entered h.entries < l → ⊥
+    too_new n x stands s l link node high =
+        let low = ends_low w sound n x stands i h here s l link node in
+        omega (arith, low, high)
 
-    pub steady : IsWorld (world later ys)
-    steady = record {
+    once : (n k : ℕ) (x y : Wire) (s t : Side) (j l : ℕ) → slice_get ys n ≡ Some x
+        → slice_get ys k ≡ Some y → IsEnd x s j l → IsEnd y t j l → (n ≡ k) × (s ≡ t)
+    once n k x y s t j l p q a b =
+        by ((all n x p).links s l a.link) ((all k y q).links t l b.link)
+      where
+        by : IsLinkFrom place at n x s l → IsLinkFrom place at k y t l → (n ≡ k) × (s ≡ t)
+        by (WasLink u c like was) (WasLink v d alike is) = sound.once n k u v s t j l c d
+            (record { node = like s ∙ a.node; link = was })
+            (record { node = alike t ∙ b.node; link = is })
+        by (WasLink u c like was) (NewLink number side node high) =
+            absurd (too_new n u c s l was (like s ∙ a.node ∙ sym b.node ∙ node) high)
+        by (NewLink number side node high) (WasLink v d alike is) =
+            absurd (too_new k v d t l is (alike t ∙ b.node ∙ sym a.node ∙ node) high)
+        by (NewLink number side node high) (NewLink number2 side2 node2 high2) =
+            (number ∙ sym number2, side ∙ sym side2)
+
+    spoken_before : (n : ℕ) (y : Wire) → slice_get ys n ≡ Some y → (s : Side)
+        → SpeaksShared w.nodes y s
+    spoken_before n y q s f k l f_is k_is link = by ((all n y q).links s l link)
+      where
+        by : IsLinkFrom place at n y s l
+            → Speaks f.opening l (shared f.opening.links k.opening.links) f.entries
+        by (WasLink x stands same was) = sound.spoken n x stands s f k l
+            (ap (slice_get w.nodes) (same s) ∙ f_is)
+            (ap (slice_get w.nodes) (same (other s)) ∙ k_is) was
+        by (NewLink number side node high) =
+            let its : h ≡ f = value_of (sym here ∙ ap (slice_get w.nodes) (sym node) ∙ f_is) in
+            subst (λ g. Speaks g.opening l (shared g.opening.links k.opening.links) g.entries) its
+            (never_whole h.opening l (shared h.opening.links k.opening.links) h.entries (legal m)
+            high)
+
+    pub stays : IsWorld (world (after m) ys)
+    stays = record {
       nodes = nodes_after;
       late = late_after;
       names = names_after;
-      wired = λ n y q. (let x = back n y q in stays_wired w.nodes i h e here made.step legal x.0 y
-          x.2 (sound.wired n x.0 x.1));
-      carried = carried;
-      spoken = λ n y q at. (let x = back n y q in
-          shares_after w.nodes i h e here made.step legal nodes_after late_after y
-          (stays_wired w.nodes i h e here made.step legal x.0 y x.2 (sound.wired n x.0 x.1))
-          (carried n y q) at
-          (λ f k l f_is k_is link. sound.spoken n x.0 x.1 at f k l
-          (ap (slice_get w.nodes) (sym (same_node x.0 y x.2 at)) ∙ f_is)
-          (ap (slice_get w.nodes) (sym (same_node x.0 y x.2 (other at))) ∙ k_is)
-          (sym (same_link x.0 y x.2 at) ∙ link)));
-      once = λ m n x y j k a l p q r s. (
-          let u = back m x p in
-          let v = back n y q in
-          sound.once m n u.0 v.0 j k a l u.1 v.1 (end_was u.0 x u.2 j a l r)
-          (end_was v.0 y v.2 k a l s));
+      wired = λ n y q. (all n y q).wired;
+      carried = λ n y q. (all n y q).carried;
+      spoken = λ n y q s. shares_after m y (record {
+        nodes = nodes_after;
+        late = late_after;
+        wired = (all n y q).wired;
+        carried = (all n y q).carried;
+      }) s (spoken_before n y q s);
+      once = once;
       ends = λ k g q l o. has_end k l (open_from k g q l o);
     }
+      where
+        has_end : (k l : ℕ) → IsOpenFrom k l → HasEnd ys k l
+        has_end k l (OpenedNow is q) = subst (λ j. HasEnd ys j l) (sym is) (newly l q)
+        has_end k l (WasOpen g q o) = forth k l (sound.ends k g q l o)
 
   -- nothing came, was handed out or was opened: the wires are as they were
   pub quiet : ((l : ℕ) → is_opened_by l e ≡ false) → ((l : ℕ) → came l e.event ≡ [])
-      → ((l : ℕ) → handed l e.event e.verdict ≡ []) → IsWorld (world later w.wires)
-  quiet opens none_in none_out = steady w.wires opens (λ n y q. (y, q, same_ends y))
-      (λ n x q. (x, q, same_ends x)) (λ n y q to.
-      carries_on w.nodes i h e here made.step legal y y (same_ends y) (sound.wired n y q) to
-      (sound.carried n y q to)
-      (λ gets. ap (λ v. v ++ bodies (under_way to y)) (none_came e i none_in (node_at to y)
-      (link_at to y)) ∙ sym (append-nil (bodies (under_way to y)))
-      ∙ ap (λ v. bodies (under_way to y) ++ v)
-      (sym (none_handed e i none_out (node_at (other to) y) (link_at (other to) y)))))
+      → ((l : ℕ) → handed l e.event e.verdict ≡ []) → IsWorld (world (after m) w.wires)
+  quiet opens none_in none_out = stays 0 side.Dialler w.wires
+      (λ n y q. good 0 side.Dialler n y y q (same_ends y) (λ to. carries_as_before m n y q to
+      (none_came m none_in (node_at to y) (link_at to y))
+      (none_handed m none_out (node_at (other to) y) (link_at (other to) y))))
+      (λ k l it. it) (λ l q. lie (sym q ∙ opens l))
+
+-- where one wire is put for another, that has its ends, all have theirs
+pub ends_kept : (xs : List Wire) (n : ℕ) (x y : Wire) → slice_get xs n ≡ Some x
+    → ((s : Side) (k l : ℕ) → IsEnd x s k l → IsEnd y s k l) → (k l : ℕ) → HasEnd xs k l
+    → HasEnd (slice_set xs n y) k l
+ends_kept xs n x y stands ends k l it = by (it.number == n) refl
+  where
+    by : (b : Bool) → (it.number == n) ≡ b → HasEnd (slice_set xs n y) k l
+    by true same = record {
+      number = n;
+      wire = y;
+      at = it.at;
+      stands = get_same xs n y x stands;
+      ends = ends it.at k l (subst (λ v. IsEnd v it.at k l)
+          (cc (eqb-true it.number n same, it.stands, stands)) it.ends);
+    }
+    by false apart = record {
+      number = it.number;
+      wire = it.wire;
+      at = it.at;
+      stands = get_other xs n y it.number (eqb-false it.number n apart) ∙ it.stands;
+      ends = it.ends;
+    }

@@ -2,21 +2,17 @@
 use Rattle.pg_world.specs
 use Rattle.pg_world.proofs
 use proofs.Words.{all_handed, and_parts, ap, append-nil, append_assoc, arith, Begun, begun}
-use proofs.Words.{begun_by, begun_of, bodies, bodies_of, Bool, creation, delivered, drop}
-use proofs.Words.{drop-append-le, frames_of, frames_said, given_here, HasGiven, History}
-use proofs.Words.{honest_first, inl, inr, is_open, is_some, is_up, is_whole, IsBegun, IsCut}
-use proofs.Words.{IsHonest, IsNode, IsWorld, keeps_or_not, KeepsOrNot, length, length-append}
-use proofs.Words.{length-drop, length-map, lie, link_at, List, map-append, Message, moment, node_at}
-use proofs.Words.{node_honest, Nodes, None, open_rest, Option, other, out, out_cut, OutFrame, parts}
-use proofs.Words.{refl, said_apart, sent, shared, Side, slice_get, Some, Speaks, subst, sym, take}
-use proofs.Words.{take-append-add, take-append-le, take-length, true, under_way, waiting, Wire, ℕ}
-use proofs.Words.{[], ◌++◌, ◌+◌, ◌<◌, ◌∙◌, ◌∷◌, ◌≡◌, ◌≤◌}
-use proofs.Ends.{bodies_all, IsJoined}
-use proofs.Joining.{at_acceptor, at_dialler, carried_to}
-use proofs.Puts.{value_of}
-use proofs.Sharing.{other_twice, shared_sym}
+use proofs.Words.{begun_of, bodies, bodies_of, creation, delivered, drop, drop-append-le, frames_of}
+use proofs.Words.{frames_said, History, honest_first, inl, inr, is_open, is_some, is_up, is_whole}
+use proofs.Words.{IsBegun, IsCut, IsHonest, IsNode, IsWorld, keeps_or_not, KeepsOrNot, length}
+use proofs.Words.{length-append, length-drop, length-map, lie, List, Message, moment, node_honest}
+use proofs.Words.{Nodes, open_rest, out, out_cut, OutFrame, parts, said_apart, sent, shared, Side}
+use proofs.Words.{Some, Speaks, subst, sym, take, take-append-add, take-append-le, take-length}
+use proofs.Words.{true, under_way, waiting, Wire, ℕ, ◌++◌, ◌+◌, ◌∙◌, ◌≡◌, ◌≤◌}
+use proofs.Ends.{all_owed, IsJoined}
+use proofs.Joining.{carried_to, joined, tied}
+use proofs.Sharing.{both_speak}
 use specs.UnderWay.{IsUnderWay, PartsUnderWay}
-use specs.declared.side.Side.TheVariants as side
 
 -- what stands behind some of these, and how it goes on
 split_at : {A : Type 0} (place n j : ℕ) (xs ys : List A) → length xs ≡ place + n
@@ -97,8 +93,7 @@ module _ (A : History) (node : IsNode A) (a : ℕ) (B : History) (receiver : IsN
   wire_first : (rest : List OutFrame) → (sent a A.entries ++ rest ≡ frames_of (out A a))
       → came ++ (q ++ bodies rest) ≡ bodies_of (out A a)
   wire_first rest all = sym (append_assoc came q (bodies rest)) ∙ ap (λ v. v ++ bodies rest) carries
-      ∙ sym (map-append (λ f. f.body) (sent a A.entries) rest) ∙ ap bodies all
-      ∙ bodies_all (out A a)
+      ∙ all_owed A a rest all
 
   waits_first : is_open a A.entries ≡ true
       → came ++ (q ++ bodies (waiting A a)) ≡ bodies_of (out A a)
@@ -134,35 +129,10 @@ module _ (A : History) (node : IsNode A) (a : ℕ) (B : History) (receiver : IsN
 
 pub parts_go_on : (w : Nodes) → IsWorld w → PartsUnderWay w
 parts_go_on w sound n x stands to A B a b at_a at_b far near up k keeps =
+    let ties = tied w sound n x stands in
+    let opens = (and_parts (is_open b B.entries) (is_whole b B.entries) up).0 in
+    let speak = both_speak w sound n x stands to A B a b at_a at_b far near in
     under_way_so A (sound.nodes _ A at_a) a B (sound.nodes _ B at_b) b x to
-    (shared A.opening.links B.opening.links) there here joined
-    (carried_to w.nodes sound.nodes sound.late x (sound.wired n x stands)
-    (sound.carried n x stands) to A B a b at_a at_b far near opens) up k keeps
-  where
-    opens : is_open b B.entries ≡ true
-    opens = (and_parts (is_open b B.entries) (is_whole b B.entries) up).0
-
-    there : Speaks A.opening a (shared A.opening.links B.opening.links) A.entries
-    there = sound.spoken n x stands (other to) A B a at_a
-        (ap (λ s. slice_get w.nodes (node_at s x)) (other_twice to) ∙ at_b) far
-
-    here : Speaks B.opening b (shared A.opening.links B.opening.links) B.entries
-    here = subst (λ v. Speaks B.opening b v B.entries)
-        (shared_sym B.opening.links A.opening.links)
-        (sound.spoken n x stands to B A b at_b at_a near)
-
-    joined_by : (s : Side) → slice_get w.nodes (node_at (other s) x) ≡ Some A
-        → slice_get w.nodes (node_at s x) ≡ Some B → link_at (other s) x ≡ Some a
-        → link_at s x ≡ Some b → IsJoined A a B b
-    joined_by side.Acceptor p q far near =
-        subst (λ l. IsJoined A l B b) (value_of far)
-        (at_acceptor w.nodes sound.nodes sound.late x (sound.wired n x stands)
-        (sound.carried n x stands) A B b p q near opens)
-    joined_by side.Dialler p q far near =
-        subst (λ l. IsJoined A a B l) (value_of near)
-        (at_dialler w.nodes sound.nodes sound.late x (sound.wired n x stands)
-        (sound.carried n x stands) A B a p q far
-        (subst (λ l. is_open l B.entries ≡ true) (sym (value_of near)) opens))
-
-    joined : IsJoined A a B b
-    joined = joined_by to at_a at_b far near
+    (shared A.opening.links B.opening.links) speak.0 speak.1
+    (joined ties to A B a b at_a at_b far near opens)
+    (carried_to ties to A B a b at_a at_b far near opens) up k keeps

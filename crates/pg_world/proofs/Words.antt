@@ -3,7 +3,7 @@ use Rattle.pg_world.specs
 pub use Rattle.std.proofs.Common.{ap, arith, Bool, codes, cond, drop, Err, false, get_or, inl, inr}
 pub use Rattle.std.proofs.Common.{IsTrue, length, List, nat_eq, None, not, Ok, Option, refl, Some}
 pub use Rattle.std.proofs.Common.{subst, suc, sym, take, true, zero, ℕ, [], ◌&&◌, ◌++◌, ◌+◌, ◌<◌}
-pub use Rattle.std.proofs.Common.{◌||◌, ◌∙◌, ◌∷◌, ◌≡◌, ◌≢◌, ◌≤◌}
+pub use Rattle.std.proofs.Common.{◌∙◌, ◌∷◌, ◌≡◌, ◌≢◌, ◌≤◌}
 pub use Rattle.std.proofs.lemmas.Bool.{and_parts, eq-eqb, eqb-false, eqb-true, ltb-true}
 pub use Rattle.std.proofs.lemmas.Bool.Decides.{Decides-eqb}
 pub use Rattle.std.proofs.lemmas.List.{append-nil, append_assoc, drop-append-le, length-append}
@@ -21,7 +21,6 @@ pub use Rattle.std.specs.Prelude.{bytes_eq, is_some, nat_lt, slice_get, slice_se
 pub use Rattle.std.specs.declared.result.Result.{Result}
 pub use Rattle.dist_types.proofs.LimitLemmas.{names_compute, texts_compute}
 pub use Rattle.dist_types.proofs.Orders.{same_decides}
-pub use Rattle.dist_types.specs.Difference.{is_empty}
 pub use Rattle.dist_types.specs.Listing.{same}
 pub use Rattle.dist_types.specs.Text.{IsNodeName, IsText}
 pub use Rattle.dist_types.specs.declared.pid.Pid.{Pid}
@@ -43,17 +42,14 @@ pub use Rattle.frame_laws.specs.Sent.{bodies_of, came, delivered, frames_of, han
 pub use Rattle.frame_laws.specs.Sent.{sent}
 pub use Rattle.frame_laws.specs.Spoken.{begun_of, frames_said, Speaks}
 pub use Rattle.frame_laws.specs.Written.{IsNode, IsWritten}
-pub use Rattle.frame_laws.proofs.Spoken.{speaks_now}
 pub use Rattle.frame_laws.proofs.BegunPlaces.{IsCut, out_cut}
 pub use Rattle.frame_laws.proofs.Calm.{said_apart}
 pub use Rattle.frame_laws.specs.BegunAt.{IsBegun}
-pub use Rattle.link_frames.specs.Parts.{Begun, begun_by, KeepsOrNot, parts}
+pub use Rattle.link_frames.specs.Parts.{Begun, KeepsOrNot, parts}
 pub use Rattle.link_frames.specs.declared.message.Message.{Message}
 pub use Rattle.std.proofs.Math.Seq.{take-append-add, take-length}
-pub use Rattle.policy_audit.proofs.Accepted.{accepted, lie, no_value, open_first}
-pub use Rattle.policy_audit.proofs.Effects.{entry_link}
-pub use Rattle.policy_audit.proofs.NewLinks.{opened_apart}
-pub use Rattle.policy_audit.proofs.Walked.{but, unborn}
+pub use Rattle.policy_audit.proofs.Accepted.{accepted, lie, no_value}
+pub use Rattle.policy_audit.proofs.Walked.{but}
 pub use Rattle.handshake_frames.specs.Frame.{Name}
 pub use Rattle.node_core.specs.declared.fault.CoreFault.{CoreFault}
 pub use Rattle.policy_audit.proofs.ChangeLemmas.{next_is}
@@ -86,13 +82,13 @@ pub use Rattle.node_core.specs.Step.{IsStepped}
 pub use borrow.Author.Count.{below_more}
 pub use specs.Exchange.{Comes, exchange, fresh, IsBehind, IsExchanged, join_again, two_nodes}
 pub use specs.Queues.{Answers, count_handed, cut_by, frames_in, is_gone, joined_by, leaves, left_by}
-pub use specs.Queues.{link_opened, oldest, place_dialled, plain}
+pub use specs.Queues.{link_opened, oldest, plain}
 pub use specs.Refusals.{keeps_wires}
 pub use specs.Sound.{bodies, came_of, Carries, FramesAreLate, gets_of, handed_of, HasEnd, IsEnd}
 pub use specs.Sound.{IsLate, IsWired, IsWorld, IsWrittenStep, shared, SpeaksShared}
 pub use specs.Starting.{AreNew, IsNew}
 pub use specs.Steps.{answer_of, Asks, asks, asks_frame, asks_opened, at_end, changed, changed_queue}
-pub use specs.Steps.{end_at, is_wrong, IsAsked, IsWorldStep, link_end, new_wire, opener, opener_at}
+pub use specs.Steps.{end_at, is_wrong, IsWorldStep, link_end, new_wire, opener, opener_at}
 pub use specs.Steps.{queue_at, Refuses, Turn, turn_of, Turns, wire_end, wire_opener, wires_after}
 pub use specs.Views.{AreEnds, hears_node, ListMoments, ListNow}
 pub use specs.World.{dialled, DifferInName, HaveNodes, histories, link_at, node_at, Nodes, other}

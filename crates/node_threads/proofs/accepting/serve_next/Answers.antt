@@ -2,7 +2,7 @@ use Rattle.node_threads.proofs
 use Rattle.std.proofs.Common.{sym}
 use Rattle.node_threads.specs.Drawing.{new_challenges}
 use proofs.Pairs.{turned, will_serve}
-use proofs.Drawn.{rests, spent, spent_last, spent_none, will_have}
+use proofs.Drawn.{spent, spent_last, spent_none, will_have}
 use Rattle.node_threads.proofs.accepting.serve_next.Goals as goal
 
 pub returns-then-is_some-clause-drawn : goal.returns-then-is_some-clause-drawn

@@ -8,7 +8,7 @@ use Rattle.policy_audit.specs.Log.{kept_at}
 use specs.declared.pass.Call.{Call}
 use specs.Closing.{AreLast, at_seat, Precede}
 use proofs.Settling.{at_read, before_last, last_before, last_of_none, precede_last}
-use proofs.Walked.{holds_kept, up_to, up_to_last, up_to_next, up_to_none}
+use proofs.Walked.{holds_kept, up_to, up_to_next, up_to_none}
 use Rattle.node_threads.proofs.close.are_last.Goals as goal
 
 pub loop-entry-preserved : goal.loop-entry-preserved

@@ -1,6 +1,5 @@
 use Rattle.std.proofs.Common.{arith, inl, length, List, refl, [], ◌∷◌, ◌≡◌}
 use Rattle.node_threads.specs.declared.pass.Call.{Call}
-use Rattle.node_threads.proofs.Settling.{precede_none, precede_one}
 use Rattle.node_threads.proofs.close.earlier_calls.Goals as goal
 
 nothing : (calls : List Call) → length calls ≡ 0 → calls ≡ []

@@ -1,5 +1,5 @@
 use Rattle.node_threads.proofs
-use Rattle.std.proofs.Common.{append-nil, refl, take, ℕ, [], ◌++◌}
+use Rattle.std.proofs.Common.{append-nil, refl, take, [], ◌++◌}
 use Rattle.std.specs.Io.KnownBytes.{Consumes}
 use Rattle.std.proofs.KnownBytes.{Consumes-kept, Consumes-trans}
 use proofs.Steps.{reads_lighter, reads_then, reads_to_end, reads_to_stop, stops_then}

@@ -1,16 +1,14 @@
 use Rattle.pg_world.specs
 use Rattle.pg_world.proofs
-use proofs.Words.{ap, asks, cond, Refuses, subst, sym, Turns, world, WorldFault, ◌∙◌}
+use proofs.Words.{asks, cond, Refuses, subst, sym, Turns, world, WorldFault, ◌∙◌}
 use proofs.Turning.{refused}
 use specs.Steps.{IsWorldStep}
 use Rattle.pg_world.proofs.moving.call.Goals as goal
 use specs.declared.world_step.WorldStep.TheVariants as step
 
 pub returns-then-is_wrong : goal.returns-then-is_wrong
-returns-then-is_wrong c = λ xs. refused (world c.args.nodes.now xs)
-    (step.Call c.args.node c.args.seat c.args.event) WorldFault.WrongEvent
-    (ap (λ b. cond b (Refuses WorldFault.WrongEvent) (asks c.args.nodes.now c.args.node c.args.seat
-    c.args.event)) (sym c.is_wrong.ensures ∙ c.if-is_wrong.true))
+returns-then-is_wrong c = λ xs. refused _ _
+    (rw (← c.is_wrong.ensures, c.if-is_wrong.true))
 
 pub returns : goal.returns
 unfolding IsWorldStep

@@ -1,5 +1,5 @@
 use Rattle.pg_world.proofs
-use proofs.Words.{arith, below_more, histories, History, IsNew, length, slice_get, slice_get_within}
+use proofs.Words.{arith, below_more, histories, History, IsNew, slice_get, slice_get_within}
 use proofs.Words.{Some, subst, sym, ◌∙◌, ◌≡◌}
 use proofs.Naming.{stands}
 use proofs.Puts.{value_of}

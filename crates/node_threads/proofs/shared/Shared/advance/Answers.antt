@@ -1,10 +1,10 @@
 use Rattle.node_threads.proofs
 use Rattle.node_threads.specs
-use Rattle.std.proofs.Common.{ap, arith, false, length, List, subst, sym, ◌<◌, ◌∙◌, ◌≡◌}
+use Rattle.std.proofs.Common.{ap, arith, length, List, subst, sym, ◌∙◌}
 use Rattle.std.proofs.lemmas.List.{get_or_default}
 use Rattle.policy_audit.specs.declared.entry.Entry.{Entry}
 use Rattle.policy_audit.specs.History.{audited}
-use Rattle.policy_audit.specs.Policy.{is_full, next_number}
+use Rattle.policy_audit.specs.Policy.{next_number}
 use specs.Calls.{entries_of}
 use specs.Room.{IsSound, Room}
 use specs.Applied.{room_after}
@@ -14,13 +14,11 @@ use Rattle.node_threads.proofs.shared.Shared.advance.Goals as goal
 -- a count is at most that of all entries before, and those are fewer than 2^32
 pub overflow_add-index_mut : goal.overflow_add-index_mut
 overflow_add-index_mut c =
-    let free : is_full c.self.inside.core.history ≡ false = ap (λ (r : Room). is_full r.history)
-    c.self.view_is ∙ c.requires.free in
+    let free = rw (← c.self.view_is) at c.requires.free in
     let entries = audited_after c.self.inside.core.history c.judge.new.core.history c.args.seat
     c.args.event free
     c.in_ok-verdict.ensures.entered in
-    let within = subst (λ (r : Room). c.args.seat < length r.counts) (sym c.self.view_is)
-    c.requires.seat in
+    let within = rw (← c.self.view_is) at c.requires.seat in
     let here = get_or_default c.self.inside.counts.items c.args.seat 0 c.index_mut.result.now
     within in
     omega (
@@ -37,8 +35,7 @@ overflow_add-index_mut c =
 
 pub returns-clause-number : goal.returns-clause-number
 returns-clause-number c =
-    let free : is_full c.self.inside.core.history ≡ false = ap (λ (r : Room). is_full r.history)
-    c.self.view_is ∙ c.requires.free in
+    let free = rw (← c.self.view_is) at c.requires.free in
     c.len-number.ensures ∙ c.audit.ensures.count
     ∙ number_after c.self.inside.core.history c.judge.new.core.history c.args.seat c.args.event free
     c.in_ok-verdict.ensures.entered
@@ -46,10 +43,8 @@ returns-clause-number c =
 
 pub invariant_of-self-2 : goal.invariant_of-self-2
 invariant_of-self-2 c =
-    let free : is_full c.self.inside.core.history ≡ false = ap (λ (r : Room). is_full r.history)
-    c.self.view_is ∙ c.requires.free in
-    let within = subst (λ (r : Room). c.args.seat < length r.counts) (sym c.self.view_is)
-    c.requires.seat in
+    let free = rw (← c.self.view_is) at c.requires.free in
+    let within = rw (← c.self.view_is) at c.requires.seat in
     sound_moved c.self.inside.core.history c.judge.new.core.history c.self.inside.counts.items
     c.self.inside.core.forgotten c.judge.new.core.forgotten c.args.seat c.index_mut.result.now
     c.args.event free c.in_ok-verdict.ensures.entered within
@@ -57,10 +52,8 @@ invariant_of-self-2 c =
 
 pub returns-clause-room : goal.returns-clause-room
 returns-clause-room c =
-    let free : is_full c.self.inside.core.history ≡ false = ap (λ (r : Room). is_full r.history)
-    c.self.view_is ∙ c.requires.free in
-    let within = subst (λ (r : Room). c.args.seat < length r.counts) (sym c.self.view_is)
-    c.requires.seat in
+    let free = rw (← c.self.view_is) at c.requires.free in
+    let within = rw (← c.self.view_is) at c.requires.seat in
     c.note_entry.ensures
     ∙ room_moved c.self.inside.core.history c.judge.new.core.history c.self.inside.counts.items
     c.self.inside.core.forgotten c.judge.new.core.forgotten c.args.seat c.index_mut.result.now
@@ -70,10 +63,8 @@ returns-clause-room c =
 
 pub returns-clause-left : goal.returns-clause-left
 returns-clause-left c =
-    let free : is_full c.self.inside.core.history ≡ false = ap (λ (r : Room). is_full r.history)
-    c.self.view_is ∙ c.requires.free in
-    let within = subst (λ (r : Room). c.args.seat < length r.counts) (sym c.self.view_is)
-    c.requires.seat in
+    let free = rw (← c.self.view_is) at c.requires.free in
+    let within = rw (← c.self.view_is) at c.requires.seat in
     subst IsSound (sym c.note_entry.ensures)
     (sound_moved c.self.inside.core.history c.judge.new.core.history c.self.inside.counts.items
     c.self.inside.core.forgotten c.judge.new.core.forgotten c.args.seat c.index_mut.result.now
@@ -82,8 +73,7 @@ returns-clause-left c =
 
 pub returns-clause-few : goal.returns-clause-few
 returns-clause-few c =
-    let free : is_full c.self.inside.core.history ≡ false = ap (λ (r : Room). is_full r.history)
-    c.self.view_is ∙ c.requires.free in
+    let free = rw (← c.self.view_is) at c.requires.free in
     let entries = audited_after c.self.inside.core.history c.judge.new.core.history c.args.seat
     c.args.event free
     c.in_ok-verdict.ensures.entered in

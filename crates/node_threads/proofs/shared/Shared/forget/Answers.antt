@@ -1,4 +1,4 @@
-use Rattle.std.proofs.Common.{ap, IfNone, None, OnSome, Option, Some, subst, sym, ◌∙◌, ◌≡◌}
+use Rattle.std.proofs.Common.{ap, IfNone, None, OnSome, Option, Some, subst, sym, ◌∙◌}
 use Rattle.node_core.specs.Recorded.{IsSpare, Recorded}
 use Rattle.node_threads.specs.Room.{recorded, Room, room_of}
 use Rattle.node_threads.proofs.shared.Shared.forget.Goals as goal
