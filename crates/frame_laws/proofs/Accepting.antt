@@ -1,22 +1,21 @@
 -- Where a peer is heard, its scope runs, its link is up and visible; and what it may say is
 -- accepted.
 use Rattle.frame_laws.proofs
-use proofs.Words.{Accepted, accepted, agrees, always, and_parts, ap, AreFrom, AreStated, arith}
-use proofs.Words.{awaits, Begun, begun, Bool, but, cond, Entry, eqb-true, Event, events, false}
-use proofs.Words.{fewer_length, filter, filter-append, first_broken, flat_map, frame_checks}
-use proofs.Words.{frame_taken, fresh, group_named, groups, groups_are, groups_named, has_sync}
-use proofs.Words.{HasRoom, heard, heard_runs, heard_whole, History, how_many_append, is_accepted}
-use proofs.Words.{is_from, is_full, is_local, is_open, is_peer, is_running, is_up, is_visible}
-use proofs.Words.{is_whole, IsListing, IsPlayed, IsPlayedIn, IsRowListing, judged, judgement}
-use proofs.Words.{kept_peers, le-leb, length, length-append, lie, List, list_all, list_all-append}
-use proofs.Words.{listed, listed_named, map, MaySay, members, members_are, Message2, message_checks}
-use proofs.Words.{nat_le, None, occurrences, open_first, opened, Opening, Option, option_map_or}
+use proofs.Words.{Accepted, agrees, and_parts, ap, AreFrom, AreStated, arith, Begun, Bool, but}
+use proofs.Words.{cond, Entry, eqb-true, Event, events, false, fewer_length, filter, filter-append}
+use proofs.Words.{first_broken, flat_map, frame_taken, fresh, group_named, groups, groups_are}
+use proofs.Words.{groups_named, has_sync, HasRoom, heard, heard_runs, heard_whole, History}
+use proofs.Words.{how_many_append, is_accepted, is_from, is_full, is_local, is_peer, is_running}
+use proofs.Words.{is_up, is_visible, is_whole, IsListing, IsPlayed, IsPlayedIn, IsRowListing}
+use proofs.Words.{judgement, kept_peers, le-leb, length, length-append, lie, List, list_all}
+use proofs.Words.{list_all-append, listed, listed_named, map, MaySay, members, members_are}
+use proofs.Words.{Message2, message_checks, nat_le, None, occurrences, opened, Opening, Option}
 use proofs.Words.{PartKind, past, peer_foreign, peer_limit, peer_of, peer_rows, Pid, pid_named}
-use proofs.Words.{pids_named, present_link, refl, Refused, Reply, Row, row, rows_are, rows_before}
-use proofs.Words.{rows_kept, rows_of, Rule, said_at, same, same_decides, same_pid, same_row}
-use proofs.Words.{same_row_decides, scope_in, so_far, Some, stands_in, stated, subst, sym, taken}
-use proofs.Words.{talk, talk_of, true, Verdict, verdict, whole_awaits, ℕ, [], ◌&&◌, ◌++◌, ◌+◌, ◌<◌}
-use proofs.Words.{◌==◌, ◌∙◌, ◌∷◌, ◌≡◌, ◌≤◌}
+use proofs.Words.{pids_named, present_link, refl, Reply, Row, row, rows_are, rows_before}
+use proofs.Words.{rows_kept, rows_of, said_at, same, same_decides, same_pid, same_row}
+use proofs.Words.{same_row_decides, scope_in, so_far, Some, stands_in, stated, sym, taken, talk}
+use proofs.Words.{talk_of, true, Verdict, verdict, whole_awaits, ℕ, [], ◌&&◌, ◌++◌, ◌+◌, ◌<◌, ◌==◌}
+use proofs.Words.{◌∙◌, ◌∷◌, ◌≡◌, ◌≤◌}
 
 -- ---- a peer that is heard is visible
 
@@ -24,15 +23,7 @@ module _ (o : Opening) (s : List ℕ) where
   -- a message is accepted over a visible link alone
   shown_by : (es : List Entry) (k : ℕ) (f : Message2)
       → first_broken (message_checks (past o es) k f) ≡ None → is_visible (past o es) k ≡ true
-  shown_by es k (Message2.Discover t) met = grind arith
-  shown_by es k (Message2.Part kind t number last rows) met = grind arith
-  shown_by es k (Message2.Down t) met = grind arith
-
-  taken_shows : (es : List Entry) (k : ℕ) (x : Option Message2)
-      → first_broken (option_map_or (message_checks (past o es) k) x (always Rule.BadFrame)) ≡ None
-      → is_visible (past o es) k ≡ true
-  taken_shows es k None met = cc
-  taken_shows es k (Some f) met = shown_by es k f met
+  shown_by es k f met = grind arith
 
   module _ (es : List Entry) (e : Entry) (legal : IsPlayedIn o es) (fresh_is : opened e.number es
       ≡ None)
@@ -47,13 +38,7 @@ module _ (o : Opening) (s : List ℕ) where
         es) ≡ true → is_whole l es ≡ true → is_visible (past o es) l ≡ true
     framed k body r q so_far false other said w = so_far said
     framed k body r q so_far true is said w =
-        let met = (open_first (is_open k es) (frame_checks (past o es) k body (awaits k es))
-        (accepted (past o es) e.seat (Event.Frame k body) r q).0).1 in
-        let own = subst (λ j. first_broken (frame_checks (past o es) j body (awaits j es)) ≡ None)
-        (eqb-true k l is) met in
-        taken_shows es l (frame_taken o l es body)
-        (subst (λ a. first_broken (frame_checks (past o es) l body a) ≡ None)
-        (whole_awaits (opened l es) (taken l es) w) own)
+        grind (arith, eqb-true k l is, whole_awaits (opened l es) (taken l es) w)
 
     shown_after : (k : ℕ) (body : List ℕ) (r : Reply) (b : Bool) → (k == l) ≡ b
         → is_whole l es ≡ true → is_visible (past o es) l ≡ true
@@ -70,28 +55,7 @@ module _ (o : Opening) (s : List ℕ) where
         by true w = shown_after k body r (k == l) refl w
             (framed k body r q so_far (k == l) refl said w)
         by false un = lie (sym (heard_whole o es legal l s (grind (arith, un, said))) ∙ un)
-    by_event (Event.Opened c) (Accepted r) q so_far said =
-        grind (
-          arith,
-          fresh_is,
-          so_far,
-          said,
-          heard_whole o es legal l s,
-          eqb-true e.number l,
-        )
-    by_event (Event.Dial n c) (Accepted r) q so_far said =
-        grind (
-          arith,
-          fresh_is,
-          so_far,
-          said,
-          heard_whole o es legal l s,
-          eqb-true e.number l,
-        )
-    by_event (Event.StopScope t) (Accepted r) q so_far said = grind arith
-    by_event Event.Restart (Accepted r) q so_far said = cc
-    by_event ev (Accepted r) q so_far said = so_far said
-    by_event ev (Refused r) q so_far said = so_far said
+    by_event ev w q so_far said = grind arith
 
   heard_visible : (es : List Entry) → IsPlayedIn o es → (l : ℕ) → has_sync s (talk o l es) ≡ true
       → is_visible (past o es) l ≡ true
@@ -139,9 +103,7 @@ module _ (h : History) (legal : IsPlayed h) (l : ℕ) (s : List ℕ)
 
   listed_from : (g : List ℕ) (p : Pid) → is_from l es p ≡ true
       → listed h s g p ≡ stated h.opening l s g p es
-  listed_from g p from =
-      listed_is p (from_peer p from) g ∙ ap (λ b. cond b (stated h.opening l s g p es) 0)
-      from
+  listed_from g p from = grind (arith, listed_is p (from_peer p from) g)
 
   -- a Leave's rows are listed
   are_listed : (rows : List Row) → AreStated h l s rows → (some : List Row)
@@ -149,16 +111,7 @@ module _ (h : History) (legal : IsPlayed h) (l : ℕ) (s : List ℕ)
       → list_all (λ r. nat_le (rows_of r.group r.pid rows) (listed h s r.group r.pid)) some ≡ true
   are_listed rows within [] from = refl
   are_listed rows within (r ∷ some) from =
-      let both = and_both_of (is_from l es r.pid) (list_all (λ x. is_from l es x.pid) some) from in
-      (λ i. first r both.0 i && are_listed rows within some both.1 i)
-    where
-      and_both_of : (a b : Bool) → (a && b) ≡ true → (a ≡ true) × (b ≡ true)
-      and_both_of a b q = ((and_parts a b q).0, (and_parts a b q).1)
-
-      first : (r : Row) → is_from l es r.pid ≡ true
-          → nat_le (rows_of r.group r.pid rows) (listed h s r.group r.pid) ≡ true
-      first r from = (let is = listed_from r.group r.pid from in let less = within r in
-          le-leb (rows_of r.group r.pid rows) (listed h s r.group r.pid) (omega (arith, is, less)))
+      grind (arith, listed_from r.group r.pid, are_listed rows within some)
 
   -- ---- how many rows of the peer are listed
 
@@ -200,19 +153,12 @@ module _ (h : History) (legal : IsPlayed h) (l : ℕ) (s : List ℕ)
       (λ p. is_peer p.node l es) (flat_map (members h s) gs))
   peer_length [] = refl
   peer_length (g ∷ gs) =
-      ap length (filter-append of_peer (map (row g) (members h s g)) (rows_in_groups gs))
-      ∙ length-append (filter of_peer (map (row g) (members h s g)))
-      (filter of_peer (rows_in_groups gs))
-      ∙ (λ i. group_length g (members h s g) i + peer_length gs i)
-      ∙ sym (ap length (filter-append (λ p. is_peer p.node l es) (members h s g)
-      (flat_map (members h s) gs)) ∙ length-append (filter (λ p. is_peer p.node l es)
-      (members h s g)) (filter (λ p. is_peer p.node l es) (flat_map (members h s) gs)))
+      simp (filter-append, length-append, group_length g (members h s g), peer_length gs)
 
   stated_most : (r : Row) (b : Bool) → of_peer r ≡ b → (c : Bool) → is_from l es r.pid ≡ c
       → cond (of_peer r) (listed h s r.group r.pid) 0 ≤ stated h.opening l s r.group r.pid es
   stated_most r true its true from = grind (arith, listed_from r.group r.pid from, its)
-  stated_most r true its false other =
-      (let is = listed_is r.pid its r.group in grind (arith, its, is, other))
+  stated_most r true its false other = grind (arith, listed_is r.pid its r.group)
   stated_most r false other c from = grind arith
 
   has_room : (rows : List Row) → HasRoom h l s rows
@@ -234,8 +180,7 @@ module _ (h : History) (legal : IsPlayed h) (l : ℕ) (s : List ℕ)
           let counted = peer_counts r (rows_in_groups (groups h s)) ∙ ap (λ n. cond (of_peer r) n 0)
           (IsListing.counts rows_listed r) in
           let most = stated_most r (of_peer r) refl (is_from l es r.pid) refl in
-          let stated_so = it.counts r in
-          omega (arith, both, counted, most, stated_so)
+          omega arith
 
 -- ---- what it may say breaks no rule
 
@@ -244,110 +189,57 @@ module _ (h : History) (legal : IsPlayed h) (l : ℕ) where
   before_from : (b : Option Begun) (kind : PartKind) (s : List ℕ) (number : ℕ)
       → list_all (λ r. is_from l h.entries r.pid) (rows_kept b) ≡ true
       → list_all (λ r. is_from l h.entries r.pid) (rows_before b kind s number) ≡ true
-  before_from None kind s number q = grind arith
-  before_from (Some b) kind s number q = grind arith
+  before_from y kind s number q = grind arith
 
   so_far_from : (kind : PartKind) (s : List ℕ) (number : ℕ) (rows : List Row) → AreFrom h l rows
       → AreFrom h l (so_far h l kind s number rows)
   so_far_from kind s number rows from =
-      list_all-append (λ r. is_from l h.entries r.pid)
-      (rows_before (begun h.opening l h.entries) kind s number) rows
-      ∙ (λ i. before_from (begun h.opening l h.entries) kind s number
-      (kept_peers h.opening h.entries legal l) i && from i)
+      grind (arith, list_all-append, kept_peers h.opening h.entries legal l)
 
-  module _ (s : List ℕ) (shown : is_visible h l ≡ true) (runs : is_running h s ≡ true) where
-    pub sync_met : (number : ℕ) (last : Bool) (rows : List Row)
-        → MaySay h l (Message2.Part PartKind.Sync s number last rows)
-        → first_broken (message_checks h l (Message2.Part PartKind.Sync s number last rows)) ≡ None
-    sync_met number last rows may =
-        grind (
-          arith,
-          shown,
-          runs,
-          may.0,
-          may.1,
-          le-leb (length (so_far h l PartKind.Sync s number rows)) (peer_limit h l) may.2,
-        )
+  pub sync_met : (s : List ℕ) → is_visible h l ≡ true → is_running h s ≡ true
+      → (number : ℕ) (last : Bool) (rows : List Row)
+      → MaySay h l (Message2.Part PartKind.Sync s number last rows)
+      → first_broken (message_checks h l (Message2.Part PartKind.Sync s number last rows)) ≡ None
+  sync_met s shown runs number last rows may =
+      grind arith
 
-    module _ (hears_so : heard h.opening l s h.entries ≡ true) where
-      join_met : (number : ℕ) (last : Bool) (rows : List Row)
-          → MaySay h l (Message2.Part PartKind.Join s number last rows)
-          → first_broken (message_checks h l (Message2.Part PartKind.Join s number last rows))
-          ≡ None
-      join_met number last rows may =
-          grind (
-            arith,
-            shown,
-            runs,
-            hears_so,
-            may.0,
-            may.1,
-            has_room h legal l s hears_so (so_far h l PartKind.Join s number rows) may.2,
-          )
-
-      leave_met : (number : ℕ) (last : Bool) (rows : List Row)
-          → MaySay h l (Message2.Part PartKind.Leave s number last rows)
-          → first_broken (message_checks h l (Message2.Part PartKind.Leave s number last rows))
-          ≡ None
-      leave_met number last rows may =
-          let listed_so = are_listed h legal l s hears_so
-          (so_far h l PartKind.Leave s number rows) may.2
-          (so_far h l PartKind.Leave s number rows)
-          (so_far_from PartKind.Leave s number rows may.1) in
-          grind (arith, shown, runs, hears_so, may.0, may.1, listed_so)
-
-      here_met : (m : Message2) → scope_in m ≡ s → MaySay h l m
-          → first_broken (message_checks h l m) ≡ None
-      here_met (Message2.Discover t) is may =
-          subst (λ u. MaySay h l (Message2.Discover u)
-          → first_broken (message_checks h l (Message2.Discover u)) ≡ None) (sym is)
-          (λ can. grind (arith, shown, runs, can)) may
-      here_met (Message2.Down t) is may =
-          subst (λ u. first_broken (message_checks h l (Message2.Down u)) ≡ None) (sym is)
-          (grind (arith, shown, runs))
-      here_met (Message2.Part PartKind.Sync t number last rows) is may =
-          subst (λ u. MaySay h l (Message2.Part PartKind.Sync u number last rows)
-          → first_broken (message_checks h l (Message2.Part PartKind.Sync u number last rows))
-          ≡ None) (sym is) (sync_met number last rows) may
-      here_met (Message2.Part PartKind.Join t number last rows) is may =
-          subst (λ u. MaySay h l (Message2.Part PartKind.Join u number last rows)
-          → first_broken (message_checks h l (Message2.Part PartKind.Join u number last rows))
-          ≡ None) (sym is) (join_met number last rows) may
-      here_met (Message2.Part PartKind.Leave t number last rows) is may =
-          subst (λ u. MaySay h l (Message2.Part PartKind.Leave u number last rows)
-          → first_broken (message_checks h l (Message2.Part PartKind.Leave u number last rows))
-          ≡ None) (sym is) (leave_met number last rows) may
+  pub heard_met : (m : Message2) → heard h.opening l (scope_in m) h.entries ≡ true → MaySay h l m
+      → first_broken (message_checks h l m) ≡ None
+  heard_met (Message2.Discover s) hears may =
+      grind (arith, shows h legal l s hears, scope_runs h legal l s hears)
+  heard_met (Message2.Down s) hears may =
+      grind (arith, shows h legal l s hears, scope_runs h legal l s hears)
+  heard_met (Message2.Part PartKind.Sync s number last rows) hears may =
+      sync_met s (shows h legal l s hears) (scope_runs h legal l s hears) number last rows may
+  heard_met (Message2.Part PartKind.Join s number last rows) hears may =
+      grind (
+        arith,
+        shows h legal l s hears,
+        scope_runs h legal l s hears,
+        has_room h legal l s hears (so_far h l PartKind.Join s number rows) may.2,
+      )
+  heard_met (Message2.Part PartKind.Leave s number last rows) hears may =
+      let all = so_far h l PartKind.Leave s number rows in
+      grind (
+        arith,
+        shows h legal l s hears,
+        scope_runs h legal l s hears,
+        are_listed h legal l s hears all may.2 all (so_far_from PartKind.Leave s number rows may.1),
+      )
 
   -- what meets the rules of messages is accepted on a link that is up
   pub admits : is_up l h.entries ≡ true → (seat : ℕ) (body : List ℕ) (m : Message2)
       → frame_taken h.opening l h.entries body ≡ Some m
       → first_broken (message_checks h l m) ≡ None
       → is_accepted (judgement h seat (Event.Frame l body)) ≡ true
-  admits up_there seat body m says met =
-      let up = and_parts (is_open l h.entries) (is_whole l h.entries) up_there in
-      let awaited = whole_awaits (opened l h.entries) (taken l h.entries) up.1 in
-      let checked =
-      ap (λ x. first_broken (option_map_or (message_checks h l) x (always Rule.BadFrame))) says
-      ∙ met in
-      ap (λ b. accepted_by (first_broken
-      (cond b (frame_checks h l body (awaits l h.entries)) (always Rule.NoSuchLink)))) up.0
-      ∙ ap (λ a. accepted_by (first_broken (frame_checks h l body a))) awaited
-      ∙ ap accepted_by checked
-    where
-      accepted_by : Option Rule → Bool
-      accepted_by x = is_accepted (judged h seat (Event.Frame l body) x)
+  admits up_there seat body m says met = grind arith
 
-  pub heard_met : (s : List ℕ) → heard h.opening l s h.entries ≡ true → (m : Message2)
-      → scope_in m ≡ s → MaySay h l m → first_broken (message_checks h l m) ≡ None
-  heard_met s hears_so m is may = here_met s (shows h legal l s hears_so)
-      (scope_runs h legal l s hears_so) hears_so m is may
-
-  pub accepts : (s : List ℕ) → heard h.opening l s h.entries ≡ true
-      → (seat : ℕ) (body : List ℕ) (m : Message2) → is_full h ≡ false
-      → frame_taken h.opening l h.entries body ≡ Some m → scope_in m ≡ s → MaySay h l m
+  pub accepts : (seat : ℕ) (body : List ℕ) (m : Message2) → is_full h ≡ false
+      → frame_taken h.opening l h.entries body ≡ Some m
+      → heard h.opening l (scope_in m) h.entries ≡ true → MaySay h l m
       → is_accepted (verdict h seat (Event.Frame l body)) ≡ true
-  accepts s hears_so seat body m room says is may =
-      ap (λ b. is_accepted (cond b (Refused Rule.EntriesFull)
-      (judgement h seat (Event.Frame l body)))) room
-      ∙ admits (is_up_there h legal l s hears_so) seat body m says
-      (heard_met s hears_so m is may)
+  accepts seat body m room says hears may =
+      grind (
+        arith,
+        admits (is_up_there h legal l (scope_in m) hears) seat body m says (heard_met m hears may),
+      )

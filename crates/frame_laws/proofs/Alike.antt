@@ -1,14 +1,13 @@
 -- What an accepted message makes of what is kept, and of what all that came makes.
 use Rattle.frame_laws.proofs
-use proofs.Words.{Accepted, accepted, all_hold, always, and_parts, ap, arith, awaits, Begun, begun}
-use proofs.Words.{begun_of, Bool, but, completed, cond, delivered, Entry, eqb-true, Event, false}
-use proofs.Words.{first_broken, follows, frame_checks, frame_taken, heard, History, is_next}
-use proofs.Words.{is_open, is_up, is_whole, IsPlayedIn, IsStep, judgement, kept_after, lie}
-use proofs.Words.{link_version, List, Message, Message2, message_checks, message_of, message_taken}
-use proofs.Words.{None, none_begun, open_first, Opening, Option, option_and_then, option_map_or}
-use proofs.Words.{option_to_list, PartKind, past, Pid, refl, Reply, Row, rows_before, Rule, same}
-use proofs.Words.{same_decides, seen_by, Some, subst, sym, true, unbroken, ℕ, [], ◌&&◌, ◌++◌, ◌==◌}
-use proofs.Words.{◌||◌, ◌∙◌, ◌≡◌}
+use proofs.Words.{Accepted, accepted, all_hold, always, ap, arith, awaits, Begun, begun, begun_of}
+use proofs.Words.{Bool, but, completed, cond, delivered, Entry, eqb-true, Event, false}
+use proofs.Words.{first_broken, frame_checks, frame_taken, heard, History, is_next, is_open, is_up}
+use proofs.Words.{is_whole, IsPlayedIn, IsStep, judgement, kept_after, lie, link_version, List}
+use proofs.Words.{Message, Message2, message_checks, message_of, message_taken, None, none_begun}
+use proofs.Words.{open_first, Opening, Option, option_and_then, option_map_or, option_to_list}
+use proofs.Words.{PartKind, past, Pid, Reply, Row, rows_before, Rule, same, same_decides, seen_by}
+use proofs.Words.{Some, subst, sym, true, unbroken, ℕ, ◌&&◌, ◌++◌, ◌==◌, ◌||◌, ◌∙◌, ◌≡◌}
 use proofs.KeptStands.{rules_met}
 use proofs.NotRefused.{kept_of}
 
@@ -30,15 +29,11 @@ module _ (v : ℕ) (o : Opening) (es : List Entry) (e : Entry) (legal : IsPlayed
   bodies = delivered l es
 
   pub some_whole : kept_of s (begun o l es) ≡ true → is_whole l es ≡ true
-  some_whole q = by (is_whole l es) refl
-    where
-      by : (b : Bool) → is_whole l es ≡ b → is_whole l es ≡ true
-      by true w = w
-      by false un = lie (sym q ∙ ap (kept_of s) (none_begun o es legal l un))
+  some_whole q = grind (arith, none_begun o es legal l)
 
   pub taken_same : (body : List ℕ) → is_whole l es ≡ true
       → frame_taken o l es body ≡ message_taken v body
-  taken_same body whole = ap (λ n. message_taken n body) (agrees whole)
+  taken_same body whole = grind arith
 
   -- a message that is taken makes of both the same, as far as s is concerned
   pub record AcceptsAlike (x y : Option Message2) : Type 0 where
@@ -52,24 +47,7 @@ module _ (v : ℕ) (o : Opening) (es : List Entry) (e : Entry) (legal : IsPlayed
   module _ (same_kept : kept_of s (begun o l es) ≡ true → begun o l es ≡ begun_of v bodies) where
     same_before : (kind : PartKind) (number : ℕ) → is_next (begun o l es) kind s number ≡ true
         → rows_before (begun o l es) kind s number ≡ rows_before (begun_of v bodies) kind s number
-    same_before kind number next = by (number == 1) refl (begun o l es) refl next
-      where
-        by : (one : Bool) → (number == 1) ≡ one → (c : Option Begun) → begun o l es ≡ c
-            → is_next c kind s number ≡ true
-            → rows_before (begun o l es) kind s number
-            ≡ rows_before (begun_of v bodies) kind s number
-        by true first c is next =
-            ap (λ x. cond x [] (option_map_or
-            (λ y. cond (follows kind s number y) y.rows []) (begun o l es) [])) first
-            ∙ sym (ap (λ x. cond x [] (option_map_or
-            (λ y. cond (follows kind s number y) y.rows []) (begun_of v bodies) [])) first)
-        by false later None is next =
-            lie (sym next ∙ ap (λ x. x || false) later)
-        by false later (Some j) is next =
-            let parts = and_parts _ _ (sym (ap (λ x. x || follows kind s number j) later) ∙ next) in
-            let same_scope = (and_parts (same j.scope s) _ parts.1).0 in
-            ap (λ x. rows_before x kind s number)
-            (same_kept (ap (kept_of s) is ∙ same_scope))
+    same_before kind number next = grind arith
 
     -- a part of s
     part_alike : (kind : PartKind) (number : ℕ) (last : Bool) (rows : List Row)
@@ -88,16 +66,12 @@ module _ (v : ℕ) (o : Opening) (es : List Entry) (e : Entry) (legal : IsPlayed
       → (g : List ℕ) (p : Pid) (w : Option ℕ)
       → seen_by s g p (option_to_list (cond {A = Option Message} last
       (Some (message_of kind t xs)) None)) w ≡ w
-  other_views kind t false xs other g p w = refl
-  other_views PartKind.Sync t true xs other g p w = grind (arith, other)
-  other_views PartKind.Join t true xs other g p w = grind (arith, other)
-  other_views PartKind.Leave t true xs other g p w = grind (arith, other)
+  other_views kind t last xs other g p w = grind arith
 
   other_kept : (kind : PartKind) (t : List ℕ) (number : ℕ) (last : Bool) (xs : List Row)
       → same t s ≡ false → kept_of s (cond {A = Option Begun} last None
       (Some (record { kind = kind; scope = t; number = number; rows = xs }))) ≡ false
-  other_kept kind t number true xs other = refl
-  other_kept kind t number false xs other = other
+  other_kept kind t number last xs other = grind arith
 
   -- of another scope
   other_alike : (kind : PartKind) (t : List ℕ) (number : ℕ) (last : Bool) (rows : List Row)
@@ -116,9 +90,7 @@ module _ (v : ℕ) (o : Opening) (es : List Entry) (e : Entry) (legal : IsPlayed
   next_of : (kind : PartKind) (t : List ℕ) (number : ℕ) (last : Bool) (rows : List Row)
       → first_broken (message_checks h l (Message2.Part kind t number last rows)) ≡ None
       → is_next (begun o l es) kind t number ≡ true
-  next_of PartKind.Sync t number last rows met =
-      unbroken (is_next (begun o l es) PartKind.Sync t number)
-      (all_hold (message_checks h l (Message2.Part PartKind.Sync t number last rows)) met).1.1.0
+  next_of PartKind.Sync t number last rows met = grind arith
   next_of PartKind.Join t number last rows met =
       unbroken (is_next (begun o l es) PartKind.Join t number)
       (all_hold (message_checks h l (Message2.Part PartKind.Join t number last rows)) met).1.1.1.0
@@ -131,21 +103,10 @@ module _ (v : ℕ) (o : Opening) (es : List Entry) (e : Entry) (legal : IsPlayed
       → first_broken (option_map_or (message_checks h l) x (always Rule.BadFrame)) ≡ None
       → AcceptsAlike x x
   taken_alike same_kept None met = cc
-  taken_alike same_kept (Some (Message2.Discover t)) met =
-      record { views = λ g p w. refl; begins = λ q. refl }
-  taken_alike same_kept (Some (Message2.Down t)) met =
-      record { views = λ g p w. refl; begins = λ q. refl }
+  taken_alike same_kept (Some (Message2.Discover t)) met = grind arith
+  taken_alike same_kept (Some (Message2.Down t)) met = grind arith
   taken_alike same_kept (Some (Message2.Part kind t number last rows)) met =
-      by (same t s) refl
-    where
-      by : (b : Bool) → same t s ≡ b → AcceptsAlike (Some (Message2.Part kind t number last rows))
-          (Some (Message2.Part kind t number last rows))
-      by true is = subst (λ u. AcceptsAlike (Some (Message2.Part kind u number last rows))
-          (Some (Message2.Part kind u number last rows))) (sym ((same_decides t s).0 is))
-          (part_alike same_kept kind number last rows
-          (subst (λ u. is_next (begun o l es) kind u number ≡ true) ((same_decides t s).0 is)
-          (next_of kind t number last rows met)))
-      by false other = other_alike kind t number last rows other
+      grind (arith, same_decides t s, next_of kind t number last rows met)
 
   pub accepts_alike : (k : ℕ) (body : List ℕ) (r : Reply)
       → IsStep h (but e (Event.Frame k body) (Accepted r)) → (k == l) ≡ true

@@ -1,21 +1,20 @@
 -- What is begun at a place in what a node owed is the first parts of one message.
 use Rattle.frame_laws.proofs
-use proofs.Words.{ap, arith, before_last, Begun, begun_after, begun_by, begun_of, bodies_of, Bool}
-use proofs.Words.{cond, drop, drop-append-add, drop-append-le, Entry, false, frames_said, History}
-use proofs.Words.{is_some, IsBegun, IsNode, leb-false, leb-true, length, length-append, length-drop}
+use proofs.Words.{ap, arith, Begun, begun_after, begun_by, begun_of, bodies_of, Bool, cond, drop}
+use proofs.Words.{drop-append-add, drop-append-le, Entry, false, frames_said, History, is_some}
+use proofs.Words.{IsBegun, IsNode, leb-false, leb-true, length, length-append, length-drop}
 use proofs.Words.{length-map, lie, List, map, map-append, Message, Message2, message_taken, narrow}
-use proofs.Words.{nat_le, None, Opening, option_to_list, out_in, OutFrame, owed, owes, PartKind}
-use proofs.Words.{parts, parts_from, past, refl, Row, said_frames, Some, Speaks, subst, suc, sym}
-use proofs.Words.{take, take-append-add, take-append-le, take-map, take_past, true, whole, zero, ℕ}
-use proofs.Words.{[], ◌++◌, ◌+◌, ◌-◌, ◌<◌, ◌==◌, ◌∙◌, ◌∷◌, ◌≡◌, ◌≤◌}
+use proofs.Words.{nat_le, None, Opening, out_in, OutFrame, owed, owes, PartKind, parts, parts_from}
+use proofs.Words.{past, refl, Row, said_frames, Some, Speaks, subst, suc, sym, take}
+use proofs.Words.{take-append-add, take-append-le, take-map, take_past, true, whole, zero, ℕ, []}
+use proofs.Words.{◌++◌, ◌+◌, ◌-◌, ◌<◌, ◌==◌, ◌∙◌, ◌∷◌, ◌≡◌, ◌≤◌}
 use proofs.Calm.{message_ends, said_apart}
-use proofs.Handshakes.{begins_message, first_byte, IsClosed, no_message, of_hellos}
+use proofs.Handshakes.{begins_message, first_byte, IsClosed, no_message}
 use proofs.OneView.{element}
 use proofs.Orderly.{bodies_apart, bodies_owing}
 use proofs.Pieces.{begun_apart, IsPiece, last_ends, piece_at, pieces, value_of}
-use proofs.Spoken.{Holds, node_before, owed_hold, speaks_now}
-use proofs.Sayable.{asks_alike, asks_sayable, downs_alike, downs_sayable, IsSayable, reads}
-use proofs.Sayable.{reads_length, said_take}
+use proofs.Spoken.{entry_holds, Holds, holds_of, node_before}
+use proofs.Sayable.{IsSayable, reads, reads_length, said_take}
 
 -- messages, each whole; and what is begun at a place in them is one of them
 pub record IsCut (v : ℕ) (bs : List (List ℕ)) : Type 0 where
@@ -38,7 +37,7 @@ module _ (v : ℕ) where
       in_first n k it = record {
         message = it.message;
         place = it.place;
-        fits = (let long = length-append xs ys in let low = it.fits in omega (arith, long, low));
+        fits = omega (arith, length-append xs ys);
         parts_are = λ j le.
             let fits = it.fits in
             let long = length-drop it.place xs in
@@ -56,12 +55,12 @@ module _ (v : ℕ) where
       in_second n m k at it = record {
         message = it.message;
         place = length xs + it.place;
-        fits = (let long = length-append xs ys in let low = it.fits in omega (arith, long, low));
+        fits = omega (arith, length-append xs ys);
         parts_are = λ j le. ap (λ bs. frames_said v (take j bs)) (drop-append-add xs ys it.place)
             ∙ it.parts_are j le;
         few = it.few;
         kept = it.kept;
-        behind = (let is = it.behind in omega (arith, is, at));
+        behind = omega arith;
       }
 
       each : (n : ℕ) (k : Begun) → begun_of v (take n (xs ++ ys)) ≡ Some k
@@ -85,7 +84,7 @@ module _ (v : ℕ) where
   begun_at : (kind : PartKind) (s : List ℕ) (more : ℕ) (rows : List Row) (n : ℕ) (k : Begun)
       → begun_by None (take n (parts_from kind s 1 more rows)) ≡ Some k
       → (k.number ≡ n) × (n < length (parts_from kind s 1 more rows))
-  begun_at kind s more rows zero k q = lie (none_some k q)
+  begun_at kind s more rows zero k q = cc
   begun_at kind s more rows (suc j) k q = by (nat_le (suc (suc j)) (length (parts_from kind s 1
       more rows))) refl
     where
@@ -97,11 +96,10 @@ module _ (v : ℕ) where
       here : (f : Message2)
           → (it : IsPiece None kind s [] rows 0 (parts_from kind s 1 more rows) j f) → (b : Bool)
           → it.last ≡ b → k.number ≡ suc j
-      here f it true is = lie (ended (let end = it.ends is in omega (arith, end)))
+      here f it true is = lie (ended (omega arith))
       here f it false is =
           (let same = ap (λ x. Begun.number x) (value_of (sym q ∙ it.begins is)) in
-          let numbered = it.numbered in
-          omega (arith, same, numbered))
+          omega arith)
 
       by : (b : Bool) → nat_le (suc (suc j)) (length (parts_from kind s 1 more rows)) ≡ b
           → (k.number ≡ suc j) × (suc j < length (parts_from kind s 1 more rows))
@@ -128,38 +126,14 @@ module _ (v : ℕ) where
           alone zero = refl
           alone (suc n) = refl
 
+      whole_after : (m : Message) → begun_after None (whole m) ≡ None
+      whole_after m = grind arith
+
       by : (b : Bool) → (v == 2) ≡ b → (m : Message)
           → begun_by None (take n (cond b (parts m) (whole m ∷ []))) ≡ Some k
           → (cond (v == 2) (parts m) (whole m ∷ []) ≡ parts m) × (k.number ≡ n)
           × (n < length (parts m))
-      by true new (Message.Discover s) q = lie (single (Message2.Discover s) refl n q)
-      by true new (Message.Down s) q = lie (single (Message2.Down s) refl n q)
-      by true new (Message.Sync s rows) q =
-          let it = begun_at PartKind.Sync s (before_last rows) rows n k q in (
-            ap (λ b. cond b (parts (Message.Sync s rows)) (whole (Message.Sync s rows) ∷ [])) new,
-            it.0,
-            it.1,
-          )
-      by true new (Message.Join s rows) q =
-          let it = begun_at PartKind.Join s (before_last rows) rows n k q in (
-            ap (λ b. cond b (parts (Message.Join s rows)) (whole (Message.Join s rows) ∷ [])) new,
-            it.0,
-            it.1,
-          )
-      by true new (Message.Leave s rows) q =
-          let it = begun_at PartKind.Leave s (before_last rows) rows n k q in (
-            ap (λ b. cond b (parts (Message.Leave s rows)) (whole (Message.Leave s rows) ∷ [])) new,
-            it.0,
-            it.1,
-          )
-      by false old (Message.Discover s) q = lie (single (Message2.Discover s) refl n q)
-      by false old (Message.Down s) q = lie (single (Message2.Down s) refl n q)
-      by false old (Message.Sync s rows) q =
-          lie (single (Message2.Part PartKind.Sync s 1 true rows) refl n q)
-      by false old (Message.Join s rows) q =
-          lie (single (Message2.Part PartKind.Join s 1 true rows) refl n q)
-      by false old (Message.Leave s rows) q =
-          lie (single (Message2.Part PartKind.Leave s 1 true rows) refl n q)
+      by b new m q = grind (arith, single, begun_at)
 
   abbrev Cut : List OutFrame → Type 0
   Cut fs = IsCut v (map (λ f. f.body) fs)
@@ -206,8 +180,8 @@ module _ (v : ℕ) where
 
       none_said : (n : ℕ) → begun_of v (take n (body ∷ [])) ≡ None
       none_said zero = refl
-      none_said (suc zero) = ap (λ y. begun_by None (option_to_list y ++ [])) none
-      none_said (suc (suc n)) = ap (λ y. begun_by None (option_to_list y ++ [])) none
+      none_said (suc zero) = grind (arith, none)
+      none_said (suc (suc n)) = grind (arith, none)
 
   cut_closed : IsClosed Cut
   cut_closed = record {
@@ -221,15 +195,7 @@ module _ (v : ℕ) where
       empty (suc n) = refl
 
   each_cut : (h : History) (node : IsNode h) (l : ℕ) → Holds h node l v Cut
-  each_cut h node l = record {
-    closed = cut_closed;
-    hellos = of_hellos h l Cut cut_hello;
-    asks = λ s text. subst Cut (asks_alike v s)
-        (cut_message (Message.Discover s) (asks_sayable v s text));
-    downs = λ s text. subst Cut (downs_alike v s)
-        (cut_message (Message.Down s) (downs_sayable v s text));
-    said = λ m can own. cut_message m can;
-  }
+  each_cut h node l = holds_of h node l v Cut cut_closed cut_hello (λ m can own. cut_message m can)
 
 -- ---- along a history
 
@@ -244,6 +210,5 @@ out_cut o (e ∷ es) node l v speaks =
     (cut_both v (bodies_of (out_in o l es))
     (map (λ f. f.body) (owed (past o es) l e.number e.event e.verdict))
     (out_cut o es was l v speaks.1)
-    (owed_hold (past o es) was l v (speaks_now o l v es speaks.1) (Cut v)
-    (each_cut v (past o es) was l) e.number e.seat e.event e.verdict
-    (λ is. cut_hello v _ refl) node.legal.0.judged node.written.0))
+    (entry_holds o e es node l v speaks.1 (Cut v) (each_cut v (past o es) was l)
+    (cut_hello v _ refl)))

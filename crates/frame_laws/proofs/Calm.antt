@@ -1,11 +1,11 @@
 -- What frames make of a view, and which leave it.
 use Rattle.frame_laws.proofs
-use proofs.Words.{all_append, AllByRecursion, ap, arith, before_last, begun_by, Bool, completed_by}
-use proofs.Words.{cond, drop, false, flat_map-append, frames_said, has_rows, is_about_rows, IsText}
-use proofs.Words.{List, map, map-append, max_rows, Message, Message2, message_taken, narrow, None}
-use proofs.Words.{Option, option_to_list, OutFrame, PartKind, parts, parts_from, Pid, refl, Row}
-use proofs.Words.{said_frames, same, seen, seen_by, slice_get, Some, subst, suc, true, whole, wide}
-use proofs.Words.{zero, ℕ, [], ◌++◌, ◌==◌, ◌∙◌, ◌∷◌, ◌≡◌}
+use proofs.Words.{all_append, AllByRecursion, ap, AreThere, arith, begun_by, Bool, completed_by}
+use proofs.Words.{drop, false, flat_map-append, frames_said, has_rows, is_about_rows, IsFew}
+use proofs.Words.{IsText, List, map-append, max_rows, Message, Message2, message_taken, narrow}
+use proofs.Words.{None, Option, option_to_list, OutFrame, PartKind, parts_from, Pid, refl, Row}
+use proofs.Words.{said_frames, same, seen, seen_by, slice_get, so_far_behind, Some, subst, suc}
+use proofs.Words.{true, view_of, wide, zero, ℕ, [], ◌++◌, ◌∙◌, ◌∷◌, ◌≡◌}
 use proofs.Handshakes.{begins_message, first_byte, IsClosed, no_message}
 use proofs.Pieces.{begun_apart, completed_apart, pieces, pieces_complete, pieces_end}
 use proofs.Sayable.{asks_alike, asks_sayable, downs_alike, downs_sayable, IsSayable, reads}
@@ -23,11 +23,10 @@ module _ (s g : List ℕ) (p : Pid) where
 
 pub said_apart : (v : ℕ) (xs ys : List (List ℕ))
     → frames_said v (xs ++ ys) ≡ frames_said v xs ++ frames_said v ys
-said_apart v xs ys = flat_map-append (λ body. option_to_list (message_taken v body)) xs ys
+said_apart v xs ys = grind (arith, flat_map-append)
 
 pub frames_apart : (v : ℕ) (xs ys : List OutFrame) → said v (xs ++ ys) ≡ said v xs ++ said v ys
-frames_apart v xs ys = ap (frames_said v) (map-append (λ f. f.body) xs ys)
-    ∙ said_apart v (map (λ f. f.body) xs) (map (λ f. f.body) ys)
+frames_apart v xs ys = grind (arith, map-append, said_apart)
 
 -- messages, and each is whole
 abbrev pub AreWhole : ℕ → List OutFrame → Type 0
@@ -36,17 +35,31 @@ AreWhole v fs = begun_by None (said v fs) ≡ None
 pub whole_both : (v : ℕ) (xs ys : List OutFrame) → AreWhole v xs → AreWhole v ys
     → AreWhole v (xs ++ ys)
 whole_both v xs ys first later =
-    ap (begun_by None) (frames_apart v xs ys) ∙ begun_apart None (said v xs) (said v ys)
-    ∙ ap (λ b. begun_by b (said v ys)) first ∙ later
+    grind (
+      arith,
+      frames_apart v xs ys,
+      begun_apart None (said v xs) (said v ys),
+    )
 
 pub frames_seen : (v : ℕ) (s g : List ℕ) (p : Pid) (xs ys : List OutFrame) (x : Option ℕ)
     → AreWhole v xs
     → seen_frames v s g p (xs ++ ys) x ≡ seen_frames v s g p ys (seen_frames v s g p xs x)
 frames_seen v s g p xs ys x first =
-    ap (λ ps. seen_by s g p (completed_by None ps) x) (frames_apart v xs ys)
-    ∙ ap (λ ms. seen_by s g p ms x) (completed_apart None (said v xs) (said v ys)
-    ∙ ap (λ b. completed_by None (said v xs) ++ completed_by b (said v ys)) first)
-    ∙ seen_apart s g p (completed_by None (said v xs)) (completed_by None (said v ys)) x
+    grind (
+      arith,
+      frames_apart v xs ys,
+      completed_apart None (said v xs) (said v ys),
+      seen_apart s g p (completed_by None (said v xs)) (completed_by None (said v ys)) x,
+    )
+
+-- what a part says holds behind these bodies: no more are there than may be, or so many are there
+abbrev pub FewBehind : ℕ → List ℕ → PartKind → ℕ → List Row → List (List ℕ) → Type 0
+FewBehind v s kind number rows bs =
+    IsFew v s (λ g p. view_of v s g p bs) kind (so_far_behind v bs kind s number rows)
+
+abbrev pub ThereBehind : ℕ → List ℕ → ℕ → List Row → List (List ℕ) → Type 0
+ThereBehind v s number rows bs = AreThere (λ g p. view_of v s g p bs)
+    (so_far_behind v bs PartKind.Leave s number rows)
 
 -- ---- one message
 
@@ -56,8 +69,7 @@ module _ (v : ℕ) (m : Message) (can : IsSayable v m) where
 
   pub message_seen : (s g : List ℕ) (p : Pid) (x : Option ℕ)
       → seen_frames v s g p (said_frames v m) x ≡ seen s g p m x
-  message_seen s g p x =
-      ap (λ ms. seen_by s g p ms x) (ap (completed_by None) message_says ∙ pieces_complete v m)
+  message_seen s g p x = grind (arith, message_says, pieces_complete v m)
 
   pub message_ends : AreWhole v (said_frames v m)
   message_ends = ap (begun_by None) message_says ∙ pieces_end v m
@@ -87,23 +99,7 @@ from_other s kind t number (suc more) rows other =
 
 pieces_other : (v : ℕ) (s : List ℕ) (m : Message) → is_about_rows s (Some m) ≡ false
     → AllByRecursion (λ p. is_part s (Some p) ≡ false) (pieces v m)
-pieces_other v s m = by (v == 2) m
-  where
-    by : (b : Bool) (m : Message) → is_about_rows s (Some m) ≡ false
-        → AllByRecursion (λ p. is_part s (Some p) ≡ false) (cond b (parts m) (whole m ∷ []))
-    by true (Message.Discover t) other = (refl, tt)
-    by true (Message.Sync t rows) other =
-        from_other s PartKind.Sync t 1 (before_last rows) rows other
-    by true (Message.Join t rows) other =
-        from_other s PartKind.Join t 1 (before_last rows) rows other
-    by true (Message.Leave t rows) other =
-        from_other s PartKind.Leave t 1 (before_last rows) rows other
-    by true (Message.Down t) other = (refl, tt)
-    by false (Message.Discover t) other = (refl, tt)
-    by false (Message.Sync t rows) other = (other, tt)
-    by false (Message.Join t rows) other = (other, tt)
-    by false (Message.Leave t rows) other = (other, tt)
-    by false (Message.Down t) other = (refl, tt)
+pieces_other v s = grind (arith, from_other)
 
 unseen : (s g : List ℕ) (p : Pid) (m : Message) (x : Option ℕ) → is_about_rows s (Some m) ≡ false
     → seen s g p m x ≡ x
@@ -115,8 +111,7 @@ module _ (v : ℕ) (s : List ℕ) where
     nothing = record { ends = refl; no_rows = tt; stays = λ g p x. refl };
     both = λ xs ys first later. record {
       ends = whole_both v xs ys first.ends later.ends;
-      no_rows = all_append (λ f. is_part s (message_taken v (OutFrame.body f)) ≡ false) xs ys
-          first.no_rows later.no_rows;
+      no_rows = grind (arith, all_append);
       stays = λ g p x. frames_seen v s g p xs ys x first.ends
           ∙ ap (seen_frames v s g p ys) (first.stays g p x) ∙ later.stays g p x;
     };
@@ -158,11 +153,4 @@ no_rows_at v s (x ∷ fs) all (suc m) f q = no_rows_at v s fs all.1 m f q
 -- what completes rows of s is a part of it
 pub rows_part : (v : ℕ) (s body : List ℕ) → has_rows v s body ≡ true
     → is_part s (message_taken v body) ≡ true
-rows_part v s body q = by (message_taken v body) refl q
-  where
-    by : (x : Option Message2) → message_taken v body ≡ x → has_rows v s body ≡ true
-        → is_part s (message_taken v body) ≡ true
-    by None is q = grind arith
-    by (Some (Message2.Discover t)) is q = grind arith
-    by (Some (Message2.Down t)) is q = grind arith
-    by (Some (Message2.Part kind t number last rows)) is q = grind arith
+rows_part v s body q = grind arith

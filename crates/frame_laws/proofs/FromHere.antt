@@ -1,33 +1,27 @@
 -- The rows of each message are of the node's own name, and of its creation at the opening of the
 -- link.
 use Rattle.frame_laws.proofs
-use proofs.Words.{Accepted, ap, arith, Bool, but, cond, creation, entered, Entry, Event, false}
-use proofs.Words.{is_of, is_open, is_opened_by, is_some, IsNode, leb-false, leb-true, lie, List}
-use proofs.Words.{Message2, message_taken, moment, nat_le, None, Opening, out_in, OutFrame, owed}
-use proofs.Words.{owes, Owing, own_name_frame, past, refl, Refused, slice_get, Some, Speaks, subst}
-use proofs.Words.{suc, sym, true, unowed, Verdict, zero, ℕ, [], ◌∙◌, ◌∷◌, ◌≡◌, ◌≤◌}
+use proofs.Words.{Accepted, ap, arith, Bool, but, creation, entered, Entry, Event, false, is_of}
+use proofs.Words.{is_open, is_opened_by, is_some, IsNode, lie, List, Message2, message_taken}
+use proofs.Words.{moment, nat_le, None, Opening, out_in, OutFrame, owed, owes, Owing}
+use proofs.Words.{own_name_frame, past, refl, slice_get, Some, Speaks, subst, sym, true, unowed}
+use proofs.Words.{Verdict, ℕ, [], ◌∙◌, ◌∷◌, ◌≡◌, ◌≤◌}
 use proofs.Handshakes.{no_message}
 use proofs.Openings.{open_low, same_creation, unborn_out}
 use proofs.Places.{all_at, earlier_moment, InFirst, InSecond, owed_here, part, Parted}
-use proofs.Spoken.{IsSpoken, node_before, owed_say, speaks_now}
+use proofs.Spoken.{entry_says, IsSpoken, node_before}
 
 module _ (o : Opening) (es : List Entry) (e : Entry) (l v : ℕ) where
-  name_alone : (b : Bool) (f : OutFrame) (m : ℕ)
-      → slice_get (cond b (own_name_frame (past o es) ∷ []) []) m ≡ Some f
-      → message_taken v f.body ≡ None
-  name_alone true f zero q =
-      grind (arith, no_message v (OutFrame.body (own_name_frame (past o es))) refl)
-  name_alone true f (suc m) q = grind arith
-  name_alone false f m q = grind arith
-
   -- the entry that opens a link owes it no message
   opened_silent : (ev : Event) (w : Verdict) → is_opened_by l (but e ev w) ≡ true
       → (m : ℕ) (f : OutFrame) → slice_get (owed (past o es) l e.number ev w) m ≡ Some f
       → message_taken v f.body ≡ None
-  opened_silent (Event.Dial n c) (Accepted r) here m f q = grind (arith, name_alone)
-  opened_silent (Event.Opened c) (Accepted r) here m f q = grind arith
-  opened_silent ev (Accepted r) here m f q = cc
-  opened_silent ev (Refused r) here m f q = cc
+  opened_silent (Event.Dial n c) (Accepted r) here m f q =
+      grind (
+        arith,
+        no_message v (OutFrame.body (own_name_frame (past o es))) refl,
+      )
+  opened_silent ev w here m f q = grind arith
 
 pub rows_own : (o : Opening) (es : List Entry) → IsNode (past o es) → (l v : ℕ) → Speaks o l v es
     → (n : ℕ) (x : Owing) → slice_get (out_in o l es) n ≡ Some x → (m : Message2)
@@ -44,8 +38,7 @@ rows_own o (e ∷ es) node l v speaks n x q m says = by (λ r. rows_own o es (no
     -- a link to which something is owed was opened
     low_of : slice_get (out_in o l es) n ≡ Some x → (b : Bool) → nat_le l (entered es) ≡ b
         → l ≤ entered es
-    low_of r true le = grind (arith, leb-true)
-    low_of r false le = grind (arith, unborn_out o es node.legal.1 l (leb-false l (entered es) le))
+    low_of r b le = grind (arith, unborn_out)
 
     by : (slice_get (out_in o l es) n ≡ Some x → is_of o.name (creation (moment l (past o es)))
         m ≡ true) → Parted (out_in o l es) (owes (past o es) l e) n x
@@ -60,9 +53,7 @@ rows_own o (e ∷ es) node l v speaks n x q m says = by (λ r. rows_own o es (no
         said : is_of o.name (creation (past o es)) m ≡ true
         said = IsSpoken.own
             (all_at (IsSpoken v (past o es)) (owed (past o es) l e.number e.event e.verdict)
-            (owed_say (past o es) (node_before o e es node) e.number e.seat l v
-            (speaks_now o l v es speaks.1) e.event e.verdict
-            node.legal.0.judged node.written.0) j x.frame it) m says
+            (entry_says o e es node l v speaks.1) j x.frame it) m says
 
         now : (b : Bool) → is_open l es ≡ b → (c : Bool) → is_opened_by l e ≡ c
             → is_of o.name (creation (moment l (past o (e ∷ es)))) m ≡ true

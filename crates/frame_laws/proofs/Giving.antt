@@ -1,11 +1,10 @@
 -- What a peer has given came on the link: its Name first, or its Challenge.
 use Rattle.frame_laws.proofs
 use proofs.Words.{Accepted, accepted, all_append, AllByRecursion, and_frame, and_parts, ap, arith}
-use proofs.Words.{Bool, but, ByDial, ByPeer, came, Challenge, cond, delivered, ends, Entry}
-use proofs.Words.{eqb-true, Event, false, Far, far, frame_fits, fresh, given_in, hello_in, is_open}
-use proofs.Words.{is_some, is_whole, IsAskedOnce, IsNamedFirst, IsPlayedIn, judgement, length, lie}
-use proofs.Words.{List, Name, nat_le, None, none_taken, not, Opened, opened, Opening, Option}
-use proofs.Words.{option_and_then, past, peer_in, refl, Refused, Reply, Rule, slice_get, Some}
+use proofs.Words.{Bool, but, ByDial, ByPeer, came, cond, delivered, ends, Entry, eqb-true, Event}
+use proofs.Words.{false, Far, far, frame_fits, fresh, is_open, is_whole, IsAskedOnce, IsNamedFirst}
+use proofs.Words.{IsPlayedIn, judgement, length, List, nat_le, None, none_taken, not, Opened}
+use proofs.Words.{opened, Opening, Option, past, refl, Refused, Reply, Rule, slice_get, Some}
 use proofs.Words.{Start, subst, sym, Taken, taken, true, Verdict, ℕ, [], ◌&&◌, ◌++◌, ◌==◌, ◌||◌}
 use proofs.Words.{◌∙◌, ◌∷◌, ◌≡◌}
 use proofs.Bodies.{stands_first, stands_last}
@@ -21,8 +20,7 @@ module _ (o : Opening) (l : ℕ) where
   -- an entry with which nothing came
   keep : (es : List Entry) (x : Entry) → taken l (x ∷ es) ≡ taken l es → (is_open l (x ∷ es) ≡ true
       → is_open l es ≡ true) → came l x.event ≡ [] → Began l es → Began l (x ∷ es)
-  keep es x same_taken opens none (Nothing no_taken no_body) = Nothing (same_taken ∙ no_taken)
-      (λ now. (λ i. no_body (opens now) i ++ none i))
+  keep es x same_taken opens none (Nothing no_taken no_body) = grind arith
   keep es x same_taken opens none (First t rest is stands) = First t rest (same_taken ∙ is)
       (stands_first (delivered l es) (came l x.event) 0 t.body stands)
 
@@ -45,14 +43,8 @@ module _ (o : Opening) (l : ℕ) where
         → elim (cond {A = Option Opened} b (Some (record { start = st; before = es })) None) as
         (λ _. Option Opened) [ Some y ↦ Some y | None ↦ opened l es ] ≡ at_opening
         → Before → Began l (but e ev (Accepted r) ∷ es)
-    begins ev r st same_taken none true here opens q so_far = Nothing
-        (same_taken ∙ none_taken o es legal [] e fresh_is l here) (λ now. (λ i. early i ++ none i))
-      where
-        before_is : es ≡ bo
-        before_is = ap (λ x. elim x as (λ _. List Entry) [ Some y ↦ y.before | None ↦ es ]) q
-
-        early : delivered l es ≡ []
-        early = ap (delivered l) before_is ∙ none_early
+    begins ev r st same_taken none true here opens q so_far =
+        grind (arith, none_taken o es legal [] e fresh_is l here)
     begins ev r st same_taken none false other opens q so_far = keep es (but e ev (Accepted r))
         same_taken (λ now. sym (opens ∙ ap (λ b. b || is_open l es) other) ∙ now) none (so_far q)
 
@@ -82,14 +74,7 @@ module _ (o : Opening) (l : ℕ) where
         keep es (but e (Event.Frame k body) (Refused r)) refl
         (was_open (ends l es (Refused r) (Event.Frame k body)) (is_open l es))
         (ap (λ b. cond b (body ∷ []) []) other) began
-    refused_frame k body r opening true is (Nothing no_taken no_body) =
-        Nothing no_taken (λ now. lie (sym now ∙ shut))
-      where
-        unwhole : is_whole l es ≡ false
-        unwhole = grind (arith, opening, no_taken)
-
-        shut : is_open l (but e (Event.Frame k body) (Refused r) ∷ es) ≡ false
-        shut = grind (arith, is, unwhole)
+    refused_frame k body r opening true is (Nothing no_taken no_body) = grind arith
     refused_frame k body r opening true is (First t rest first stands) = First t rest first
         (stands_first (delivered l es) (came l (Event.Frame k body)) 0 t.body stands)
 
@@ -99,7 +84,7 @@ module _ (o : Opening) (l : ℕ) where
         refl refl (e.number == l) refl refl opens so_far
     by_event (Event.Dial n d) (Accepted r) q so_far opens = begins (Event.Dial n d) r (ByDial n d)
         refl refl (e.number == l) refl refl opens so_far
-    by_event Event.Restart (Accepted r) q so_far opens = lie (sym (ap is_some opens))
+    by_event Event.Restart (Accepted r) q so_far opens = cc
     by_event (Event.Frame k body) (Accepted r) q so_far opens = accepted_frame k body r q (k == l)
         refl (so_far opens)
     by_event (Event.Frame k body) (Refused r) q so_far opens = refused_frame k body r opens (k == l)
@@ -111,7 +96,7 @@ module _ (o : Opening) (l : ℕ) where
 
   began : (es : List Entry) → IsPlayedIn o es → (c : ℕ) (bo : List Entry) → delivered l bo ≡ []
       → opened l es ≡ Some (record { start = ByPeer c; before = bo }) → Began l es
-  began [] legal c bo none opens = lie (sym (ap is_some opens))
+  began [] legal c bo none opens = cc
   began (e ∷ es) legal c bo none opens =
       by_event es e legal.1 (fresh o es legal.1 e legal.0) c bo none e.event
       e.verdict legal.0.judged (began es legal.1 c bo none) opens
@@ -122,7 +107,7 @@ module _ (o : Opening) (l : ℕ) where
   named_first es legal c bo none opens whole = by (began es legal c bo none opens)
     where
       by : Began l es → IsNamedFirst l es
-      by (Nothing no_taken no_body) = lie (sym whole ∙ unwhole)
+      by (Nothing no_taken no_body) = cc
         where
           unwhole : is_whole l es ≡ false
           unwhole = grind (arith, opens, no_taken)
@@ -136,10 +121,8 @@ module _ (o : Opening) (l : ℕ) where
             hello = hello;
             stands = stands;
             says = says;
-            given_is = (λ i. option_and_then (λ (x : Opened). given_in x.start (first i)) (opens i))
-                ∙ says;
-            peer = (λ i. option_and_then (λ (x : Opened). peer_in x.start (first i)) (opens i))
-                ∙ ap (λ x. option_and_then {T = Name} {U = List ℕ} (λ f. Some f.name) x) says;
+            given_is = grind arith;
+            peer = grind arith;
           }
 
   -- ---- frames that were accepted came
@@ -168,12 +151,7 @@ module _ (o : Opening) (l : ℕ) where
 
       by_event : (ev : Event) (v : Verdict) → AllByRecursion (IsCame (delivered l es)) (taken l es)
           → AllByRecursion (IsCame (delivered l (but e ev v ∷ es))) (taken l (but e ev v ∷ es))
-      by_event (Event.Frame k body) (Accepted r) all = framed k body (k == l) all
-      by_event (Event.Frame k body) (Refused r) all = more_came (delivered l es)
-          (came l (Event.Frame k body)) (taken l es) all
-      by_event Event.Restart (Accepted r) all = tt
-      by_event ev (Accepted r) all = more_came (delivered l es) [] (taken l es) all
-      by_event ev (Refused r) all = more_came (delivered l es) [] (taken l es) all
+      by_event ev w all = grind (arith, framed, more_came)
 
   pub asked_once : (es : List Entry) → IsPlayedIn o es → (n : List ℕ) (c : ℕ) (bo : List Entry)
       → opened l es ≡ Some (record { start = ByDial n c; before = bo }) → is_whole l es ≡ true
@@ -184,9 +162,9 @@ module _ (o : Opening) (l : ℕ) where
       long ts is = grind arith
 
       by : (ts : List Taken) → taken l es ≡ ts → IsAskedOnce l n es
-      by [] is = lie (sym (long [] is))
-      by (a ∷ []) is = lie (sym (long (a ∷ []) is) ∙ refl)
-      by (a ∷ b ∷ []) is = lie (sym (long (a ∷ b ∷ []) is) ∙ refl)
+      by [] is = cc
+      by (a ∷ []) is = cc
+      by (a ∷ b ∷ []) is = cc
       by (a ∷ b ∷ t ∷ ts) is =
           let walk = subst (λ x. Far o x (a ∷ b ∷ t ∷ ts)) opens
           (subst (Far o (opened l es)) is (far o es legal l)) in
@@ -198,8 +176,6 @@ module _ (o : Opening) (l : ℕ) where
             challenge = asked.0;
             stands = came_so.1.0.1;
             says = asked.1;
-            given_is = (λ i. option_and_then (λ (x : Opened). given_in x.start (is i)) (opens i))
-                ∙ ap (λ x. option_and_then {T = Challenge} {U = Name} (λ f. Some (hello_in f)) x)
-                asked.1;
-            peer = λ i. option_and_then (λ (x : Opened). peer_in x.start (is i)) (opens i);
+            given_is = grind arith;
+            peer = grind arith;
           }

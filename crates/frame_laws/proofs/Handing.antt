@@ -1,13 +1,12 @@
 -- What was handed out of a link, and what waits for it, is what was owed to it, in order.
 use Rattle.frame_laws.proofs
 use proofs.Numbers.{entered_more, unopened}
-use proofs.Words.{Accepted, accepted, and_parts, ap, append-nil, append_assoc, arith, Bool, but}
-use proofs.Words.{drops, ends, entered, Entry, eq-eqb, eqb-true, Event, false, frames_of, handed}
-use proofs.Words.{is_open, is_opened_by, IsPlayedIn, IsStep, leb-false, leb-true, List, map}
-use proofs.Words.{map-append, nat_le, open_opened, Opening, out_in, OutFrame, owed, owing, past}
-use proofs.Words.{refl, Refused, Reply, Rule, sent, subst, sym, true, unborn, unborn_waiting}
-use proofs.Words.{unowed, Verdict, waiting, waiting_in, ℕ, [], ◌&&◌, ◌++◌, ◌+◌, ◌<◌, ◌==◌, ◌∙◌, ◌∷◌}
-use proofs.Words.{◌≡◌, ◌≤◌}
+use proofs.Words.{Accepted, and_parts, append-nil, append_assoc, arith, Bool, but, drops, ends}
+use proofs.Words.{entered, Entry, eq-eqb, eqb-true, Event, false, frames_of, handed, is_open}
+use proofs.Words.{is_opened_by, IsPlayedIn, IsStep, leb-false, leb-true, List, map-append, nat_le}
+use proofs.Words.{open_opened, Opening, out_in, OutFrame, owed, past, refl, Refused, Reply, sent}
+use proofs.Words.{true, unborn, unborn_waiting, unowed, Verdict, waiting, waiting_in, ℕ, [], ◌&&◌}
+use proofs.Words.{◌++◌, ◌+◌, ◌<◌, ◌==◌, ◌∙◌, ◌∷◌, ◌≡◌, ◌≤◌}
 use proofs.Places.{frames_owing}
 
 -- what was owed and not handed out: it waits, or it was dropped with the link
@@ -33,15 +32,6 @@ module _ (o : Opening) (es : List Entry) (e : Entry) (l : ℕ) (legal : IsPlayed
     abbrev now : Event → Verdict → List OutFrame
     now ev v = owed (past o es) l e.number ev v
 
-    out_now : (ev : Event) (v : Verdict)
-        → frames_of (out_in o l (but e ev v ∷ es)) ≡ frames_of (out_in o l es) ++ now ev v
-    out_now ev v =
-        grind (
-          arith,
-          map-append (λ x. x.frame) (out_in o l es) (map (owing e.number) (now ev v)),
-          frames_owing e.number (now ev v),
-        )
-
     -- an entry that hands nothing out of the link
     module _ (ev : Event) (v : Verdict) (made : IsStep (past o es) (but e ev v))
         (none : handed l ev v ≡ []) where
@@ -54,8 +44,8 @@ module _ (o : Opening) (es : List Entry) (e : Entry) (l : ℕ) (legal : IsPlayed
             none,
             append-nil (sent l es),
             append_assoc (sent l es) rest (now ev v),
-            all,
-            out_now ev v,
+            map-append,
+            frames_owing,
           )
 
       stays : drops l es v ev ≡ false → IsHanded o l es → IsHanded o l (but e ev v ∷ es)
@@ -77,7 +67,7 @@ module _ (o : Opening) (es : List Entry) (e : Entry) (l : ℕ) (legal : IsPlayed
                     (unopened o es e l ev v made le),
               ))
               (grind (arith, unopened o es e l ev v made le, shut))
-              (let more = entered_more (but e ev v) es in omega (arith, le, more))
+              (omega (arith, entered_more (but e ev v) es))
 
       -- one that ends the link
       drop_now : drops l es v ev ≡ true → ends l es v ev ≡ true
@@ -94,7 +84,7 @@ module _ (o : Opening) (es : List Entry) (e : Entry) (l : ℕ) (legal : IsPlayed
               → Rest o l (but e ev v ∷ es) (before.rest ++ now ev v)
           by r true le = (let low = leb-true l (entered es) le in Dropped (grind (arith, d))
               (grind (arith, other, ended))
-              (let more = entered_more (but e ev v) es in omega (arith, low, more)))
+              (omega (arith, entered_more (but e ev v) es)))
           by (Waits w) false le =
               let above = leb-false l (entered es) le in
               Waits (grind (
@@ -124,20 +114,6 @@ module _ (o : Opening) (es : List Entry) (e : Entry) (l : ℕ) (legal : IsPlayed
 
     -- ---- each event
 
-    lost_drops : (k : ℕ) (r : Reply) (b : Bool) → (k == l) ≡ b
-        → drops l es (Accepted r) (Event.Lost k) ≡ b
-    lost_drops k r b m = grind (arith, m)
-
-    untaken : (k : ℕ) (r : Reply) → (k == l) ≡ false → handed l (Event.Take k) (Accepted r) ≡ []
-    untaken k r m = grind (arith, m)
-
-    take_drops : (k : ℕ) (r : Reply) → (k == l) ≡ false
-        → drops l es (Accepted r) (Event.Take k) ≡ false
-    take_drops k r m = grind (arith, m)
-
-    unhanded : (ev : Event) (r : Rule) → handed l ev (Refused r) ≡ []
-    unhanded ev r = grind arith
-
     -- an event that ends the link where the test holds
     by_test : (ev : Event) (v : Verdict) → IsStep (past o es) (but e ev v) → handed l ev v ≡ []
         → drops l es v ev ≡ (ends l es v ev && is_open l es) → is_opened_by l (but e ev v) ≡ false
@@ -152,40 +128,30 @@ module _ (o : Opening) (es : List Entry) (e : Entry) (l : ℕ) (legal : IsPlayed
     lost_by : (k : ℕ) (r : Reply) → IsStep (past o es) (but e (Event.Lost k) (Accepted r))
         → (b : Bool) → (k == l) ≡ b → IsHanded o l es
         → IsHanded o l (but e (Event.Lost k) (Accepted r) ∷ es)
-    lost_by k r made true m before =
-        drop_now (Event.Lost k) (Accepted r) made refl (lost_drops k r true m) m refl before
+    lost_by k r made true m before = grind (arith, drop_now)
     lost_by k r made false m before =
-        stays (Event.Lost k) (Accepted r) made refl (lost_drops k r false m) before
+        stays (Event.Lost k) (Accepted r) made refl (grind arith) before
 
     taken_by : (k : ℕ) (r : Reply) → IsStep (past o es) (but e (Event.Take k) (Accepted r))
         → r ≡ Reply.Out (waiting (past o es) k) → (b : Bool) → (k == l) ≡ b → IsHanded o l es
         → IsHanded o l (but e (Event.Take k) (Accepted r) ∷ es)
-    taken_by k r made is true m before =
-        subst (λ x. IsHanded o l (but e (Event.Take k) (Accepted x) ∷ es)) (sym is)
-        (taken k (waiting (past o es) k) (eqb-true k l m)
-        (ap (λ j. waiting_in o j es) (eqb-true k l m)) before)
+    taken_by k r made is true m before = grind (arith, taken)
     taken_by k r made is false m before =
-        stays (Event.Take k) (Accepted r) made (untaken k r m) (take_drops k r m) before
+        stays (Event.Take k) (Accepted r) made (grind arith) (grind arith) before
 
     step : (ev : Event) (v : Verdict) → IsStep (past o es) (but e ev v) → IsHanded o l es
         → IsHanded o l (but e ev v ∷ es)
-    step ev (Refused r) made before = stays ev (Refused r) made (unhanded ev r) refl before
-    step Event.Restart (Accepted r) made before =
-        drop_now Event.Restart (Accepted r) made refl refl refl refl before
+    step ev (Refused r) made before = stays ev (Refused r) made (grind arith) refl before
+    step Event.Restart (Accepted r) made before = grind (arith, drop_now)
     step (Event.Lost k) (Accepted r) made before = lost_by k r made (k == l) refl before
-    step (Event.Take k) (Accepted r) made before =
-        taken_by k r made (accepted (past o es) e.seat (Event.Take k) r made.judged).1 (k == l) refl
-        before
-    step (Event.Disconnect n) (Accepted r) made before =
-        by_test (Event.Disconnect n) (Accepted r) made refl refl refl before
-    step (Event.Frame k body) (Accepted r) made before =
-        by_test (Event.Frame k body) (Accepted r) made refl refl refl before
+    step (Event.Take k) (Accepted r) made before = grind (arith, taken_by)
+    step (Event.Disconnect n) (Accepted r) made before = grind (arith, by_test)
+    step (Event.Frame k body) (Accepted r) made before = grind (arith, by_test)
     step ev (Accepted r) made before = stays ev (Accepted r) made refl refl before
 
 pub all_handed : (o : Opening) (es : List Entry) → IsPlayedIn o es → (l : ℕ) → IsHanded o l es
 all_handed o [] legal l = grind (arith, Waits)
-all_handed o (e ∷ es) legal l =
-    step o es e l legal.1 e.event e.verdict legal.0 (all_handed o es legal.1 l)
+all_handed o (e ∷ es) legal l = grind (arith, step, all_handed o es legal.1 l)
 
 -- while the link is open, what waits is the rest
 pub open_rest : (o : Opening) (es : List Entry) (l : ℕ) → is_open l es ≡ true → IsHanded o l es

@@ -1,17 +1,16 @@
 -- The frames of the handshake, whose bodies spell no message.
 use Rattle.frame_laws.proofs
-use proofs.Words.{ack_bytes, AckFrame, all_append, AllByRecursion, ap, AwaitAck, AwaitAnswer}
-use proofs.Words.{AwaitChallenge, Awaited, AwaitMessage, AwaitName, AwaitReply, AwaitStatus, Bool}
-use proofs.Words.{Challenge, challenge_frame, cond, digest_for, discovers, false, frame_owes}
-use proofs.Words.{frame_taken, get_or, History, is_dialling, is_name_up, is_some, is_visible}
-use proofs.Words.{IsNode, IsText, lie, List, map, Message, Message2, message2_bytes, message_bytes}
-use proofs.Words.{message_owes, message_taken, Name, name_frame, narrow, None, Option, option_map}
-use proofs.Words.{option_map_or, OutFrame, own_challenge, own_challenge_frame, own_name_frame}
-use proofs.Words.{PartKind, read_message, read_message2, refl, refusal_owes, reply_bytes}
-use proofs.Words.{reply_frame, ReplyFrame, Rule, running_scopes, Some, SpellsMessage}
-use proofs.Words.{SpellsMessage-read, SpellsMessage2, SpellsMessage2-read, status_frame, status_of}
-use proofs.Words.{StatusWord, sym, true, true_to, welcome, whole, wide, ℕ, [], ◌++◌, ◌==◌, ◌||◌}
-use proofs.Words.{◌∙◌, ◌∷◌, ◌≡◌}
+use proofs.Words.{ack_bytes, AckFrame, all_append, AllByRecursion, ap, arith, AwaitAck}
+use proofs.Words.{AwaitAnswer, AwaitChallenge, Awaited, AwaitMessage, AwaitName, AwaitReply}
+use proofs.Words.{AwaitStatus, Bool, Challenge, challenge_frame, cond, digest_for, discovers}
+use proofs.Words.{false, frame_owes, frame_taken, get_or, History, is_dialling, is_name_up, IsNode}
+use proofs.Words.{IsText, lie, List, map, Message, Message2, message2_bytes, message_bytes}
+use proofs.Words.{message_owes, message_taken, narrow, None, Option, option_map, option_map_or}
+use proofs.Words.{OutFrame, own_challenge, own_challenge_frame, own_name_frame, read_message}
+use proofs.Words.{read_message2, refl, refusal_owes, reply_bytes, reply_frame, ReplyFrame, Rule}
+use proofs.Words.{Some, SpellsMessage, SpellsMessage-read, SpellsMessage2, SpellsMessage2-read}
+use proofs.Words.{status_frame, status_of, StatusWord, sym, true, true_to, welcome, whole, wide, ℕ}
+use proofs.Words.{[], ◌++◌, ◌==◌, ◌||◌, ◌∙◌, ◌∷◌, ◌≡◌}
 use proofs.OwnLimits.{scopes_text}
 
 -- ---- bodies
@@ -24,26 +23,18 @@ abbrev pub begins_message : ℕ → Bool
 begins_message b = b == 0x44 || b == 0x53 || b == 0x4A || b == 0x4C || b == 0x58
 
 begins : (m : Message) → begins_message (first_byte (message_bytes m)) ≡ true
-begins (Message.Discover s) = refl
-begins (Message.Sync s rows) = refl
-begins (Message.Join s rows) = refl
-begins (Message.Leave s rows) = refl
-begins (Message.Down s) = refl
+begins m = grind arith
 
 begins_part : (m : Message2) → begins_message (first_byte (message2_bytes m)) ≡ true
-begins_part (Message2.Discover s) = refl
-begins_part (Message2.Part PartKind.Sync s number last rows) = refl
-begins_part (Message2.Part PartKind.Join s number last rows) = refl
-begins_part (Message2.Part PartKind.Leave s number last rows) = refl
-begins_part (Message2.Down s) = refl
+begins_part m = grind arith
 
 pub taken_new : (v : ℕ) (body : List ℕ) → (v == 2) ≡ true → message_taken v body ≡ read_message2
     body
-taken_new v body q = ap (λ b. cond b (read_message2 body) (option_map whole (read_message body))) q
+taken_new v body q = grind arith
 
 pub taken_old : (v : ℕ) (body : List ℕ) → (v == 2) ≡ false
     → message_taken v body ≡ option_map whole (read_message body)
-taken_old v body q = ap (λ b. cond b (read_message2 body) (option_map whole (read_message body))) q
+taken_old v body q = grind arith
 
 pub no_message : (v : ℕ) (body : List ℕ) → begins_message (first_byte body) ≡ false
     → message_taken v body ≡ None
@@ -61,11 +52,7 @@ no_message v body q = by (v == 2) (read_message body) refl (read_message2 body) 
 
 pub begins_it : (v : ℕ) (body : List ℕ) (m : Message2) → message_taken v body ≡ Some m
     → begins_message (first_byte body) ≡ true
-begins_it v body m says = by (begins_message (first_byte body)) refl
-  where
-    by : (b : Bool) → begins_message (first_byte body) ≡ b → begins_message (first_byte body) ≡ true
-    by true q = q
-    by false q = lie (sym (ap is_some (sym (no_message v body q) ∙ says)))
+begins_it v body m says = grind (arith, no_message v body)
 
 -- ---- what holds of each frame of the handshake, and of each Discover of a running scope
 
@@ -88,22 +75,7 @@ pub record HoldsOfHellos (h : History) (l : ℕ) (L : List OutFrame → Type 0) 
 pub of_hellos : (h : History) (l : ℕ) (L : List OutFrame → Type 0)
     → ((body : List ℕ) → begins_message (first_byte body) ≡ false → L (narrow body ∷ []))
     → HoldsOfHellos h l L
-of_hellos h l L hellos =
-    record {
-      status = each;
-      challenge = hellos _ refl;
-      reply = λ f. hellos _ refl;
-      ack = λ f. hellos _ refl;
-    }
-  where
-    each : (w : StatusWord) → L (status_frame w ∷ [])
-    each StatusWord.Ok = hellos _ refl
-    each StatusWord.OkSimultaneous = hellos _ refl
-    each StatusWord.Nok = hellos _ refl
-    each StatusWord.NotAllowed = hellos _ refl
-    each StatusWord.Alive = hellos _ refl
-    each StatusWord.True = hellos _ refl
-    each StatusWord.False = hellos _ refl
+of_hellos h l L hellos = grind arith
 
 module _ (h : History) (node : IsNode h) (l : ℕ) (L : List OutFrame → Type 0) (closed : IsClosed L)
     (hellos : HoldsOfHellos h l L)
@@ -115,11 +87,7 @@ module _ (h : History) (node : IsNode h) (l : ℕ) (L : List OutFrame → Type 0
       (map (λ t. wide (Message.Discover t)) ss) (asks s texts.0) (discover_all ss texts.1)
 
   discovers_all : L (discovers h l)
-  discovers_all = by (is_visible h l)
-    where
-      by : (b : Bool) → L (cond b (map (λ s. wide (Message.Discover s)) (running_scopes h)) [])
-      by true = discover_all (running_scopes h) (scopes_text h node)
-      by false = closed.nothing
+  discovers_all = grind (arith, discover_all, scopes_text h node)
 
   welcome_all : (n : List ℕ) → L (welcome h l n)
   welcome_all n = by (is_name_up n h.entries) (is_dialling n h.entries)
@@ -137,11 +105,7 @@ module _ (h : History) (node : IsNode h) (l : ℕ) (L : List OutFrame → Type 0
   pub frame_all : (body : List ℕ) (a : Awaited)
       → (a ≡ AwaitMessage → (m : Message2) → frame_taken h.opening l h.entries body ≡ Some m
       → L (message_owes h l m)) → L (frame_owes h l body a)
-  frame_all body AwaitName spoken = by (name_frame body)
-    where
-      by : (x : Option Name) → L (option_map_or (λ f. welcome h l f.name) x [])
-      by None = closed.nothing
-      by (Some f) = welcome_all f.name
+  frame_all body AwaitName spoken = grind (arith, welcome_all)
   frame_all body AwaitAnswer spoken = hellos.challenge
   frame_all body AwaitReply spoken = by (reply_frame body)
     where
@@ -173,12 +137,7 @@ module _ (h : History) (node : IsNode h) (l : ℕ) (L : List OutFrame → Type 0
       by (Some f) = hellos.reply
           (record { challenge = own_challenge l h.entries; digest = digest_for h l f.challenge })
   frame_all body AwaitAck spoken = discovers_all
-  frame_all body AwaitMessage spoken = by (frame_taken h.opening l h.entries body) refl
-    where
-      by : (x : Option Message2) → frame_taken h.opening l h.entries body ≡ x
-          → L (option_map_or (message_owes h l) x [])
-      by None is = closed.nothing
-      by (Some m) is = spoken refl m is
+  frame_all body AwaitMessage spoken = grind arith
 
   pub refusal_all : (r : Rule) → L (refusal_owes r)
   refusal_all Rule.NotAllowed = hellos.status StatusWord.NotAllowed
@@ -187,5 +146,4 @@ module _ (h : History) (node : IsNode h) (l : ℕ) (L : List OutFrame → Type 0
   refusal_all r = closed.nothing
 
   pub dial_all : L (own_name_frame h ∷ []) → (b : Bool) → L (cond b (own_name_frame h ∷ []) [])
-  dial_all name true = name
-  dial_all name false = closed.nothing
+  dial_all name b = grind arith

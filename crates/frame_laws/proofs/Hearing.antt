@@ -1,14 +1,14 @@
 -- What is heard of a node is what it said.
 use Rattle.frame_laws.proofs
 use proofs.Words.{Accepted, and_parts, ap, append-nil, arith, Begun, begun, begun_of, Bool, but}
-use proofs.Words.{came, cond, delivered, ends_rows, Entry, eqb-true, Event, false, frame_taken}
-use proofs.Words.{fresh, has_rows, HasGiven, heard, HeardIsSaid, History, inl, inr, is_open, is_up}
+use proofs.Words.{came, cond, delivered, Entry, eqb-true, Event, false, frame_taken, fresh}
+use proofs.Words.{has_rows, HasGiven, heard, HeardIsSaid, History, inl, inr, is_open, is_up}
 use proofs.Words.{is_whole, IsGiven, IsHonest, IsPlayedIn, IsStep, KeepsOrNot, kept_after, known}
 use proofs.Words.{length, lie, link_version, List, Message, message_taken, None, none_begun}
 use proofs.Words.{Opening, Option, option_map_or, option_to_list, past, Pid, refl, Refused, Reply}
-use proofs.Words.{Rule, said_at, same_decides, says_rows, seen_by, slice_get, slice_get_within}
-use proofs.Words.{Some, Speaks, stated, subst, sym, take, take-append-le, tells_rows, told_rows}
-use proofs.Words.{true, Verdict, view_of, ℕ, [], ◌&&◌, ◌++◌, ◌+◌, ◌==◌, ◌||◌, ◌∙◌, ◌∷◌, ◌≡◌}
+use proofs.Words.{Rule, said_at, same_decides, says_rows, seen_by, slice_get_within, Some, Speaks}
+use proofs.Words.{stated, subst, sym, take-append-le, tells_rows, told_rows, true, Verdict}
+use proofs.Words.{view_of, ℕ, [], ◌&&◌, ◌++◌, ◌+◌, ◌==◌, ◌||◌, ◌∙◌, ◌∷◌, ◌≡◌}
 use proofs.Accepting.{is_up_there}
 use proofs.Bodies.{anew, apart_so, begun_more, completes_there, honest_first, is_known, left_so}
 use proofs.Bodies.{says_ends, stands_first, stands_last, take_last, view_more}
@@ -16,9 +16,9 @@ use proofs.KeptStands.{up_back}
 use proofs.KnownAfter.{known_after}
 use proofs.NotRefused.{kept_of}
 use proofs.Spoken.{speaks_now}
-use proofs.Alike.{accepts_alike, AcceptsAlike, Alike, NeedsAlike, some_whole, taken_same}
+use proofs.Alike.{accepts_alike, AcceptsAlike, Alike, NeedsAlike, some_whole}
 use proofs.RefusedParts.{Before, from_or, heard_before, or_true, quiet_heard, refused_alike}
-use proofs.RefusedParts.{refused_apart, stated_before, stopped_alike}
+use proofs.RefusedParts.{refused_apart, stopped_alike}
 
 module _ (v : ℕ) (o : Opening) (es : List Entry) (e : Entry) (legal : IsPlayedIn o es) (l : ℕ)
     (agrees : is_whole l es ≡ true → link_version o l es ≡ v) (s : List ℕ) where
@@ -28,51 +28,60 @@ module _ (v : ℕ) (o : Opening) (es : List Entry) (e : Entry) (legal : IsPlayed
   abbrev bodies : List (List ℕ)
   bodies = delivered l es
 
-  same_said : (ev : Event) (w : Verdict) → came l ev ≡ [] → tells_rows o l s es w ev ≡ false
-      → heard o l s (but e ev w ∷ es) ≡ true
-      → ((g : List ℕ) (p : Pid) → stated o l s g p (but e ev w ∷ es) ≡ stated o l s g p es)
-      → HeardIsSaid v h l s → HeardIsSaid v (past o (but e ev w ∷ es)) l s
-  same_said ev w none untold hears same_stated it = record {
-    place = it.place;
-    earlier = it.earlier;
-    last = (λ i. cond (hears i) (cond (untold i) (length bodies ∷ []) [] ++ told_rows o l s es) [])
-        ∙ it.last;
-    body = it.body;
-    stands = ap (λ bs. slice_get bs it.place) nothing ∙ it.stands;
-    rows = it.rows;
-    behind = λ g p. ap (λ bs. view_of v s g p (take (it.place + 1) bs)) nothing ∙ it.behind g p
-        ∙ ap Some (sym (same_stated g p));
-    now = λ g p. ap (view_of v s g p) nothing ∙ it.now g p ∙ ap Some (sym (same_stated g p));
-  }
-    where
-      nothing : bodies ++ came l ev ≡ bodies
-      nothing = grind (arith, append-nil bodies)
+  abbrev SameKnown : Event → Verdict → Type 0
+  SameKnown ev w = (g : List ℕ) (p : Pid)
+      → known o l s g p (but e ev w ∷ es) ≡ known o l s g p es
 
-  -- a body came that says nothing of s, and the same is stated
-  calm_said : (ev : Event) (w : Verdict) (body : List ℕ) → came l ev ≡ body ∷ []
-      → tells_rows o l s es w ev ≡ false → heard o l s (but e ev w ∷ es) ≡ true
-      → ((g : List ℕ) (p : Pid) → stated o l s g p (but e ev w ∷ es) ≡ stated o l s g p es)
-      → ((g : List ℕ) (p : Pid) (w : Option ℕ)
-      → seen_by s g p (option_to_list (completes_there v bodies body)) w ≡ w)
-      → HeardIsSaid v h l s → HeardIsSaid v (past o (but e ev w ∷ es)) l s
-  calm_said ev w body one untold hears same_stated stays it = record {
-    place = it.place;
-    earlier = it.earlier;
-    last = (λ i. cond (hears i) (cond (untold i) (length bodies ∷ []) [] ++ told_rows o l s es) [])
-        ∙ it.last;
-    body = it.body;
-    stands = stands_first bodies (came l ev) it.place it.body it.stands;
-    rows = it.rows;
-    behind = λ g p.
-        let less = slice_get_within bodies it.place it.body it.stands in
-        ap (view_of v s g p) (take-append-le (it.place + 1) bodies (came l ev) (omega (
-          arith,
-          less,
-        )))
-        ∙ it.behind g p ∙ ap Some (sym (same_stated g p));
-    now = λ g p. ap (λ bs. view_of v s g p (bodies ++ bs)) one ∙ view_more v bodies body s g p
-        ∙ stays g p (view_of v s g p bodies) ∙ it.now g p ∙ ap Some (sym (same_stated g p));
-  }
+  abbrev Said : Event → Verdict → Type 0
+  Said ev w = HeardIsSaid v (past o (but e ev w ∷ es)) l s
+
+  -- nothing more is known: who is heard now was heard so
+  module _ (ev : Event) (w : Verdict) (untold : tells_rows o l s es w ev ≡ false)
+      (hears : heard o l s (but e ev w ∷ es) ≡ true) (same_known : SameKnown ev w)
+      (before : Before v o l s es) where
+    it : HeardIsSaid v h l s
+    it = before (heard_before v o es e legal l agrees s ev w hears same_known)
+
+    same_stated : (g : List ℕ) (p : Pid)
+        → stated o l s g p (but e ev w ∷ es) ≡ stated o l s g p es
+    same_stated = grind arith
+
+    same_told : told_rows o l s (but e ev w ∷ es) ≡ it.place ∷ it.earlier
+    same_told = grind arith
+
+    same_said : came l ev ≡ [] → Said ev w
+    same_said none = record {
+      place = it.place;
+      earlier = it.earlier;
+      last = same_told;
+      body = it.body;
+      stands = grind (arith, nothing, it.stands);
+      rows = it.rows;
+      behind = λ g p. grind (arith, nothing, it.behind g p);
+      now = λ g p. grind (arith, nothing);
+    }
+      where
+        nothing : bodies ++ came l ev ≡ bodies
+        nothing = grind (arith, append-nil bodies)
+
+    -- a body came that says nothing of s
+    calm_said : (body : List ℕ) → came l ev ≡ body ∷ []
+        → ((g : List ℕ) (p : Pid) (w : Option ℕ)
+        → seen_by s g p (option_to_list (completes_there v bodies body)) w ≡ w) → Said ev w
+    calm_said body one stays = record {
+      place = it.place;
+      earlier = it.earlier;
+      last = same_told;
+      body = it.body;
+      stands = stands_first bodies (came l ev) it.place it.body it.stands;
+      rows = it.rows;
+      behind = λ g p.
+          let less = slice_get_within bodies it.place it.body it.stands in
+          let first = take-append-le (it.place + 1) bodies (came l ev) (omega arith) in
+          grind arith;
+      now = λ g p.
+          grind (arith, one, view_more v bodies body s g p, stays g p (view_of v s g p bodies));
+    }
 
   -- a body came that says rows of s, and was accepted
   rows_said : (ev : Event) (w : Verdict) (body : List ℕ) → came l ev ≡ body ∷ []
@@ -80,17 +89,16 @@ module _ (v : ℕ) (o : Opening) (es : List Entry) (e : Entry) (legal : IsPlayed
       → has_rows v s body ≡ true
       → ((g : List ℕ) (p : Pid) → seen_by s g p (option_to_list (completes_there v bodies body))
       (view_of v s g p bodies) ≡ Some (stated o l s g p (but e ev w ∷ es)))
-      → HeardIsSaid v (past o (but e ev w ∷ es)) l s
+      → Said ev w
   rows_said ev w body one told hears rows says = record {
     place = length bodies;
     earlier = told_rows o l s es;
-    last = λ i. cond (hears i) (cond (told i) (length bodies ∷ []) [] ++ told_rows o l s es) [];
+    last = grind arith;
     body = body;
-    stands = ap (λ bs. slice_get (bodies ++ bs) (length bodies)) one ∙ stands_last bodies body;
+    stands = grind (arith, stands_last bodies body);
     rows = rows;
-    behind = λ g p. ap (λ bs. view_of v s g p (take (length bodies + 1) (bodies ++ bs))) one
-        ∙ ap (view_of v s g p) (take_last bodies body) ∙ all g p;
-    now = λ g p. ap (λ bs. view_of v s g p (bodies ++ bs)) one ∙ all g p;
+    behind = λ g p. grind (arith, take_last bodies body, all g p);
+    now = λ g p. grind (arith, all g p);
   }
     where
       all : (g : List ℕ) (p : Pid)
@@ -114,29 +122,26 @@ module _ (v : ℕ) (o : Opening) (es : List Entry) (e : Entry) (legal : IsPlayed
           ≡ seen_by s g p (cond (b && w) (said_by (said_at o l es body)) [])
           (known o l s g p es)
       known_at b w is whole g p =
-          known_after o es e legal l s g p ev (Accepted r) next hears
-          ∙ (λ i. seen_by s g p (cond (is i && whole i) (said_by (said_at o l es body)) [])
-          (known o l s g p es))
+          grind (
+            arith,
+            known_after o es e legal l s g p ev (Accepted r) next hears,
+          )
 
       -- of another link
-      other_said : (k == l) ≡ false → HeardIsSaid v (past o (x ∷ es)) l s
-      other_said other =
-          let same_known = known_at false (is_whole l es) other refl in
-          same_said ev (Accepted r) (ap (λ b. cond b (body ∷ []) []) other)
-          (ap (λ b. (b && is_whole l es)
-          && option_map_or (says_rows s) (said_at o l es body) false) other) hears
-          (stated_before v o es e legal l agrees s ev (Accepted r) hears same_known)
-          (before (heard_before v o es e legal l agrees s ev (Accepted r) hears same_known))
+      other_said : (k == l) ≡ false → Said ev (Accepted r)
+      other_said other = same_said ev (Accepted r) (grind arith) hears
+          (known_at false (is_whole l es) other refl) before (grind arith)
 
       module _ (is : (k == l) ≡ true) where
         one : came l ev ≡ body ∷ []
         one = grind arith
 
-        unwhole : is_whole l es ≡ false → HeardIsSaid v (past o (x ∷ es)) l s
+        unwhole : is_whole l es ≡ false → Said ev (Accepted r)
         unwhole un =
-            lie (sym ((and_parts (is_open l es) (is_whole l es) (is_up_there h legal l s
-            (heard_before v o es e legal l agrees s ev (Accepted r) hears (known_at true false is
-            un)))).1) ∙ un)
+            let was = is_up_there h legal l s
+            (heard_before v o es e legal l agrees s ev (Accepted r)
+            hears (known_at true false is un)) in
+            grind arith
 
         module _ (whole : is_whole l es ≡ true) (alike : Alike v o l s es) where
           now_known : (g : List ℕ) (p : Pid)
@@ -152,52 +157,39 @@ module _ (v : ℕ) (o : Opening) (es : List Entry) (e : Entry) (legal : IsPlayed
               is whole alike) g p w
 
           with_rows : option_map_or (says_rows s) (said_at o l es body) false ≡ true
-              → HeardIsSaid v (past o (x ∷ es)) l s
+              → Said ev (Accepted r)
           with_rows has = rows_said ev (Accepted r) body one (λ i. (is i && whole i) && has i) hears
-              (sym (says_ends s (begun o l es) (frame_taken o l es body)
-              ∙ ap (λ y. option_map_or (ends_rows s) y false) (taken_same v o es e legal l agrees s
-              body whole)) ∙ has)
+              (grind (arith, says_ends s (begun o l es) (frame_taken o l es body)))
               (λ g p. sym (as_came g p (view_of v s g p bodies))
               ∙ by g p (heard o l s es) refl)
             where
               by : (g : List ℕ) (p : Pid) (b : Bool) → heard o l s es ≡ b
                   → seen_by s g p (said_by (said_at o l es body)) (view_of v s g p bodies) ≡ Some
                   (stated o l s g p (x ∷ es))
-              by g p true was = ap (seen_by s g p (said_by (said_at o l es body)))
-                  (HeardIsSaid.now (before was) g p ∙ sym (is_known o l s g p es was))
-                  ∙ now_known g p
+              by g p true was =
+                  grind (arith, now_known g p)
               by g p false un = anew s g p (said_at o l es body) (stated o l s g p (x ∷ es))
-                  (ap (seen_by s g p (said_by (said_at o l es body)))
-                  (sym (ap (λ b. cond b (Some (stated o l s g p es)) None) un)) ∙ now_known g p)
-                  (view_of v s g p bodies)
+                  (grind arith) (view_of v s g p bodies)
 
           without : option_map_or (says_rows s) (said_at o l es body) false ≡ false
-              → HeardIsSaid v (past o (x ∷ es)) l s
+              → Said ev (Accepted r)
           without none =
               let stays : (g : List ℕ) (p : Pid) (w : Option ℕ)
               → seen_by s g p (said_by (said_at o l es body)) w ≡ w =
               λ g p. left_so s g p (said_at o l es body) (known o l s g p es)
               (stated o l s g p (x ∷ es)) none (now_known g p) in
-              let same_known : (g : List ℕ) (p : Pid)
-              → known o l s g p (x ∷ es) ≡ known o l s g p es =
+              let same_known : SameKnown ev (Accepted r) =
               λ g p. known_at true true is whole g p ∙ stays g p (known o l s g p es) in
-              calm_said ev (Accepted r) body one (ap (λ b. (k == l && is_whole l es) && b) none
-              ∙ no_tail (k == l && is_whole l es)) hears (stated_before v o es e legal l agrees s
-              ev (Accepted r) hears
-              same_known) (λ g p w. sym (as_came g p w) ∙ stays g p w)
-              (before (heard_before v o es e legal l agrees s ev (Accepted r) hears same_known))
-            where
-              no_tail : (b : Bool) → (b && false) ≡ false
-              no_tail true = refl
-              no_tail false = refl
+              calm_said ev (Accepted r) (grind arith) hears same_known before body one
+              (λ g p w. sym (as_came g p w) ∙ stays g p w)
 
           whole_said : (b : Bool) → option_map_or (says_rows s) (said_at o l es body) false ≡ b
-              → HeardIsSaid v (past o (x ∷ es)) l s
+              → Said ev (Accepted r)
           whole_said true has = with_rows has
           whole_said false none = without none
 
       accepted_said : Alike v o l s es → (b w : Bool) → (k == l) ≡ b → is_whole l es ≡ w
-          → HeardIsSaid v (past o (x ∷ es)) l s
+          → Said ev (Accepted r)
       accepted_said alike false w other un = other_said other
       accepted_said alike true false is un = unwhole is un
       accepted_said alike true true is whole = whole_said is whole alike
@@ -207,137 +199,120 @@ module _ (v : ℕ) (o : Opening) (es : List Entry) (e : Entry) (legal : IsPlayed
         → IsGiven l name creation es) (r : Rule) (next : IsStep h (but e ev (Refused r)))
         (hears : heard o l s (but e ev (Refused r) ∷ es) ≡ true) (before : Before v o l s es)
         (alike : Alike v o l s es) where
-      same_known : (g : List ℕ) (p : Pid)
-          → known o l s g p (but e ev (Refused r) ∷ es) ≡ known o l s g p es
+      same_known : SameKnown ev (Refused r)
       same_known g p = grind (arith, known_after)
 
       was : heard o l s es ≡ true
       was = grind (arith, heard_before v o es e legal l agrees s ev (Refused r) hears same_known)
 
       refused_said : (b : Bool) → (k == l) ≡ b
-          → IsHonest v name creation s (bodies ++ cond b (body ∷ []) [])
-          → HeardIsSaid v (past o (but e ev (Refused r) ∷ es)) l s
-      refused_said false other honest = same_said ev (Refused r) (ap (λ b. cond b (body ∷ []) [])
-          other) refl hears (stated_before v o es e legal l agrees s ev (Refused r) hears
-          same_known) (before was)
+          → IsHonest v name creation s (bodies ++ cond b (body ∷ []) []) → Said ev (Refused r)
+      refused_said false other honest = grind (arith, same_said)
       refused_said true is honest =
-          calm_said ev (Refused r) body (ap (λ b. cond b (body ∷ []) []) is) refl hears
-          (stated_before v o es e legal l agrees s ev (Refused r) hears same_known)
+          calm_said ev (Refused r) refl hears same_known before body (grind arith)
           (λ g p. apart_so s g p (completes_there v bodies body)
           (refused_apart v o es e legal l agrees s name creation gives body honest before alike r
           (subst (λ j. IsStep h (but e (Event.Frame j body) (Refused r))) (eqb-true k l is) next)
-          was)) (before was)
+          was))
 
-  entry_said : (name : List ℕ) (creation : ℕ) → (is_whole l es ≡ true → IsGiven l name creation es)
-      → Before v o l s es → Alike v o l s es → (ev : Event) (w : Verdict) → IsStep h (but e ev w)
-      → IsHonest v name creation s (bodies ++ came l ev)
-      → heard o l s (but e ev w ∷ es) ≡ true → HeardIsSaid v (past o (but e ev w ∷ es)) l s
-  entry_said name creation gives before alike (Event.Frame k body) (Accepted r) next honest hears =
-      accepted_said k body r next hears before alike (k == l) (is_whole l es) refl refl
-  entry_said name creation gives before alike (Event.Frame k body) (Refused r) next honest hears =
-      refused_said k body name creation gives r next hears before alike (k == l) refl honest
-  entry_said name creation gives before alike ev (Accepted r) next honest hears =
-      let same_known = λ (g : List ℕ) (p : Pid). known_after o es e legal l s g p ev (Accepted r)
-      next hears in
-      same_said ev (Accepted r) refl refl hears (stated_before v o es e legal l agrees s ev
-      (Accepted r) hears same_known)
-      (before (heard_before v o es e legal l agrees s ev (Accepted r) hears same_known))
-  entry_said name creation gives before alike ev (Refused r) next honest hears =
-      let same_known = λ (g : List ℕ) (p : Pid). known_after o es e legal l s g p ev (Refused r)
-      next hears in
-      same_said ev (Refused r) refl refl hears (stated_before v o es e legal l agrees s ev (Refused
-      r) hears same_known)
-      (before (heard_before v o es e legal l agrees s ev (Refused r) hears same_known))
+  module _ (name : List ℕ) (creation : ℕ)
+      (gives : is_whole l es ≡ true → IsGiven l name creation es)
+      (before : Before v o l s es) (alike : Alike v o l s es) where
+    entry_said : (ev : Event) (w : Verdict) → IsStep h (but e ev w)
+        → IsHonest v name creation s (bodies ++ came l ev)
+        → heard o l s (but e ev w ∷ es) ≡ true → Said ev w
+    entry_said (Event.Frame k body) (Accepted r) next honest hears =
+        accepted_said k body r next hears before alike (k == l) (is_whole l es) refl refl
+    entry_said (Event.Frame k body) (Refused r) next honest hears =
+        refused_said k body name creation gives r next hears before alike (k == l) refl honest
+    entry_said ev (Accepted r) next honest hears =
+        same_said ev (Accepted r) refl hears
+        (λ g p. known_after o es e legal l s g p ev (Accepted r) next hears) before refl
+    entry_said ev (Refused r) next honest hears =
+        grind (arith, same_said)
 
-  -- ---- what is kept is what all that came makes
+    -- ---- what is kept is what all that came makes
 
-  -- nothing came on the link, and the same is kept
-  same_alike : (ev : Event) (w : Verdict) → IsStep h (but e ev w) → came l ev ≡ []
-      → begun o l (but e ev w ∷ es) ≡ begun o l es
-      → Alike v o l s es → Alike v o l s (but e ev w ∷ es)
-  same_alike ev w next none same_begun alike up kept =
-      same_begun ∙ alike was (from_or (kept_of s (begun o l (but e ev w ∷ es)))
-      (heard o l s (but e ev w ∷ es) && kept_of s (begun_of v (bodies ++ came l ev)))
-      (NeedsAlike v o l s es ≡ true) kept
-      (λ mine. ap (λ b. b || (heard o l s es && kept_of s (begun_of v bodies)))
-      (sym (ap (kept_of s) same_begun) ∙ mine))
-      (λ both. (let it = and_parts (heard o l s (but e ev w ∷ es))
-      (kept_of s (begun_of v (bodies ++ came l ev))) both in
-      or_true (kept_of s (begun o l es)) (λ i. heard_still it.0 i
-      && (sym (ap (λ bs. kept_of s (begun_of v bs)) nothing) ∙ it.1) i))))
-      ∙ sym (ap (begun_of v) nothing)
-    where
-      nothing : bodies ++ came l ev ≡ bodies
-      nothing = ap (λ bs. bodies ++ bs) none ∙ append-nil bodies
+    -- nothing came on the link, and the same is kept
+    same_alike : (ev : Event) (w : Verdict) → IsStep h (but e ev w) → came l ev ≡ []
+        → begun o l (but e ev w ∷ es) ≡ begun o l es
+        → Alike v o l s (but e ev w ∷ es)
+    same_alike ev w next none same_begun up kept =
+        same_begun ∙ alike was (from_or (kept_of s (begun o l (but e ev w ∷ es))) _
+        (NeedsAlike v o l s es ≡ true) kept (λ mine. grind arith)
+        (λ both. (let it = and_parts (heard o l s (but e ev w ∷ es))
+        (kept_of s (begun_of v (bodies ++ came l ev))) both in
+        or_true (kept_of s (begun o l es))
+        (λ i. heard_still it.0 i
+        && (ap (λ bs. kept_of s (begun_of v bs)) (sym nothing) ∙ it.1) i))))
+        ∙ sym (ap (begun_of v) nothing)
+      where
+        nothing : bodies ++ came l ev ≡ bodies
+        nothing = ap (λ bs. bodies ++ bs) none ∙ append-nil bodies
 
-      heard_still : heard o l s (but e ev w ∷ es) ≡ true → heard o l s es ≡ true
-      heard_still hears = quiet_heard v o es e legal l agrees s ev w next none hears
+        heard_still : heard o l s (but e ev w ∷ es) ≡ true → heard o l s es ≡ true
+        heard_still hears = quiet_heard v o es e legal l agrees s ev w next none hears
 
-      was : is_up l es ≡ true
-      was = from_or (kept_of s (begun o l (but e ev w ∷ es)))
-          (heard o l s (but e ev w ∷ es) && kept_of s (begun_of v (bodies ++ came l ev)))
-          (is_up l es ≡ true) kept
-          (λ mine. up_back o l es e legal (fresh o es legal (but e ev w) next) ev w up (some_whole
-          v o es e legal l agrees s
-          (sym (ap (kept_of s) same_begun) ∙ mine)))
-          (λ both. is_up_there h legal l s (heard_still (and_parts
-          (heard o l s (but e ev w ∷ es)) (kept_of s (begun_of v (bodies ++ came l ev))) both).0))
+        was : is_up l es ≡ true
+        was = from_or (kept_of s (begun o l (but e ev w ∷ es))) _ (is_up l es ≡ true) kept
+            (λ mine. up_back o l es e legal (fresh o es legal (but e ev w) next) ev w up
+            (some_whole v o es e legal l agrees s (grind arith)))
+            (λ both. is_up_there h legal l s (heard_still (and_parts _ _ both).0))
 
-  each_alike : (name : List ℕ) (creation : ℕ) → (is_whole l es ≡ true → IsGiven l name creation es)
-      → Before v o l s es → Alike v o l s es → (ev : Event) (w : Verdict) → IsStep h (but e ev w)
-      → IsHonest v name creation s (bodies ++ came l ev) → Alike v o l s (but e ev w ∷ es)
-  each_alike name creation gives before alike (Event.Frame k body) (Accepted r) next honest =
-      by (k == l) refl (is_whole l es) refl
-    where
-      by : (b : Bool) → (k == l) ≡ b → (c : Bool) → is_whole l es ≡ c
-          → Alike v o l s (but e (Event.Frame k body) (Accepted r) ∷ es)
-      by false other c whole = same_alike (Event.Frame k body) (Accepted r) next
-          (ap (λ b. cond b (body ∷ []) []) other)
-          (ap (λ b. cond (b && is_whole l es) (kept_after (begun o l es)
-          (frame_taken o l es body)) (begun o l es)) other) alike
-      by true is true whole = λ up kept.
-          let begun_is = ap (λ b. cond b (kept_after (begun o l es) (frame_taken o l es body))
-          (begun o l es)) (λ i. is i && whole i) in
-          let came_is = ap (λ b. begun_of v (bodies ++ cond b (body ∷ []) [])) is
-          ∙ begun_more v bodies body in
-          begun_is ∙ AcceptsAlike.begins (accepts_alike v o es e legal l agrees s k body r next is
-          whole alike)
-          (from_or (kept_of s (begun o l (but e (Event.Frame k body) (Accepted r) ∷ es))) _ _ kept
-          (λ mine. ap (λ b. b || kept_of s (kept_after (begun_of v bodies) (message_taken v body)))
-          (sym (ap (kept_of s) begun_is) ∙ mine))
-          (λ both. or_true _ (sym (ap (kept_of s) came_is) ∙ (and_parts _ _ both).1)))
-          ∙ sym came_is
-      by true is false un = λ up kept.
-          let begun_is = ap (λ b. cond b (kept_after (begun o l es) (frame_taken o l es body))
-          (begun o l es)) (λ i. is i && un i) ∙ none_begun o es legal l un in
-          from_or (kept_of s (begun o l (but e (Event.Frame k body) (Accepted r) ∷ es))) _ _ kept
-          (λ mine. lie (sym mine ∙ ap (kept_of s) begun_is))
-          (λ both. (let hears = (and_parts _ _ both).0 in
-          let was = heard_before v o es e legal l agrees s (Event.Frame k body) (Accepted r) hears
-          (known_at k body r next hears before true false is un) in
-          lie (sym ((and_parts (is_open l es) (is_whole l es)
-          (is_up_there h legal l s was)).1) ∙ un)))
-  each_alike name creation gives before alike (Event.Frame k body) (Refused r) next honest =
-      by (k == l) refl
-    where
-      by : (b : Bool) → (k == l) ≡ b → Alike v o l s (but e (Event.Frame k body) (Refused r) ∷ es)
-      by false other = same_alike (Event.Frame k body) (Refused r) next
-          (ap (λ b. cond b (body ∷ []) []) other) refl alike
-      by true is = refused_alike v o es e legal l agrees s name creation gives k body is
-          (subst (λ b. IsHonest v name creation s (bodies ++ cond b (body ∷ []) [])) is honest)
-          before alike r next
-  each_alike name creation gives before alike (Event.StopScope t) (Accepted r) next honest =
-      stopped_alike v o es e legal l agrees s t r next alike
-  each_alike name creation gives before alike Event.Restart (Accepted r) next honest =
-      λ up kept. lie (sym up)
-  each_alike name creation gives before alike ev (Accepted r) next honest =
-      same_alike ev (Accepted r) next refl refl alike
-  each_alike name creation gives before alike ev (Refused r) next honest =
-      same_alike ev (Refused r) next refl refl alike
+    each_alike : (ev : Event) (w : Verdict) → IsStep h (but e ev w)
+        → IsHonest v name creation s (bodies ++ came l ev) → Alike v o l s (but e ev w ∷ es)
+    each_alike (Event.Frame k body) (Accepted r) next honest =
+        by (k == l) refl (is_whole l es) refl
+      where
+        by : (b : Bool) → (k == l) ≡ b → (c : Bool) → is_whole l es ≡ c
+            → Alike v o l s (but e (Event.Frame k body) (Accepted r) ∷ es)
+        by false other c whole = same_alike (Event.Frame k body) (Accepted r) next
+            (ap (λ b. cond b (body ∷ []) []) other)
+            (ap (λ b. cond (b && is_whole l es) (kept_after (begun o l es)
+            (frame_taken o l es body)) (begun o l es)) other)
+        by true is true whole = λ up kept.
+            let begun_is = ap (λ b. cond b (kept_after (begun o l es) (frame_taken o l es body))
+            (begun o l es)) (λ i. is i && whole i) in
+            let came_is = ap (λ b. begun_of v (bodies ++ cond b (body ∷ []) [])) is
+            ∙ begun_more v bodies body in
+            begun_is ∙ AcceptsAlike.begins (accepts_alike v o es e legal l agrees s k body r next is
+            whole alike)
+            (from_or (kept_of s (begun o l (but e (Event.Frame k body) (Accepted r) ∷ es))) _ _ kept
+            (λ mine. ap
+            (λ b. b || kept_of s (kept_after (begun_of v bodies) (message_taken v body)))
+            (sym (ap (kept_of s) begun_is) ∙ mine))
+            (λ both. or_true _ (sym (ap (kept_of s) came_is) ∙ (and_parts _ _ both).1)))
+            ∙ sym came_is
+        by true is false un = λ up kept.
+            let begun_is = ap (λ b. cond b (kept_after (begun o l es) (frame_taken o l es body))
+            (begun o l es)) (λ i. is i && un i) ∙ none_begun o es legal l un in
+            from_or (kept_of s (begun o l (but e (Event.Frame k body) (Accepted r) ∷ es))) _ _ kept
+            (λ mine. lie (sym mine ∙ ap (kept_of s) begun_is))
+            (λ both. (let hears = (and_parts _ _ both).0 in
+            let was = heard_before v o es e legal l agrees s (Event.Frame k body) (Accepted r) hears
+            (known_at k body r next hears before true false is un) in
+            lie (sym ((and_parts (is_open l es) (is_whole l es)
+            (is_up_there h legal l s was)).1) ∙ un)))
+    each_alike (Event.Frame k body) (Refused r) next honest =
+        by (k == l) refl
+      where
+        by : (b : Bool) → (k == l) ≡ b → Alike v o l s (but e (Event.Frame k body) (Refused r) ∷ es)
+        by false other = same_alike (Event.Frame k body) (Refused r) next
+            (ap (λ b. cond b (body ∷ []) []) other) refl
+        by true is = refused_alike v o es e legal l agrees s name creation gives k body is
+            (subst (λ b. IsHonest v name creation s (bodies ++ cond b (body ∷ []) [])) is honest)
+            before alike r next
+    each_alike (Event.StopScope t) (Accepted r) next honest = grind (arith, stopped_alike)
+    each_alike Event.Restart (Accepted r) next honest =
+        λ up kept. cc
+    each_alike ev (Accepted r) next honest =
+        same_alike ev (Accepted r) next refl refl
+    each_alike ev (Refused r) next honest =
+        same_alike ev (Refused r) next refl refl
 
 pub given_here : (l : ℕ) (name : List ℕ) (creation : ℕ) (es : List Entry)
     → HasGiven l name creation es → is_whole l es ≡ true → IsGiven l name creation es
-given_here l name creation [] gives whole = lie (sym whole)
+given_here l name creation [] gives whole = cc
 given_here l name creation (e ∷ es) gives whole = gives.0 whole
 
 -- who is heard is heard so, and what is kept is so
@@ -351,8 +326,7 @@ pub follows_all : (v : ℕ) (o : Opening) (es : List Entry) → IsPlayedIn o es 
     → Speaks o l v es → (s name : List ℕ) (creation : ℕ)
     → IsHonest v name creation s (delivered l es) → HasGiven l name creation es
     → Follows v o l s es
-follows_all v o [] legal l speaks s name creation honest gives =
-    record { hears = λ q. lie (sym q); keeps = λ up q. lie (sym up) }
+follows_all v o [] legal l speaks s name creation honest gives = grind arith
 follows_all v o (e ∷ es) legal l speaks s name creation honest gives =
     let was = follows_all v o es legal.1 l speaks.1 s name creation
     (honest_first v name creation s (delivered l es) (came l e.event) honest) gives.1 in

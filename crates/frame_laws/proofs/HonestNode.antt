@@ -1,13 +1,13 @@
 -- What a node owes to a link is honest.
 use Rattle.frame_laws.proofs
-use proofs.Words.{ap, AreThere, bodies_of, creation, History, is_some, IsFew, IsHonest, IsNode, lie}
-use proofs.Words.{List, message_taken, moment, out, Owing, PartKind, PassesThrough, refl, slice_get}
-use proofs.Words.{so_far_behind, Some, Speaks, subst, suc, sym, take, view_of, zero, ℕ, [], ◌∙◌}
-use proofs.Words.{◌∷◌, ◌≡◌}
+use proofs.Words.{ap, bodies_of, creation, History, IsHonest, IsNode, List, message_taken, moment}
+use proofs.Words.{out, Owing, PassesThrough, refl, slice_get, Some, Speaks, subst, suc, sym, take}
+use proofs.Words.{zero, ℕ, [], ◌∙◌, ◌∷◌, ◌≡◌}
 use proofs.FromHere.{rows_own}
 use proofs.LinksTell.{all_tell}
 use proofs.Orderly.{out_orderly}
 use proofs.Through.{passes}
+use proofs.Calm.{FewBehind, ThereBehind}
 
 -- the frame of a body
 pub record IsBodyOf (owings : List Owing) (place : ℕ) (body : List ℕ) : Type 0 where
@@ -17,7 +17,7 @@ pub record IsBodyOf (owings : List Owing) (place : ℕ) (body : List ℕ) : Type
 
 pub frame_of : (owings : List Owing) (place : ℕ) (body : List ℕ)
     → slice_get (bodies_of owings) place ≡ Some body → IsBodyOf owings place body
-frame_of [] place body q = lie (sym (ap is_some q))
+frame_of [] place body q = cc
 frame_of (x ∷ owings) zero body q =
     record { owing = x; stands = refl; body_is = same_body x.frame.body body q }
   where
@@ -42,14 +42,12 @@ node_honest h node l v speaks s = record {
   order = (out_orderly h.opening h.entries node l v speaks).order;
   few = λ place body q kind number last rows says.
       let it = frame_of (out h l) place body q in
-      subst (λ bs. IsFew v s (λ g p. view_of v s g p bs) kind
-      (so_far_behind v bs kind s number rows)) (sym (take_bodies place (out h l)))
+      subst (FewBehind v s kind number rows) (sym (take_bodies place (out h l)))
       (passed.few place it.owing it.stands kind number last rows
       (ap (message_taken v) it.body_is ∙ says));
   there = λ place body q number last rows says.
       let it = frame_of (out h l) place body q in
-      subst (λ bs. AreThere (λ g p. view_of v s g p bs)
-      (so_far_behind v bs PartKind.Leave s number rows)) (sym (take_bodies place (out h l)))
+      subst (ThereBehind v s number rows) (sym (take_bodies place (out h l)))
       (passed.there place it.owing it.stands number last rows
       (ap (message_taken v) it.body_is ∙ says));
 }

@@ -1,16 +1,14 @@
 -- Where a message was begun on a link that is up, its scope runs, the link is visible, and for a
 -- Join and a Leave its peer is heard.
 use Rattle.frame_laws.proofs
-use proofs.Words.{Accepted, accepted, all_hold, always, and_parts, ap, arith, awaits, Begun, begun}
-use proofs.Words.{Bool, but, completed, cond, ends, Entry, entry_link, eq-eqb, eqb-true, Event}
-use proofs.Words.{false, first_broken, first_of, frame_checks, frame_taken, fresh, given_kept}
-use proofs.Words.{has_bit, heard, hears, is_open, is_opened_by, is_running, is_some, is_up}
-use proofs.Words.{is_visible, is_whole, is_whole_in, IsPlayedIn, IsStep, judgement, kept_after, lie}
-use proofs.Words.{List, Message2, message_checks, None, none_begun, not, open_first, Opened, opened}
-use proofs.Words.{Opening, Option, option_and_then, option_map_or, PartKind, past, refl, Refused}
-use proofs.Words.{Reply, Row, Rule, said_at, same, same_decides, Some, start_of, stopped_heard}
-use proofs.Words.{subst, sym, taken, talk, true, unbroken, unwrap_or, Verdict, whole_awaits, ℕ, []}
-use proofs.Words.{◌&&◌, ◌==◌, ◌||◌, ◌∙◌, ◌∷◌, ◌≡◌}
+use proofs.Words.{Accepted, all_hold, always, ap, arith, Begun, begun, Bool, but, completed, cond}
+use proofs.Words.{Entry, entry_link, eq-eqb, eqb-true, Event, false, first_broken, frame_taken}
+use proofs.Words.{fresh, given_kept, has_bit, heard, is_opened_by, is_running, is_some, is_up}
+use proofs.Words.{is_visible, is_whole, IsPlayedIn, IsStep, judgement, kept_after, lie, List}
+use proofs.Words.{Message2, message_checks, None, none_begun, not, opened, Opening, Option}
+use proofs.Words.{option_and_then, option_map_or, PartKind, past, refl, Refused, Reply, Row, Rule}
+use proofs.Words.{said_at, same, same_decides, Some, start_of, subst, sym, taken, talk, true}
+use proofs.Words.{unbroken, Verdict, ℕ, [], ◌&&◌, ◌==◌, ◌||◌, ◌∙◌, ◌∷◌, ◌≡◌}
 use proofs.Pieces.{value_of}
 
 abbrev pub is_sync : PartKind → Bool
@@ -34,43 +32,14 @@ module _ (o : Opening) (l : ℕ) where
 
     pub up_back : opened e.number es ≡ None → (ev : Event) (w : Verdict)
         → is_up l (but e ev w ∷ es) ≡ true → is_whole l es ≡ true → is_up l es ≡ true
-    up_back new ev w up whole = by (is_opened_by l x) refl
-        (and_parts (is_open l (x ∷ es)) (is_whole l (x ∷ es)) up).0
-      where
-        x : Entry
-        x = but e ev w
-
-        none : (e.number == l) ≡ true → opened l es ≡ None
-        none here = subst (λ n. opened n es ≡ None) (eqb-true e.number l here)
-            new
-
-        by : (b : Bool) → is_opened_by l (but e ev w) ≡ b → (is_opened_by l (but e ev w)
-            || (not (ends l es w ev) && is_open l es)) ≡ true → is_up l es ≡ true
-        by true here opens = lie (sym whole ∙ ap (λ (y : Option Opened). option_map_or
-            (λ z. is_whole_in z.start (taken l es)) y false) (none (numbered (but e ev w) here)))
-        by false other opens =
-            (λ i. (and_parts (not (ends l es w ev)) (is_open l es)
-            (sym (ap (λ b. b || (not (ends l es w ev) && is_open l es)) other) ∙ opens)).1 i
-            && whole i)
+    up_back new ev w up whole = grind arith
 
     -- what is begun is begun on a whole link
     pub begun_whole : (k : Begun) → begun o l es ≡ Some k → is_whole l es ≡ true
-    begun_whole k is = by (is_whole l es) refl
-      where
-        by : (b : Bool) → is_whole l es ≡ b → is_whole l es ≡ true
-        by true w = w
-        by false un = lie (sym (ap is_some (sym (none_begun o es legal l un) ∙ is)))
-
-    heard_by : (s : List ℕ) (x : Entry) → is_up l (x ∷ es) ≡ true
-        → talk o l (x ∷ es) ≡ talk o l es → heard o l s es ≡ true → heard o l s (x ∷ es) ≡ true
-    heard_by s x up same_talk hears_so =
-        (λ i. up i && (ap (λ ts. unwrap_or (first_of (hears s) ts) false) same_talk
-        ∙ (and_parts (is_up l es) (unwrap_or (first_of (hears s) (talk o l es)) false)
-        hears_so).1) i)
+    begun_whole k is = grind (arith, none_begun o es legal l)
 
     or_heard : (b c d : Bool) → (b || c) ≡ true → (c ≡ true → d ≡ true) → (b || d) ≡ true
-    or_heard true c d q f = refl
-    or_heard false c d q f = f q
+    or_heard b c d q f = grind arith
 
     still : IsStep (past o es) e → (ev : Event) (w : Verdict)
         → begun o l (but e ev w ∷ es) ≡ begun o l es
@@ -81,33 +50,23 @@ module _ (o : Opening) (l : ℕ) where
         → talk o l (but e ev w ∷ es) ≡ talk o l es → AllStand es → AllStand (but e ev w ∷ es)
     still made ev w same_begun runs shows same_talk before up k is =
         let was = sym same_begun ∙ is in
-        let whole = begun_whole k was in
-        let it = before (up_back (fresh o es legal e made) ev w up whole) k was in
-        record {
-          runs = runs k.scope it.runs;
-          shows = shows whole ∙ it.shows;
-          hears = or_heard (is_sync k.kind) (heard o l k.scope es)
-              (heard o l k.scope (but e ev w ∷ es)) it.hears
-              (heard_by k.scope (but e ev w) up same_talk);
-        }
+        let it = before (up_back (fresh o es legal e made) ev w up (begun_whole k was)) k was in
+        grind (arith, begun_whole k was, runs k.scope)
 
     -- ---- a part that was accepted
 
     module _ (body : List ℕ) (r : Reply)
         (q : Accepted r ≡ judgement (past o es) e.seat (Event.Frame l body))
         (whole : is_whole l es ≡ true) where
-      fr : Entry
+      abbrev fr : Entry
       fr = but e (Event.Frame l body) (Accepted r)
 
       pub rules_met : first_broken (option_map_or (message_checks (past o es) l) (frame_taken o l
           es body)
           (always Rule.BadFrame)) ≡ None
-      rules_met = subst (λ a. first_broken (frame_checks (past o es) l body a) ≡ None)
-          (whole_awaits (opened l es) (taken l es) whole)
-          (open_first (is_open l es) (frame_checks (past o es) l body (awaits l es))
-          (accepted (past o es) e.seat (Event.Frame l body) r q).0).1
+      rules_met = grind arith
 
-      shown_on : is_visible (past o (but e (Event.Frame l body) (Accepted r) ∷ es)) l
+      shown_on : is_visible (past o (fr ∷ es)) l
           ≡ is_visible (past o es) l
       shown_on = grind (
         arith,
@@ -116,44 +75,36 @@ module _ (o : Opening) (l : ℕ) where
       )
 
       kept_talk : said_at o l es body ≡ None
-          → talk o l (but e (Event.Frame l body) (Accepted r) ∷ es) ≡ talk o l es
+          → talk o l (fr ∷ es) ≡ talk o l es
       kept_talk none = grind (arith, eq-eqb l l, whole, none)
 
       heard_met : (kind : PartKind) (s : List ℕ) (number : ℕ) (last : Bool) (rows : List Row)
           → first_broken (message_checks (past o es) l (Message2.Part kind s number last rows))
           ≡ None → (is_sync kind || heard o l s es) ≡ true
       heard_met PartKind.Sync s number last rows met = refl
-      heard_met PartKind.Join s number last rows met = unbroken (heard o l s es)
-          (all_hold (message_checks (past o es) l
-          (Message2.Part PartKind.Join s number last rows)) met).1.1.0
-      heard_met PartKind.Leave s number last rows met = unbroken (heard o l s es)
-          (all_hold (message_checks (past o es) l
-          (Message2.Part PartKind.Leave s number last rows)) met).1.1.0
+      heard_met kind s number last rows met = grind arith
 
       part_stands : (x : Option Message2) → frame_taken o l es body ≡ x
           → first_broken (option_map_or (message_checks (past o es) l) x (always Rule.BadFrame))
-          ≡ None → is_up l (but e (Event.Frame l body) (Accepted r) ∷ es) ≡ true → (k : Begun)
+          ≡ None → is_up l (fr ∷ es) ≡ true → (k : Begun)
           → kept_after (begun o l es) x ≡ Some k
-          → Stands (but e (Event.Frame l body) (Accepted r) ∷ es) k
+          → Stands (fr ∷ es) k
       part_stands None says met up k is = cc
-      part_stands (Some (Message2.Discover s)) says met up k is = lie (sym (ap is_some is))
-      part_stands (Some (Message2.Down s)) says met up k is = lie (sym (ap is_some is))
+      part_stands (Some (Message2.Discover s)) says met up k is = cc
+      part_stands (Some (Message2.Down s)) says met up k is = cc
       part_stands (Some (Message2.Part kind s number true rows)) says met up k is =
-          lie (sym (ap is_some is))
+          cc
       part_stands (Some (Message2.Part kind s number false rows)) says met up k is =
           let held = all_hold (message_checks (past o es) l
           (Message2.Part kind s number false rows)) met in
           let none = kept_talk (ap (option_and_then (completed (begun o l es))) says) in
-          subst (Stands (but e (Event.Frame l body) (Accepted r) ∷ es)) (value_of is) (record {
+          subst (Stands (fr ∷ es)) (value_of is) (record {
             runs = unbroken (is_running (past o es) s) held.1.0;
             shows = shown_on ∙ unbroken (is_visible (past o es) l) held.0;
-            hears = or_heard (is_sync kind) (heard o l s es)
-                (heard o l s (but e (Event.Frame l body) (Accepted r) ∷ es))
-                (heard_met kind s number false rows met)
-                (heard_by s (but e (Event.Frame l body) (Accepted r)) up none);
+            hears = grind arith;
           })
 
-      pub framed_stand : AllStand (but e (Event.Frame l body) (Accepted r) ∷ es)
+      pub framed_stand : AllStand (fr ∷ es)
       framed_stand up k is = part_stands (frame_taken o l es body) refl rules_met up k
           (sym (ap (λ b. cond b (kept_after (begun o l es) (frame_taken o l es body))
           (begun o l es)) (λ i. eq-eqb l l refl i && whole i)) ∙ is)
@@ -167,36 +118,24 @@ module _ (o : Opening) (l : ℕ) where
         by : (x : Option Begun) → begun o l es ≡ x
             → cond (option_map_or (λ y. same y.scope t) x false) None x ≡ Some k
             → Stands (but e (Event.StopScope t) (Accepted r) ∷ es) k
-        by None was is = lie (sym (ap is_some is))
+        by None was is = cc
         by (Some j) was is = of (same j.scope t) refl is
           where
             of : (b : Bool) → same j.scope t ≡ b → cond b None (Some j) ≡ Some k
                 → Stands (but e (Event.StopScope t) (Accepted r) ∷ es) k
-            of true here is = lie (sym (ap is_some is))
+            of true here is = cc
             of false other is =
                 let it = before (up_back (fresh o es legal e made) (Event.StopScope t) (Accepted r)
-                up
-                (begun_whole j was)) j was in
+                up (begun_whole j was)) j was in
                 let apart : same t j.scope ≡ false =
                 grind (arith, other, same_decides t j.scope, same_decides j.scope t) in
-                subst (Stands (but e (Event.StopScope t) (Accepted r) ∷ es)) (value_of is) (record {
-                  runs = grind (arith, it.runs, apart);
-                  shows = it.shows;
-                  hears = or_heard (is_sync j.kind) (heard o l j.scope es)
-                      (heard o l j.scope (but e (Event.StopScope t) (Accepted r) ∷ es)) it.hears
-                      (λ hears_so. (stopped_heard (past o es)
-                      (but e (Event.StopScope t) (Accepted r)) refl t refl l j.scope).heard_is
-                      ∙ (λ i. hears_so i && not (apart i)));
-                })
+                grind arith
 
     new_visible : IsStep (past o es) e → (ev : Event) (r : Reply)
         → is_some (start_of ev) ≡ true → is_whole l es ≡ true
         → is_visible (past o (but e ev (Accepted r) ∷ es)) l ≡ is_visible (past o es) l
-    new_visible made (Event.Opened c) r starts whole =
-        grind (arith, fresh o es legal e made, whole, eqb-true e.number l)
-    new_visible made (Event.Dial n c) r starts whole =
-        grind (arith, fresh o es legal e made, whole, eqb-true e.number l)
-    new_visible made ev r starts whole = lie (sym starts)
+    new_visible made ev r starts whole =
+        grind (arith, fresh o es legal e made)
 
     pub each_stands : IsStep (past o es) e → AllStand es → (ev : Event) (w : Verdict)
         → w ≡ judgement (past o es) e.seat ev → AllStand (but e ev w ∷ es)
@@ -225,7 +164,7 @@ module _ (o : Opening) (l : ℕ) where
     each_stands made before (Event.StartScope t) (Accepted r) q =
         still made (Event.StartScope t) (Accepted r) refl (λ s runs. grind (arith, runs))
         (λ w. refl) refl before
-    each_stands made before Event.Restart (Accepted r) q = λ up k is. lie (sym (ap is_some is))
+    each_stands made before Event.Restart (Accepted r) q = λ up k is. cc
     each_stands made before (Event.Opened c) (Accepted r) q =
         still made (Event.Opened c) (Accepted r) refl (λ s runs. runs)
         (new_visible made (Event.Opened c) r refl) refl before
@@ -238,6 +177,6 @@ module _ (o : Opening) (l : ℕ) where
         still made ev (Refused r) refl (λ s runs. runs) (λ w. refl) refl before
 
   pub all_stand : (es : List Entry) → IsPlayedIn o es → AllStand es
-  all_stand [] legal = λ up k is. lie (sym up)
+  all_stand [] legal = λ up k is. cc
   all_stand (e ∷ es) legal =
       each_stands es e legal.1 legal.0 (all_stand es legal.1) e.event e.verdict legal.0.judged

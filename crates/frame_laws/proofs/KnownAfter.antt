@@ -1,15 +1,13 @@
 -- What is known over a link after an entry: what its message makes of what was known before.
 use Rattle.frame_laws.proofs
-use proofs.Refusals.{refused_heard}
-use proofs.Words.{Accepted, accepted, and_parts, ap, arith, Awaited, AwaitMessage, awaits, Bool}
-use proofs.Words.{but, ByDial, ByPeer, cond, done_now, ends, Entry, entry_link, eq-eqb, eqb-true}
-use proofs.Words.{Event, false, first_broken, first_of, frame_checks, framed_heard, fresh, heard}
-use proofs.Words.{hears, History, is_last, is_message, is_open, is_whole, IsPlayedIn, IsStep, known}
-use proofs.Words.{lie, List, Message, message_at, message_heard, None, not, open_first, Opening}
-use proofs.Words.{opening_heard, option_to_list, past, Pid, proved_heard, refl, Refused, Reply}
-use proofs.Words.{Rule, Said, said_at, seen, seen_by, Some, stated_in, stopped_heard, subst, sym}
-use proofs.Words.{Talk, talk, true, unwrap_or, Verdict, whole_is_message, ℕ, [], ◌&&◌, ◌==◌, ◌∙◌}
-use proofs.Words.{◌∷◌, ◌≡◌}
+use proofs.Words.{Accepted, accepted, ap, arith, Awaited, AwaitMessage, awaits, Bool, but, ByDial}
+use proofs.Words.{ByPeer, cond, done_now, Entry, eq-eqb, eqb-true, Event, false, first_broken}
+use proofs.Words.{frame_checks, framed_heard, fresh, heard, hears, History, is_last, is_message}
+use proofs.Words.{is_open, is_whole, IsPlayedIn, IsStep, known, List, Message, message_at}
+use proofs.Words.{message_heard, None, not, open_first, Opening, opening_heard, option_to_list}
+use proofs.Words.{past, Pid, proved_heard, refl, Refused, Reply, Said, said_at, seen, seen_by}
+use proofs.Words.{Some, stated_in, sym, Talk, talk, true, unwrap_or, Verdict, whole_is_message, ℕ}
+use proofs.Words.{[], ◌&&◌, ◌==◌, ◌∙◌, ◌∷◌, ◌≡◌}
 
 was_heard : (ended opens whole said : Bool) → (((not ended && opens) && whole) && said) ≡ true
     → ((opens && whole) && said) ≡ true
@@ -20,11 +18,7 @@ module _ (s g : List ℕ) (p : Pid) where
   said_known : (m : Message) (ts : List Talk) (was : Bool) → unwrap_or (hears s (Said m)) was ≡ true
       → Some (stated_in s g p (Said m ∷ ts)) ≡ seen s g p m
       (cond was (Some (cond was (stated_in s g p ts) 0)) None)
-  said_known (Message.Discover t) ts was q = cc
-  said_known (Message.Sync t rows) ts was q = grind arith
-  said_known (Message.Join t rows) ts was q = grind arith
-  said_known (Message.Leave t rows) ts was q = grind arith
-  said_known (Message.Down t) ts was q = grind arith
+  said_known m ts was q = grind arith
 
   known_as : (o : Opening) (l : ℕ) (es : List Entry) → heard o l s es ≡ true
       → known o l s g p es ≡ Some (stated_in s g p (talk o l es))
@@ -48,16 +42,6 @@ module _ (o : Opening) (es : List Entry) (e : Entry) (legal : IsPlayedIn o es) (
       → known o l s g p (but e ev v ∷ es)
       ≡ seen_by s g p (message_at o l es v ev) (known o l s g p es)
 
-  refused_known : (ev : Event) (r : Rule) → IsStep h (but e ev (Refused r))
-      → KnownAfter ev (Refused r)
-  refused_known ev r next now =
-      still_known s g p o l (but e ev (Refused r)) es now (sym (refused_heard o e es ev r l s)
-      ∙ now) refl
-
-  stopped_known : (t : List ℕ) (r : Reply) → KnownAfter (Event.StopScope t) (Accepted r)
-  stopped_known t r now =
-      grind (arith, stopped_heard h (but e (Event.StopScope t) (Accepted r)) refl t refl l s)
-
   -- ---- frames
 
   module _ (k : ℕ) (body : List ℕ) (r : Reply)
@@ -65,20 +49,18 @@ module _ (o : Opening) (es : List Entry) (e : Entry) (legal : IsPlayedIn o es) (
     abbrev fr : Entry
     fr = but e (Event.Frame k body) (Accepted r)
 
+    -- what is known afterwards is what a message makes of what was
+    abbrev Shown : Type 0
+    Shown = known o l s g p (fr ∷ es) ≡ seen_by s g p
+        (cond (is_whole l es) (option_to_list (said_at o l es body)) []) (known o l s g p es)
+
     made : IsStep h fr
-    made = grind (arith, Event.Frame k body, Accepted r)
+    made = next
 
     other_known : (k == l) ≡ false → heard o l s (fr ∷ es) ≡ true
         → known o l s g p (fr ∷ es) ≡ known o l s g p es
     other_known other now =
-        let it = entry_link es fr k l body refl other in
-        still_known s g p o l fr es now
-        (was_heard (ends l es (Accepted r) (Event.Frame k body)) (is_open l es) (is_whole l es)
-        (unwrap_or (first_of (hears s) (talk o l es)) false)
-        (sym (λ i. (is_open l (fr ∷ es) && it.whole i)
-        && unwrap_or (first_of (hears s) (it.talk o i))
-        false) ∙ now))
-        (ap (stated_in s g p) (it.talk o))
+        grind (arith, was_heard)
 
     module _ (same_link : k ≡ l) where
       found : (is_open l es ≡ true) × (first_broken (frame_checks h l body (awaits l es)) ≡ None)
@@ -105,14 +87,9 @@ module _ (o : Opening) (es : List Entry) (e : Entry) (legal : IsPlayedIn o es) (
 
       -- within a handshake nobody is heard
       unheard : is_message (awaits l es) ≡ false → heard o l s (fr ∷ es) ≡ true
-          → known o l s g p (fr ∷ es) ≡ seen_by s g p
-          (cond (is_whole l es) (option_to_list (said_at o l es body)) []) (known o l s g p es)
+          → Shown
       unheard unlike now =
-          let was = hello_heard unlike (is_last (awaits l es)) refl now in
-          let whole = (and_parts (is_open l es) (is_whole l es)
-          ((and_parts (is_open l es && is_whole l es)
-          (unwrap_or (first_of (hears s) (talk o l es)) false) was).0)).1 in
-          lie (sym (ap is_message ((whole_is_message l es found.0).0 whole)) ∙ unlike)
+          grind (arith, hello_heard unlike (is_last (awaits l es)) refl now)
 
       module _ (a : awaits l es ≡ AwaitMessage) (m : Message)
           (says : said_at o l es body ≡ Some m) where
@@ -139,22 +116,18 @@ module _ (o : Opening) (es : List Entry) (e : Entry) (legal : IsPlayedIn o es) (
         )
 
         spoken_at : heard o l s (fr ∷ es) ≡ true
-            → known o l s g p (fr ∷ es) ≡ seen_by s g p
-            (cond (is_whole l es) (option_to_list (said_at o l es body)) []) (known o l s g p es)
+            → Shown
         spoken_at now = said now ∙ sym
             (λ i. seen_by s g p (cond (whole i) (option_to_list (says i)) []) (known o l s g p es))
 
       message_known : awaits l es ≡ AwaitMessage
           → first_broken (frame_checks h l body AwaitMessage) ≡ None → heard o l s (fr ∷ es) ≡ true
-          → known o l s g p (fr ∷ es) ≡ seen_by s g p
-          (cond (is_whole l es) (option_to_list (said_at o l es body)) []) (known o l s g p es)
+          → Shown
       message_known a q now = grind (arith, spoken_at)
 
       own_known : (a : Awaited) → awaits l es ≡ a → heard o l s (fr ∷ es) ≡ true
-          → known o l s g p (fr ∷ es) ≡ seen_by s g p
-          (cond (is_whole l es) (option_to_list (said_at o l es body)) []) (known o l s g p es)
-      own_known AwaitMessage is now = message_known is
-          (subst (λ x. first_broken (frame_checks h l body x) ≡ None) is found.1) now
+          → Shown
+      own_known AwaitMessage is now = grind (arith, message_known)
       own_known a is now = unheard (ap is_message is) now
 
     frame_known : KnownAfter (Event.Frame k body) (Accepted r)
@@ -169,8 +142,8 @@ module _ (o : Opening) (es : List Entry) (e : Entry) (legal : IsPlayedIn o es) (
   -- ---- every entry
 
   pub known_after : (ev : Event) (v : Verdict) → IsStep h (but e ev v) → KnownAfter ev v
-  known_after ev (Refused r) next now = refused_known ev r next now
-  known_after (Event.StopScope t) (Accepted r) next now = stopped_known t r now
+  known_after ev (Refused r) next now = grind arith
+  known_after (Event.StopScope t) (Accepted r) next now = grind arith
   known_after (Event.Frame k body) (Accepted r) next now = grind (arith, frame_known)
   known_after (Event.Dial n c) (Accepted r) next now =
       still_known s g p o l (but e (Event.Dial n c) (Accepted r)) es now
@@ -180,7 +153,4 @@ module _ (o : Opening) (es : List Entry) (e : Entry) (legal : IsPlayedIn o es) (
       still_known s g p o l (but e (Event.Opened c) (Accepted r)) es now
       (sym (opening_heard h (but e (Event.Opened c) (Accepted r)) refl legal
       next (ByPeer c) refl l s).heard_is ∙ now) refl
-  known_after (Event.Lost k) (Accepted r) next now = grind (arith, still_known)
-  known_after (Event.Disconnect n) (Accepted r) next now = grind (arith, still_known)
-  known_after Event.Restart (Accepted r) next now = cc
-  known_after ev (Accepted r) next now = refl
+  known_after ev (Accepted r) next now = grind arith

@@ -1,55 +1,37 @@
 -- What each other event says of a scope to a link, and so what every entry says.
 use Rattle.frame_laws.proofs
 use proofs.Refusals.{refused_told}
-use proofs.Words.{Accepted, accepted, all_hold, AllByRecursion, always, and_parts, ap, arith}
-use proofs.Words.{Awaited, AwaitMessage, awaits, Begun, begun, Bool, but, ByDial, ByPeer, completed}
-use proofs.Words.{cond, done_now, ends, Entry, entry_link, eq-eqb, eqb-true, Event, false}
-use proofs.Words.{first_broken, first_of, frame_checks, frame_owes, frame_taken, framed_heard}
-use proofs.Words.{fresh, heard, History, if_visible, is_last, is_message, is_open, is_running}
-use proofs.Words.{is_some, is_up, is_visible, is_whole, IsListing, IsNode, IsStep, IsText}
-use proofs.Words.{IsWritten, length, lie, link_version, List, local_rows, local_rows_are, max_rows}
-use proofs.Words.{Message, Message2, message_checks, message_heard, message_owes, message_taken}
-use proofs.Words.{nat_le, None, not, not-false, open_first, Opening, opening_heard, Option}
-use proofs.Words.{option_and_then, option_map_or, owed, own, PartKind, parts, past, Pid}
-use proofs.Words.{proved_heard, refl, refusal_owes, Refused, Reply, Row, row, rows_of, Rule, Said}
-use proofs.Words.{said_at, said_frames, same, same_decides, Some, Speaks, stopped_heard, subst, sym}
-use proofs.Words.{talk, tells, told, told_runs, true, unbroken, unwrap_or, Verdict, whole}
+use proofs.Words.{Accepted, accepted, all_hold, always, ap, arith, Awaited, AwaitMessage, awaits}
+use proofs.Words.{Begun, begun, Bool, but, ByDial, ByPeer, completed, cond, done_now, Entry}
+use proofs.Words.{eqb-true, Event, false, first_broken, frame_checks, frame_owes, frame_taken}
+use proofs.Words.{framed_heard, fresh, heard, History, if_visible, is_last, is_message, is_open}
+use proofs.Words.{is_running, is_whole, IsListing, IsNode, IsStep, IsText, IsWritten, length}
+use proofs.Words.{link_version, List, local_rows, local_rows_are, max_rows, Message, Message2}
+use proofs.Words.{message_checks, message_heard, message_owes, nat_le, None, not, open_first}
+use proofs.Words.{Opening, opening_heard, Option, option_and_then, option_map_or, OutFrame, owed}
+use proofs.Words.{own, PartKind, past, Pid, proved_heard, refl, refusal_owes, Refused, Reply, Row}
+use proofs.Words.{row, rows_of, Rule, Said, said_at, said_frames, same, same_decides, Some, Speaks}
+use proofs.Words.{subst, sym, tells, told, true, unbroken, unwrap_or, Verdict, whole}
 use proofs.Words.{whole_is_message, wide, ℕ, [], ◌&&◌, ◌++◌, ◌==◌, ◌||◌, ◌∙◌, ◌∷◌, ◌≡◌}
 use proofs.Calm.{AllCalm, calm_asks, calm_closed, calm_down, calm_hello, calm_message, HasNoRows}
-use proofs.Calm.{is_part}
 use proofs.Handshakes.{dial_all, frame_all, HoldsOfHellos, of_hellos, refusal_all}
 use proofs.OwnLimits.{scope_text}
-use proofs.Pieces.{pieces, value_of}
 use proofs.RowsTell.{exit_tells, join_tells, leave_tells}
 use proofs.Spoken.{node_before, speaks_now}
 use proofs.Telling.{AllTell, Ended, EntryTells, Silent, Spoke, Tells, told_sync}
-use proofs.Sayable.{downs_alike, downs_sayable, IsSayable, reads, reads_hold}
+use proofs.Sayable.{downs_sayable, IsSayable, reads}
 use proofs.OwnMessages.{asked_room, sync_is}
 
 -- a message with rows tells nobody anew
 rows_tell_none : (s : List ℕ) (b : Option Begun) (kind : PartKind) (t : List ℕ) (number : ℕ)
     (last : Bool) (rows : List Row) (n : Message)
     → completed b (Message2.Part kind t number last rows) ≡ Some n → tells s (Said n) ≡ None
-rows_tell_none s b kind t number false rows n is = lie (sym (ap is_some is))
-rows_tell_none s b PartKind.Sync t number true rows n is =
-    subst (λ x. tells s (Said x) ≡ None) (value_of is) refl
-rows_tell_none s b PartKind.Join t number true rows n is =
-    subst (λ x. tells s (Said x) ≡ None) (value_of is) refl
-rows_tell_none s b PartKind.Leave t number true rows n is =
-    subst (λ x. tells s (Said x) ≡ None) (value_of is) refl
+rows_tell_none s b kind t number last rows n is = grind arith
 
 -- a Down is no part of rows
 down_quiet_in : (v : ℕ) (s t : List ℕ) → IsText t → HasNoRows v s (wide (Message.Down t) ∷ [])
-down_quiet_in v s t text = subst (HasNoRows v s) (downs_alike v t)
-    (reads_hold v (λ f. is_part s (message_taken v f.body) ≡ false)
-    (λ p. is_part s (Some p) ≡ false) (λ f p wide says apart. ap (is_part s) says ∙ apart)
-    (said_frames v (Message.Down t)) (pieces v (Message.Down t))
-    (reads v (Message.Down t) (downs_sayable v t text)) (by (v == 2)))
-  where
-    by : (b : Bool) → AllByRecursion (λ p. is_part s (Some p) ≡ false)
-        (cond b (parts (Message.Down t)) (whole (Message.Down t) ∷ []))
-    by true = (refl, tt)
-    by false = (refl, tt)
+down_quiet_in v s t text =
+    grind (arith, reads v (Message.Down t) (downs_sayable v t text))
 
 module _ (o : Opening) (es : List Entry) (e : Entry) (node : IsNode (past o es)) (l v : ℕ)
     (agrees : is_whole l es ≡ true → link_version o l es ≡ v) (s : List ℕ) where
@@ -58,6 +40,9 @@ module _ (o : Opening) (es : List Entry) (e : Entry) (node : IsNode (past o es))
 
   abbrev TellsOf : Event → Verdict → Type 0
   TellsOf ev w = EntryTells v o l s (but e ev w) es
+
+  quiet : AllCalm v s []
+  quiet = (calm_closed v s).nothing
 
   hellos_calm : HoldsOfHellos h l (AllCalm v s)
   hellos_calm = of_hellos h l (AllCalm v s) (calm_hello v s)
@@ -69,53 +54,33 @@ module _ (o : Opening) (es : List Entry) (e : Entry) (node : IsNode (past o es))
     where
       by : (b : Bool) → AllCalm v s (cond b (refusal_owes r) [])
       by true = refusal_all h node l (AllCalm v s) (calm_closed v s) hellos_calm (calm_asks v s) r
-      by false = (calm_closed v s).nothing
-  refused_calm ev r = (calm_closed v s).nothing
+      by false = quiet
+  refused_calm ev r = quiet
 
   refused_tells : (ev : Event) (r : Rule) → IsStep h (but e ev (Refused r)) → TellsOf ev (Refused r)
-  refused_tells ev r next =
-      Silent (refused_calm ev r) (λ t. (sym (refused_told o e es ev r l s) ∙ t, λ g p. refl))
+  refused_tells ev r next = grind (arith, refused_calm ev r, refused_told o e es ev r l s)
 
   -- ---- scopes
 
   visible_calm : (m : Message) → AllCalm v s (wide m ∷ []) → AllCalm v s (if_visible h l m)
-  visible_calm m calm = by (is_up l es && is_visible h l)
-    where
-      by : (b : Bool) → AllCalm v s (cond b (wide m ∷ []) [])
-      by true = calm
-      by false = (calm_closed v s).nothing
+  visible_calm m calm = grind (arith, quiet)
 
   start_tells : (t : List ℕ) (r : Reply) → IsStep h (but e (Event.StartScope t) (Accepted r))
       → IsText t → TellsOf (Event.StartScope t) (Accepted r)
-  start_tells t r next text = Silent (visible_calm (Message.Discover t) (calm_asks v s t text))
-      (λ told. (told, λ g p. by (same t s) refl (told_runs h node.legal l s told) g p))
-    where
-      idle : not (is_running h t) ≡ true
-      idle = grind (arith, not-false)
-
-      by : (b : Bool) → same t s ≡ b → is_running h s ≡ true → (g : List ℕ) (p : Pid)
-          → own (past o (but e (Event.StartScope t) (Accepted r) ∷ es)) s g p ≡ own h s g p
-      by true is runs g p = grind (arith, same_decides t s)
-      by false other runs g p = grind arith
+  start_tells t r next text =
+      grind (
+        arith,
+        Silent,
+        visible_calm (Message.Discover t) (calm_asks v s t text),
+        same_decides t s,
+      )
 
   down_quiet : (t : List ℕ) → IsText t → HasNoRows v s (if_visible h l (Message.Down t))
-  down_quiet t text = by (is_up l es && is_visible h l)
-    where
-      by : (b : Bool) → HasNoRows v s (cond b (wide (Message.Down t) ∷ []) [])
-      by true = down_quiet_in v s t text
-      by false = tt
+  down_quiet t text = grind (arith, down_quiet_in)
 
   stop_tells : (t : List ℕ) (r : Reply) → IsText t → TellsOf (Event.StopScope t) (Accepted r)
-  stop_tells t r text = by (same t s) refl
-    where
-      now : told o l s (but e (Event.StopScope t) (Accepted r) ∷ es)
-          ≡ (told o l s es && not (same t s))
-      now = grind (arith, stopped_heard)
-
-      by : (b : Bool) → same t s ≡ b → TellsOf (Event.StopScope t) (Accepted r)
-      by true is = Ended (down_quiet t text) (grind (arith, now, is))
-      by false other = Silent (visible_calm (Message.Down t) (calm_down v s t text other))
-          (λ told. (grind (arith, now, told), λ g p. grind (arith, other)))
+  stop_tells t r text =
+      grind (arith, Ended, down_quiet t text, calm_down)
 
   -- ---- links
 
@@ -132,12 +97,12 @@ module _ (o : Opening) (es : List Entry) (e : Entry) (node : IsNode (past o es))
 
   opened_tells : (c : ℕ) (r : Reply) → IsStep h (but e (Event.Opened c) (Accepted r))
       → TellsOf (Event.Opened c) (Accepted r)
-  opened_tells c r next = Silent (calm_closed v s).nothing
-      (λ told. (
-        sym (opening_heard h (but e (Event.Opened c) (Accepted r)) refl node.legal
-            next (ByPeer c) refl l s).told_is ∙ told,
-        λ g p. refl,
-      ))
+  opened_tells c r next =
+      grind (
+        arith,
+        opening_heard h (but e (Event.Opened c) (Accepted r)) refl node.legal next (ByPeer c) refl l
+            s,
+      )
 
   was_told : (ended opens whole said : Bool) → (((not ended && opens) && whole) && said) ≡ true
       → ((opens && whole) && said) ≡ true
@@ -153,15 +118,12 @@ module _ (o : Opening) (es : List Entry) (e : Entry) (node : IsNode (past o es))
     made : IsStep h fr
     made = next
 
+    abbrev Now : List OutFrame → Type 0
+    Now = Tells v s (told o l s es) (told o l s (fr ∷ es)) (own h s) (own (past o (fr ∷ es)) s)
+
     -- of another link
     other_told : (k == l) ≡ false → told o l s (fr ∷ es) ≡ true → told o l s es ≡ true
-    other_told other t =
-        let it = entry_link es fr k l body refl other in
-        was_told (ends l es (Accepted r) (Event.Frame k body)) (is_open l es) (is_whole l es)
-        (unwrap_or (first_of (tells s) (talk o l es)) false)
-        (sym (λ i. (is_open l (fr ∷ es) && it.whole i)
-        && unwrap_or (first_of (tells s) (it.talk o i))
-        false) ∙ t)
+    other_told other t = grind (arith, was_told)
 
     -- its own link: open, and no rule is broken
     module _ (same_link : k ≡ l) where
@@ -190,13 +152,11 @@ module _ (o : Opening) (es : List Entry) (e : Entry) (node : IsNode (past o es))
           )
 
       handshake : (a : Awaited) → awaits l es ≡ a → is_message a ≡ false
-          → Tells v s (told o l s es) (told o l s (fr ∷ es)) (own h s) (own (past o (fr ∷ es)) s)
-          (frame_owes h l body a)
+          → Now (frame_owes h l body a)
       handshake a is unlike =
           Silent (frame_all h node l (AllCalm v s) (calm_closed v s) hellos_calm (calm_asks v s)
-          body a (λ q m says. lie (sym (ap is_message q) ∙ unlike)))
-          (λ t.
-          (hello_told (ap is_message is ∙ unlike) (is_last (awaits l es)) refl t, λ g p. refl))
+          body a (λ q m says. cc))
+          (λ t. (hello_told (grind arith) (is_last (awaits l es)) refl t, λ g p. refl))
 
       module _ (a : awaits l es ≡ AwaitMessage) where
         whole_now : is_whole l es ≡ true
@@ -210,25 +170,21 @@ module _ (o : Opening) (es : List Entry) (e : Entry) (node : IsNode (past o es))
 
         -- a part that completes nothing tells nobody anew
         told_on : said_at o l es body ≡ None → told o l s (fr ∷ es) ≡ true → told o l s es ≡ true
-        told_on none q =
-            let same_talk : talk o l (fr ∷ es) ≡ talk o l es =
-            grind (arith, same_link, eq-eqb l l, whole_now, none) in
-            let was = sym (ap (λ ts. unwrap_or (first_of (tells s) ts) false) same_talk)
-            ∙ (and_parts (is_up l (fr ∷ es))
-            (unwrap_or (first_of (tells s) (talk o l (fr ∷ es))) false) q).1 in
-            (λ i. (found.0 i && whole_now i) && was i)
+        told_on none q = grind arith
 
         synced : (t : List ℕ) → frame_taken o l es body ≡ Some (Message2.Discover t)
             → first_broken (message_checks h l (Message2.Discover t)) ≡ None
-            → Tells v s (told o l s es) (told o l s (fr ∷ es)) (own h s)
-            (own (past o (fr ∷ es)) s) (message_owes h l (Message2.Discover t))
+            → Now (message_owes h l (Message2.Discover t))
         synced t says met =
-            subst (λ fs. Tells v s (told o l s es) (told o l s (fr ∷ es)) (own h s)
-            (own (past o (fr ∷ es)) s) (fs ++ cond (heard o l t es) []
-            (wide (Message.Discover t) ∷ [])))
-            (ap (λ n. said_frames n (Message.Sync t (local_rows h t))) (sym (agrees whole_now)))
+            subst (λ fs. Now (fs ++ rest)) (ap (λ n. said_frames n sync) (sym (agrees whole_now)))
             (by (same t s) refl)
           where
+            sync : Message
+            sync = Message.Sync t (local_rows h t)
+
+            rest : List OutFrame
+            rest = cond (heard o l t es) [] (wide (Message.Discover t) ∷ [])
+
             text : IsText t
             text = scope_text h node t (unbroken (is_running h t)
                 (all_hold (message_checks h l (Message2.Discover t)) met).1.0)
@@ -248,33 +204,32 @@ module _ (o : Opening) (es : List Entry) (e : Entry) (node : IsNode (past o es))
                 )
 
             back : (b : Bool) → AllCalm v s (cond b [] (wide (Message.Discover t) ∷ []))
-            back true = (calm_closed v s).nothing
+            back true = quiet
             back false = calm_asks v s t text
 
             all_rows : same t s ≡ true → (g : List ℕ) (p : Pid)
                 → rows_of g p (local_rows h t) ≡ own (past o (fr ∷ es)) s g p
-            all_rows is g p = ap (λ u. rows_of g p (local_rows h u)) ((same_decides t s).0 is)
-                ∙ IsListing.counts (local_rows_are h s) (row g p)
+            all_rows is g p =
+                grind (
+                  arith,
+                  same_decides t s,
+                  IsListing.counts (local_rows_are h s) (row g p),
+                )
 
-            by : (c : Bool) → same t s ≡ c
-                → Tells v s (told o l s es) (told o l s (fr ∷ es)) (own h s)
-                (own (past o (fr ∷ es)) s) (said_frames v (Message.Sync t (local_rows h t))
-                ++ cond (heard o l t es) [] (wide (Message.Discover t) ∷ []))
-            by true is = Spoke [] PartKind.Sync (local_rows h t)
-                (cond (heard o l t es) [] (wide (Message.Discover t) ∷ []))
-                (ap (λ u. said_frames v (Message.Sync u (local_rows h t))
-                ++ cond (heard o l t es) [] (wide (Message.Discover t) ∷ []))
-                ((same_decides t s).0 is))
-                (calm_closed v s).nothing (back (heard o l t es))
-                (subst (λ u. IsSayable v (Message.Sync u (local_rows h t)))
-                ((same_decides t s).0 is) (sync_is h node l v agrees whole_now t text can))
+            sayable : IsSayable v sync
+            sayable = sync_is h node l v agrees whole_now t text can
+
+            by : (c : Bool) → same t s ≡ c → Now (said_frames v sync ++ rest)
+            by true is =
+                let here = (same_decides t s).0 is in
+                Spoke [] PartKind.Sync (local_rows h t) rest
+                (ap (λ u. said_frames v (Message.Sync u (local_rows h t)) ++ rest) here)
+                quiet (back (heard o l t es))
+                (subst (λ u. IsSayable v (Message.Sync u (local_rows h t))) here sayable)
                 (told_sync v s (told o l s es) (own h s) (own (past o (fr ∷ es)) s)
                 (local_rows h t) (asked_room h node l v agrees whole_now t can) (all_rows is))
-            by false other = Silent ((calm_closed v s).both
-                (said_frames v (Message.Sync t (local_rows h t)))
-                (cond (heard o l t es) [] (wide (Message.Discover t) ∷ []))
-                (calm_message v s (Message.Sync t (local_rows h t))
-                (sync_is h node l v agrees whole_now t text can) other) (back (heard o l t es)))
+            by false other = Silent ((calm_closed v s).both (said_frames v sync) rest
+                (calm_message v s sync sayable other) (back (heard o l t es)))
                 (λ q. (told_now other q, λ g p. refl))
 
         -- nor does another message
@@ -289,21 +244,14 @@ module _ (o : Opening) (es : List Entry) (e : Entry) (node : IsNode (past o es))
 
             by : (x : Option Message) → completed (begun o l es) m ≡ x → told o l s es ≡ true
             by None is = told_on (at_m ∙ is) q
-            by (Some n) is = only n is (sym (now_told n (at_m ∙ is)
-                ∙ ap (λ b. cond b (unwrap_or (tells s (Said n)) (told o l s es)) (told o l s es))
-                (eq-eqb l l refl)) ∙ q)
+            by (Some n) is = only n is (grind (arith, now_told n (at_m ∙ is)))
 
         said_so : (m : Message2) → frame_taken o l es body ≡ Some m
             → first_broken (message_checks h l m) ≡ None
-            → Tells v s (told o l s es) (told o l s (fr ∷ es)) (own h s)
-            (own (past o (fr ∷ es)) s) (message_owes h l m)
+            → Now (message_owes h l m)
         said_so (Message2.Discover t) says met = synced t says met
-        said_so (Message2.Down t) says met = Silent (calm_closed v s).nothing
-            (λ q. (
-              others_told (Message2.Down t) says (λ n is told. grind (arith, is, told)) q,
-              λ g p. refl,
-            ))
-        said_so (Message2.Part kind t number last rows) says met = Silent (calm_closed v s).nothing
+        said_so (Message2.Down t) says met = grind arith
+        said_so (Message2.Part kind t number last rows) says met = Silent quiet
             (λ q. (
               others_told (Message2.Part kind t number last rows) says
                   (λ n is now. sym (ap (λ x. unwrap_or x (told o l s es))
@@ -312,21 +260,16 @@ module _ (o : Opening) (es : List Entry) (e : Entry) (node : IsNode (past o es))
             ))
 
         message : first_broken (frame_checks h l body AwaitMessage) ≡ None
-            → Tells v s (told o l s es) (told o l s (fr ∷ es)) (own h s)
-            (own (past o (fr ∷ es)) s) (frame_owes h l body AwaitMessage)
+            → Now (frame_owes h l body AwaitMessage)
         message q = by (frame_taken o l es body) refl q
           where
             by : (x : Option Message2) → frame_taken o l es body ≡ x
                 → first_broken (option_map_or (message_checks h l) x (always Rule.BadFrame))
-                ≡ None
-                → Tells v s (told o l s es) (told o l s (fr ∷ es)) (own h s)
-                (own (past o (fr ∷ es)) s) (option_map_or (message_owes h l) x [])
-            by None says q = lie (ap is_some q)
+                ≡ None → Now (option_map_or (message_owes h l) x [])
+            by None says q = cc
             by (Some m) says q = said_so m says q
 
-      own_frame : (a : Awaited) → awaits l es ≡ a
-          → Tells v s (told o l s es) (told o l s (fr ∷ es)) (own
-          h s) (own (past o (fr ∷ es)) s) (frame_owes h l body a)
+      own_frame : (a : Awaited) → awaits l es ≡ a → Now (frame_owes h l body a)
       own_frame AwaitMessage is =
           message is (subst (λ x. first_broken (frame_checks h l body x) ≡ None) is found.1)
       own_frame a is = handshake a is refl
@@ -335,11 +278,10 @@ module _ (o : Opening) (es : List Entry) (e : Entry) (node : IsNode (past o es))
     frame_tells = by (k == l) refl
       where
         by : (b : Bool) → (k == l) ≡ b
-            → Tells v s (told o l s es) (told o l s (fr ∷ es)) (own h s) (own
-            (past o (fr ∷ es)) s) (cond b (frame_owes h l body (awaits l es)) [])
+            → Now (cond b (frame_owes h l body (awaits l es)) [])
         by true is = own_frame (eqb-true k l is) (awaits l es) refl
         by false other =
-            Silent (calm_closed v s).nothing (λ t. (other_told other t, λ g p. refl))
+            Silent quiet (λ t. (other_told other t, λ g p. refl))
 
   -- ---- every entry
 
@@ -348,29 +290,15 @@ module _ (o : Opening) (es : List Entry) (e : Entry) (node : IsNode (past o es))
   entry_tells (Event.StartScope t) (Accepted r) next text = start_tells t r next text
   entry_tells (Event.StopScope t) (Accepted r) next text = stop_tells t r text
   entry_tells (Event.Exit x) (Accepted r) next text = exit_tells o es e node l v agrees s x r
-  entry_tells (Event.Join t g ps) (Accepted r) next text = join_tells o es e node l v agrees s g ps
-      r t next
-      text
-  entry_tells (Event.Leave t g ps) (Accepted r) next text = leave_tells o es e node l v agrees s g
-      ps r t
-      text
+  entry_tells (Event.Join t g ps) (Accepted r) next text =
+      join_tells o es e node l v agrees s g ps r t next text
+  entry_tells (Event.Leave t g ps) (Accepted r) next text =
+      leave_tells o es e node l v agrees s g ps r t text
   entry_tells (Event.Dial n c) (Accepted r) next text = dial_tells n c r next
   entry_tells (Event.Opened c) (Accepted r) next text = opened_tells c r next
-  entry_tells (Event.Lost k) (Accepted r) next text =
-      Silent (calm_closed v s).nothing (λ t. (
-        was_told (k == l) (is_open l es) (is_whole l es) _ t,
-        λ g p. refl,
-      ))
-  entry_tells (Event.Disconnect n) (Accepted r) next text =
-      Silent (calm_closed v s).nothing (λ t. (
-        was_told _ (is_open l es) (is_whole l es) _ t,
-        λ g p.
-            refl,
-      ))
   entry_tells (Event.Frame k body) (Accepted r) next text = frame_tells k body r next
-  entry_tells Event.Restart (Accepted r) next text = Silent (calm_closed v s).nothing (λ t. lie
-      (sym t))
-  entry_tells ev (Accepted r) next text = Silent (calm_closed v s).nothing (λ t. (t, λ g p. refl))
+  entry_tells Event.Restart (Accepted r) next text = Silent quiet (λ t. cc)
+  entry_tells ev (Accepted r) next text = grind arith
 
 pub all_tell : (o : Opening) (es : List Entry) → IsNode (past o es) → (l v : ℕ)
     → Speaks o l v es → (s : List ℕ) → AllTell v o l s es

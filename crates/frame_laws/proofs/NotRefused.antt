@@ -1,17 +1,17 @@
 -- What an honest node says on a link, over which it is heard, is not refused.
 use Rattle.frame_laws.proofs
-use proofs.Words.{and_parts, ap, AreFrom, AreInOrder, AreThere, arith, Begun, begun, begun_of, Bool}
-use proofs.Words.{but, comes_next, cond, delivered, Entry, Event, false, fewer_length, follows}
-use proofs.Words.{frame_taken, frames_said, heard, History, is_accepted, is_from, is_next}
-use proofs.Words.{is_running, is_up, is_visible, IsFew, IsGiven, IsHonest, IsPlayedIn, IsStep}
-use proofs.Words.{judgement, last_in_order, length, lie, limit, link_version, List, list_all}
-use proofs.Words.{MaySay, MaySaySoFar, Message, Message2, message_taken, None, Opening, Option}
-use proofs.Words.{option_map_or, option_to_list, PartKind, past, peer_limit, Pid, refl, Refused}
-use proofs.Words.{Row, rows_before, rows_of, Rule, same, same_decides, same_row, same_row_decides}
-use proofs.Words.{same_sym, seen, slice_get, so_far, so_far_behind, Some, stated, subst, sym, true}
-use proofs.Words.{view_of, ℕ, [], ◌&&◌, ◌++◌, ◌+◌, ◌==◌, ◌||◌, ◌∙◌, ◌∷◌, ◌≡◌}
+use proofs.Words.{and_parts, ap, AreFrom, AreThere, arith, Begun, begun, begun_of, Bool, but}
+use proofs.Words.{comes_next, delivered, Entry, Event, false, fewer_length, frame_taken, heard}
+use proofs.Words.{History, is_accepted, is_from, is_next, is_running, is_up, is_visible, IsFew}
+use proofs.Words.{IsGiven, IsHonest, IsPlayedIn, IsStep, judgement, last_in_order, length, limit}
+use proofs.Words.{link_version, List, list_all, MaySay, MaySaySoFar, Message, Message2}
+use proofs.Words.{message_taken, Opening, Option, option_map_or, PartKind, past, peer_limit, Pid}
+use proofs.Words.{refl, Refused, Row, rows_before, rows_of, Rule, same, same_decides, same_row}
+use proofs.Words.{same_row_decides, same_sym, seen, slice_get, so_far, so_far_behind, Some, stated}
+use proofs.Words.{subst, sym, true, view_of, ℕ, [], ◌&&◌, ◌++◌, ◌+◌, ◌==◌, ◌∙◌, ◌∷◌, ◌≡◌}
 use proofs.Accepting.{admits, heard_met, sync_met}
 use proofs.Bodies.{frames_more, stands_last, take_all}
+use proofs.Calm.{FewBehind, ThereBehind}
 
 -- processes of the name and the creation that the peer has given are from it
 module _ (o : Opening) (es : List Entry) (l : ℕ) (name : List ℕ) (creation : ℕ)
@@ -47,27 +47,7 @@ pub record IsInStep (r b : Option Begun) (kind : PartKind) (s : List ℕ) (numbe
 pub in_step : (r b : Option Begun) (kind : PartKind) (s : List ℕ) (number : ℕ) (last : Bool)
     (rows : List Row) → comes_next b (Message2.Part kind s number last rows) ≡ true
     → (kept_of s b ≡ true → r ≡ b) → IsInStep r b kind s number
-in_step r b kind s number last rows comes alike = by (number == 1) refl b refl comes
-  where
-    by : (one : Bool) → (number == 1) ≡ one → (c : Option Begun) → b ≡ c
-        → comes_next c (Message2.Part kind s number last rows) ≡ true → IsInStep r b kind s number
-    by true first c is comes = record {
-      next = ap (λ x. x || option_map_or (follows kind s number) r false) first;
-      before = ap (λ x. cond x [] (option_map_or
-          (λ y. cond (follows kind s number y) y.rows []) r [])) first
-          ∙ sym (ap (λ x. cond x [] (option_map_or
-          (λ y. cond (follows kind s number y) y.rows []) b [])) first);
-    }
-    by false later None is comes = lie (sym comes ∙ later)
-    by false later (Some k) is comes =
-        let parts = and_parts _ _ comes in
-        let same_scope = (and_parts (same k.scope s) _ parts.1).0 in
-        let same_kept = alike (ap (kept_of s) is ∙ same_scope) in
-        record {
-          next = (λ i. later i || option_map_or (follows kind s number) ((same_kept ∙ is) i) false)
-              ∙ comes;
-          before = ap (λ x. rows_before x kind s number) same_kept;
-        }
+in_step r b kind s number last rows comes alike = grind arith
 
 module _ (v : ℕ) (o : Opening) (es : List Entry) (e : Entry) (legal : IsPlayedIn o es) (l : ℕ)
     (s : List ℕ) (up : is_up l es ≡ true) (agrees : link_version o l es ≡ v) where
@@ -88,9 +68,7 @@ module _ (v : ℕ) (o : Opening) (es : List Entry) (e : Entry) (legal : IsPlayed
     -- the next message stands right behind what came
     pub comes : (f : Message2) → message_taken v body ≡ Some f
         → comes_next (begun_of v bodies) f ≡ true
-    comes f says = last_in_order None (frames_said v bodies) f
-        (subst (AreInOrder None) (frames_more v bodies body
-        ∙ ap (λ x. frames_said v bodies ++ option_to_list x) says) honest.order)
+    comes f says = grind (arith, last_in_order, frames_more v bodies body)
 
     module _ (kind : PartKind) (number : ℕ) (last : Bool) (rows : List Row)
         (says : message_taken v body ≡ Some (Message2.Part kind s number last rows))
@@ -99,7 +77,7 @@ module _ (v : ℕ) (o : Opening) (es : List Entry) (e : Entry) (legal : IsPlayed
       all_rows = so_far h l kind s number rows
 
       rows_are : so_far_behind v bodies kind s number rows ≡ all_rows
-      rows_are = ap (λ xs. xs ++ rows) (sym step.before)
+      rows_are = grind arith
 
       rows_from : AreFrom h l rows
       rows_from = all_from o es l name creation gave rows
@@ -107,8 +85,7 @@ module _ (v : ℕ) (o : Opening) (es : List Entry) (e : Entry) (legal : IsPlayed
 
       room : IsFew v s (λ g p. view_of v s g p bodies) kind all_rows
       room = subst (IsFew v s (λ g p. view_of v s g p bodies) kind) rows_are
-          (subst (λ bs. IsFew v s (λ g p. view_of v s g p bs) kind
-          (so_far_behind v bs kind s number rows)) (take_all bodies body)
+          (subst (FewBehind v s kind number rows) (take_all bodies body)
           (honest.few (length bodies) body here kind number last rows says))
 
       may_if : MaySaySoFar h l kind s all_rows → MaySay h l (Message2.Part kind s number last rows)
@@ -123,12 +100,11 @@ module _ (v : ℕ) (o : Opening) (es : List Entry) (e : Entry) (legal : IsPlayed
         → MaySaySoFar h l PartKind.Sync s rows
     may_sync rows few =
         let fewer = fewer_length same_row same_row_decides rows few.0
-        (λ r. (let it = few.1 r.group r.pid in
-        let is = synced_number r.group r.pid rows (view_of v s r.group r.pid bodies) it.0 it.1 in
-        let low = it.2 in omega (arith, is, low))) in
-        let most = few.2 in
-        let limit_is = room_is in
-        omega (arith, fewer, most, limit_is)
+        (λ r. (let it = few.1 r.group r.pid in omega (
+          arith,
+          synced_number r.group r.pid rows (view_of v s r.group r.pid bodies) it.0 it.1,
+        ))) in
+        omega (arith, room_is)
 
     -- while it is heard so, with what it has stated
     module _ (now : (g : List ℕ) (p : Pid)
@@ -144,8 +120,8 @@ module _ (v : ℕ) (o : Opening) (es : List Entry) (e : Entry) (legal : IsPlayed
         counts = λ r. (let it = few.1 r.group r.pid in
             let is = joined_number r.group r.pid rows it.0 (stated o l s r.group r.pid es)
             (sym (ap (seen s r.group r.pid (Message.Join s rows)) (now r.group r.pid)) ∙ it.1) in
-            let low = it.2 in omega (arith, is, low));
-        room = (let most = few.2 in let limit_is = room_is in omega (arith, most, limit_is));
+            omega arith);
+        room = omega (arith, room_is);
       }
 
       number_of : (n m : ℕ) → Some n ≡ Some m → n ≡ m
@@ -155,10 +131,8 @@ module _ (v : ℕ) (o : Opening) (es : List Entry) (e : Entry) (legal : IsPlayed
           → MaySaySoFar h l PartKind.Leave s rows
       may_leave rows there r =
           let it = there r.group r.pid in
-          let is = number_of it.0 (stated o l s r.group r.pid es)
-          (sym it.1 ∙ now r.group r.pid) in
-          let less = it.2 in
-          omega (arith, is, less)
+          let is = number_of it.0 (stated o l s r.group r.pid es) (sym it.1 ∙ now r.group r.pid) in
+          omega arith
 
       may_say : (kind : PartKind) (number : ℕ) (last : Bool) (rows : List Row)
           → message_taken v body ≡ Some (Message2.Part kind s number last rows)
@@ -177,16 +151,15 @@ module _ (v : ℕ) (o : Opening) (es : List Entry) (e : Entry) (legal : IsPlayed
           (may_leave (so_far h l PartKind.Leave s number rows)
           (subst (AreThere (λ g p. view_of v s g p bodies))
           (rows_are PartKind.Leave number last rows says step)
-          (subst (λ bs. AreThere (λ g p. view_of v s g p bs)
-          (so_far_behind v bs PartKind.Leave s number rows)) (take_all bodies body)
+          (subst (ThereBehind v s number rows) (take_all bodies body)
           (honest.there (length bodies) body here number last rows says))))
 
     taken_there : (f : Message2) → message_taken v body ≡ Some f → frame_taken o l es body ≡ Some f
-    taken_there f says = ap (λ n. message_taken n body) agrees ∙ says
+    taken_there f says = grind arith
 
     never : (r : Rule) → IsStep h (but e (Event.Frame l body) (Refused r))
         → is_accepted (judgement h e.seat (Event.Frame l body)) ≡ true → true ≡ false
-    never r next accepts = sym accepts ∙ ap is_accepted (sym next.judged)
+    never r next accepts = grind arith
 
     -- so a part of s is not refused while it is heard
     pub heard_never : ((g : List ℕ) (p : Pid) → view_of v s g p bodies ≡ Some (stated o l s g p es))
@@ -200,7 +173,7 @@ module _ (v : ℕ) (o : Opening) (es : List Entry) (e : Entry) (legal : IsPlayed
         let step = in_step (begun o l es) (begun_of v bodies) kind s number last rows
         (comes f says) alike in
         never r next (admits h legal l up e.seat body f (taken_there f says)
-        (heard_met h legal l s hears f refl (may_say now kind number last rows says step)))
+        (heard_met h legal l f hears (may_say now kind number last rows says step)))
 
     -- nor is a part of a Sync that goes on
     pub sync_never : is_visible h l ≡ true → is_running h s ≡ true

@@ -3,12 +3,12 @@ use Rattle.frame_laws.proofs
 use proofs.Words.{ap, AreInOrder, arith, begun_by, bodies_of, Entry, false, frames_said, History}
 use proofs.Words.{IsNode, List, map, Message, narrow, None, Opening, option_to_list, out_in}
 use proofs.Words.{OutFrame, owed, Owing, owing, past, refl, said_frames, Speaks, subst, sym, ℕ, []}
-use proofs.Words.{◌++◌, ◌∙◌, ◌∷◌, ◌≡◌}
+use proofs.Words.{◌++◌, ◌∷◌, ◌≡◌}
 use proofs.Calm.{AreWhole, frames_apart, message_ends, message_says, said_apart, whole_both}
-use proofs.Handshakes.{begins_message, first_byte, IsClosed, no_message, of_hellos}
+use proofs.Handshakes.{begins_message, first_byte, IsClosed, no_message}
 use proofs.Pieces.{begun_apart, order_apart, pieces_in_order}
-use proofs.Spoken.{Holds, node_before, owed_hold, speaks_now}
-use proofs.Sayable.{asks_alike, asks_sayable, downs_alike, downs_sayable, IsSayable, said}
+use proofs.Spoken.{entry_holds, Holds, holds_of, node_before}
+use proofs.Sayable.{IsSayable, said}
 
 -- messages, each whole and in the order of its parts
 pub record IsOrderly (v : ℕ) (fs : List OutFrame) : Type 0 where
@@ -41,15 +41,8 @@ module _ (v : ℕ) where
   })
 
   pub each_orderly : (h : History) (node : IsNode h) (l : ℕ) → Holds h node l v (IsOrderly v)
-  each_orderly h node l = record {
-    closed = orderly_closed;
-    hellos = of_hellos h l (IsOrderly v) orderly_hello;
-    asks = λ s text. subst (IsOrderly v) (asks_alike v s)
-        (orderly_message (Message.Discover s) (asks_sayable v s text));
-    downs = λ s text. subst (IsOrderly v) (downs_alike v s)
-        (orderly_message (Message.Down s) (downs_sayable v s text));
-    said = λ m can own. orderly_message m can;
-  }
+  each_orderly h node l = holds_of h node l v (IsOrderly v) orderly_closed orderly_hello
+      (λ m can own. orderly_message m can)
 
 -- ---- along a history
 
@@ -66,8 +59,12 @@ bodies_owing n (f ∷ fs) = grind (arith, bodies_owing n fs)
 pub said_more : (v : ℕ) (xs : List Owing) (n : ℕ) (fs : List OutFrame)
     → frames_said v (bodies_of (xs ++ map (owing n) fs)) ≡ frames_said v (bodies_of xs) ++ said v fs
 said_more v xs n fs =
-    ap (frames_said v) (bodies_apart xs (map (owing n) fs) ∙ ap (λ bs. bodies_of xs ++ bs)
-    (bodies_owing n fs)) ∙ said_apart v (bodies_of xs) (map (λ f. f.body) fs)
+    grind (
+      arith,
+      bodies_apart xs (map (owing n) fs),
+      bodies_owing n fs,
+      said_apart,
+    )
 
 pub record OutOrderly (v : ℕ) (xs : List Owing) : Type 0 where
   pub ends : begun_by None (frames_said v (bodies_of xs)) ≡ None
@@ -76,25 +73,18 @@ pub record OutOrderly (v : ℕ) (xs : List Owing) : Type 0 where
 pub owed_orderly : (o : Opening) (e : Entry) (es : List Entry) → IsNode (past o (e ∷ es))
     → (l v : ℕ) → Speaks o l v es
     → IsOrderly v (owed (past o es) l e.number e.event e.verdict)
-owed_orderly o e es node l v speaks =
-    owed_hold (past o es) (node_before o e es node) l v (speaks_now o l v es speaks) (IsOrderly v)
-    (each_orderly v (past o es) (node_before o e es node) l) e.number e.seat e.event e.verdict
-    (λ is. orderly_hello v _ refl)
-    node.legal.0.judged node.written.0
+owed_orderly o e es node l v speaks = entry_holds o e es node l v speaks (IsOrderly v)
+    (each_orderly v (past o es) (node_before o e es node) l) (orderly_hello v _ refl)
 
 pub out_orderly : (o : Opening) (es : List Entry) → IsNode (past o es) → (l v : ℕ)
     → Speaks o l v es → OutOrderly v (out_in o l es)
 out_orderly o [] node l v speaks = record { ends = refl; order = tt }
 out_orderly o (e ∷ es) node l v speaks =
-    let was = out_orderly o es (node_before o e es node) l v speaks.1 in
-    let now = owed_orderly o e es node l v speaks.1 in
-    let fs = owed (past o es) l e.number e.event e.verdict in
-    let more = said_more v (out_in o l es) e.number fs in
-    record {
-      ends = ap (begun_by None) more
-          ∙ begun_apart None (frames_said v (bodies_of (out_in o l es))) (said v fs)
-          ∙ ap (λ b. begun_by b (said v fs)) was.ends ∙ now.ends;
-      order = subst (AreInOrder None) (sym more)
-          (order_apart None (frames_said v (bodies_of (out_in o l es))) (said v fs) was.order
-          (subst (λ b. AreInOrder b (said v fs)) (sym was.ends) now.order));
-    }
+    grind (
+      arith,
+      out_orderly o es (node_before o e es node) l v speaks.1,
+      owed_orderly o e es node l v speaks.1,
+      said_more,
+      begun_apart,
+      order_apart,
+    )

@@ -1,22 +1,22 @@
 -- The messages that a node may say are within the grammar, and their rows are its own.
 use Rattle.frame_laws.proofs
-use proofs.Words.{AllByRecursion, and_parts, ap, arith, Bool, cond, count_in_group, exact_pids}
+use proofs.Words.{Accepted, AllByRecursion, arith, Bool, cond, count_in_group, Event, exact_pids}
 use proofs.Words.{false, few, few_local, fewer_length, filter, filter_all, foreign_own, History}
-use proofs.Words.{is_empty, is_local, is_open, is_up, is_whole, IsListing, IsNode, IsRow}
-use proofs.Words.{IsRowListing, IsText, leb-true, length, length-map, lie, limit, link_version}
-use proofs.Words.{List, list_all, listing, listing_counts, lives, local_rows, local_rows_are, map}
-use proofs.Words.{max_rows, mentions, Message, min, nat_le, not, occurrences, occurs_stands}
-use proofs.Words.{old_limit, own, own_limit, Pid, pid_cmp, pids_total, refl, Row, row}
-use proofs.Words.{rows_in_group, same, same_decides, same_pid, same_pid_decides, same_row}
-use proofs.Words.{same_row_decides, same_sym, subst, sym, told, true, uncounted, ℕ, [], ◌&&◌, ◌+◌}
-use proofs.Words.{◌<◌, ◌==◌, ◌||◌, ◌∙◌, ◌∷◌, ◌≡◌, ◌≤◌}
+use proofs.Words.{is_empty, is_local, is_running, is_whole, IsListing, IsNode, IsRow, IsRowListing}
+use proofs.Words.{IsText, judgement, length, length-map, limit, link_version, List, list_all}
+use proofs.Words.{listing, listing_counts, lives, local_rows, local_rows_are, map, max_rows}
+use proofs.Words.{mentions, Message, min, nat_le, occurrences, occurs_stands, old_limit, own}
+use proofs.Words.{own_limit, Pid, pid_cmp, pids_total, refl, Reply, Row, row, rows_in_group, same}
+use proofs.Words.{same_decides, same_pid, same_pid_decides, same_row, same_row_decides, same_sym}
+use proofs.Words.{subst, sym, told, true, uncounted, ℕ, [], ◌&&◌, ◌+◌, ◌<◌, ◌==◌, ◌||◌, ◌∷◌, ◌≡◌}
+use proofs.Words.{◌≤◌}
 use proofs.OwnLimits.{all_counted, living_row, own_row, own_rows}
 use proofs.Sayable.{IsSayable, join_sayable, leave_sayable, sync_sayable}
 
 -- ---- rows that join and leave
 
 some_rows : (rows : List Row) → is_empty rows ≡ false → 0 < length rows
-some_rows [] q = lie q
+some_rows [] q = cc
 some_rows (r ∷ rows) q = omega arith
 
 length_filter : (test : Row → Bool) (rows : List Row) → length (filter test rows) ≤ length rows
@@ -32,6 +32,19 @@ group_listing g count ps named = rows_in_group g count (listing pid_cmp count ps
     (λ p some. occurs_stands same_pid p ps (named p some)))
 
 module _ (h : History) (node : IsNode h) where
+  abbrev AreLocal : List Row → Type 0
+  AreLocal rows = list_all (λ r. is_local h r.pid) rows ≡ true
+
+  -- what the rules of an accepted Join say
+  pub record JoinMet (s : List ℕ) (ps : List Pid) : Type 0 where
+    pub runs : is_running h s ≡ true
+    pub alive : list_all (lives h) ps ≡ true
+    pub room : length (local_rows h s) + length ps ≤ own_limit h s
+
+  pub join_met : (seat : ℕ) (s g : List ℕ) (ps : List Pid) (r : Reply)
+      → Accepted r ≡ judgement h seat (Event.Join s g ps) → JoinMet s ps
+  join_met seat s g ps r q = grind arith
+
   abbrev pub join_rows : List ℕ → List Pid → List Row
   join_rows g ps = map (row g) (listing pid_cmp (λ p. mentions p ps) ps)
 
@@ -43,13 +56,12 @@ module _ (h : History) (node : IsNode h) where
 
   pub join_listing : (g : List ℕ) (ps : List Pid)
       → IsRowListing (λ f q. cond (same f g) (mentions q ps) 0) (join_rows g ps)
-  join_listing g ps = group_listing g (λ p. mentions p ps) ps (λ p some. some)
+  join_listing g ps = grind (arith, group_listing)
 
   pub leave_listing : (s g : List ℕ) (ps : List Pid)
       → IsRowListing (λ f q. cond (same f g) (min (mentions q ps) (own h s g q)) 0)
       (leave_rows s g ps)
-  leave_listing s g ps = group_listing g (λ p. min (mentions p ps) (own h s g p)) ps
-      (λ p some. omega (arith, some))
+  leave_listing s g ps = grind (arith, group_listing)
 
   pub join_few : (g : List ℕ) (ps : List Pid) → length (join_rows g ps) ≤ length ps
   join_few g ps =
@@ -60,8 +72,7 @@ module _ (h : History) (node : IsNode h) where
         count_in_group r g ps,
         same_sym r.group g,
       )) in
-      let long = length-map ps (row g) in
-      omega (arith, all, long)
+      omega (arith, length-map ps (row g))
 
   pub join_each : (g : List ℕ) (ps : List Pid) → IsText g → list_all (lives h) ps ≡ true
       → AllByRecursion IsRow (join_rows g ps)
@@ -69,7 +80,7 @@ module _ (h : History) (node : IsNode h) where
     where
       each : (r : Row) → 0 < occurrences same_row r (join_rows g ps) → IsRow r
       each r some = by (same r.group g) refl (lives h r.pid) refl
-          (let is = IsListing.counts (join_listing g ps) r in omega (arith, is, some))
+          (omega (arith, IsListing.counts (join_listing g ps) r))
         where
           by : (b : Bool) → same r.group g ≡ b → (c : Bool) → lives h r.pid ≡ c
               → 0 < cond (same r.group g) (mentions r.pid ps) 0 → IsRow r
@@ -90,15 +101,13 @@ module _ (h : History) (node : IsNode h) where
   leave_few s g ps = few h s (leave_rows s g ps) (leave_within s g ps)
 
   pub leave_each : (s g : List ℕ) (ps : List Pid) → AllByRecursion IsRow (leave_rows s g ps)
-  leave_each s g ps = all_counted IsRow (leave_rows s g ps)
-      (λ r some. own_row h node s r.group r.pid
-      (let less = leave_within s g ps r in omega (arith, less, some)))
+  leave_each s g ps = grind (arith, all_counted, own_row, leave_within)
 
   pub exit_few : (s : List ℕ) (p : Pid) → length (exit_rows s p) ≤ length (local_rows h s)
-  exit_few s p = length_filter (λ w. same_pid w.pid p) (local_rows h s)
+  exit_few s p = grind (arith, length_filter)
 
   pub exit_each : (s : List ℕ) (p : Pid) → AllByRecursion IsRow (exit_rows s p)
-  exit_each s p = filter_all IsRow (λ w. same_pid w.pid p) (local_rows h s) (own_rows h node s)
+  exit_each s p = grind (arith, filter_all, own_rows h node s)
 
   -- ---- messages
 
@@ -109,80 +118,44 @@ module _ (h : History) (node : IsNode h) where
       (agrees : is_whole l h.entries ≡ true → link_version h.opening l h.entries ≡ v) where
     pub told_whole : (s : List ℕ) → told h.opening l s h.entries ≡ true
         → is_whole l h.entries ≡ true
-    told_whole s tells = (and_parts (is_open l h.entries) (is_whole l h.entries)
-        (and_parts (is_up l h.entries) _ tells).0).1
+    told_whole s tells = grind arith
 
     -- to a peer that is told all own rows can be said
     pub told_room : (s : List ℕ) → told h.opening l s h.entries ≡ true → own_limit h s ≤ limit v
-    told_room s tells = by (link_version h.opening l h.entries == 2) refl
-      where
-        is : limit (link_version h.opening l h.entries) ≡ limit v
-        is = ap limit (agrees (told_whole s tells))
-
-        by : (b : Bool) → (link_version h.opening l h.entries == 2) ≡ b → own_limit h s ≤ limit v
-        by true new =
-            let most : own_limit h s ≤ 65536 = limit_most s in
-            let here : limit (link_version h.opening l h.entries) ≡ 65536 =
-            ap (λ b. cond b 65536 max_rows) new in
-            omega (arith, most, here, is)
-        by false old =
-            let most : own_limit h s ≡ max_rows = old_limit h.opening h.entries l s
-            (λ i. tells i && not (old i)) in
-            let here : limit (link_version h.opening l h.entries) ≡ max_rows =
-            ap (λ b. cond b 65536 max_rows) old in
-            omega (arith, most, here, is)
+    told_room s tells =
+        grind (arith, old_limit h.opening h.entries l s)
 
     pub own_room : (s : List ℕ) → told h.opening l s h.entries ≡ true
         → length (local_rows h s) ≤ limit v
-    own_room s tells = (let few = few_local h node.legal s in let room = told_room s tells in
-        omega (arith, few, room))
+    own_room s tells = omega (arith, few_local h node.legal s, told_room s tells)
 
     -- and so can they to one that asks
     pub asked_room : is_whole l h.entries ≡ true → (s : List ℕ)
         → (link_version h.opening l h.entries == 2 || nat_le (length (local_rows h s)) max_rows)
         ≡ true → length (local_rows h s) ≤ limit v
-    asked_room whole s can = by (link_version h.opening l h.entries == 2) refl
-      where
-        is : limit (link_version h.opening l h.entries) ≡ limit v
-        is = ap limit (agrees whole)
-
-        by : (b : Bool) → (link_version h.opening l h.entries == 2) ≡ b
-            → length (local_rows h s) ≤ limit v
-        by true new =
-            let few = few_local h node.legal s in
-            let most : own_limit h s ≤ 65536 = limit_most s in
-            let here : limit (link_version h.opening l h.entries) ≡ 65536 =
-            ap (λ b. cond b 65536 max_rows) new in
-            omega (arith, few, most, here, is)
-        by false old =
-            let few = leb-true (length (local_rows h s)) max_rows
-            (sym (λ i. old i || nat_le (length (local_rows h s)) max_rows) ∙ can) in
-            let here : limit (link_version h.opening l h.entries) ≡ max_rows =
-            ap (λ b. cond b 65536 max_rows) old in
-            omega (arith, few, here, is)
+    asked_room whole s can =
+        grind (arith, few_local h node.legal s)
 
     pub join_is : (s g : List ℕ) (ps : List Pid) → IsText s → IsText g
         → list_all (lives h) ps ≡ true → length (local_rows h s) + length ps ≤ own_limit h s
         → told h.opening l s h.entries ≡ true → is_empty (join_rows g ps) ≡ false
         → IsSayable v (Message.Join s (join_rows g ps))
     join_is s g ps scope group alive small tells some =
-        join_sayable v s scope (join_rows g ps) (join_each g ps group alive)
-        (let few = join_few g ps in let room = told_room s tells in omega (arith, few, small, room))
-        (some_rows (join_rows g ps) some)
+        grind (arith, join_sayable, join_each, join_few, told_room)
 
     pub leave_is : (s g : List ℕ) (ps : List Pid) → IsText s
         → told h.opening l s h.entries ≡ true → is_empty (leave_rows s g ps) ≡ false
         → IsSayable v (Message.Leave s (leave_rows s g ps))
     leave_is s g ps scope tells some =
         leave_sayable v s scope (leave_rows s g ps) (leave_each s g ps)
-        (let few = leave_few s g ps in let room = own_room s tells in omega (arith, few, room))
+        (omega (arith, leave_few s g ps, own_room s tells))
         (some_rows (leave_rows s g ps) some)
 
     pub exit_is : (s : List ℕ) (p : Pid) → IsText s → told h.opening l s h.entries ≡ true
         → is_empty (exit_rows s p) ≡ false → IsSayable v (Message.Leave s (exit_rows s p))
     exit_is s p scope tells some =
         leave_sayable v s scope (exit_rows s p) (exit_each s p)
-        (let few = exit_few s p in let room = own_room s tells in omega (arith, few, room))
+        (omega (arith, exit_few s p, own_room s tells))
         (some_rows (exit_rows s p) some)
 
     pub sync_is : is_whole l h.entries ≡ true → (s : List ℕ) → IsText s
@@ -194,51 +167,30 @@ module _ (h : History) (node : IsNode h) where
   -- ---- their rows are own
 
   all_own : (rows : List Row) → ((r : Row) → 0 < occurrences same_row r rows
-      → is_local h r.pid ≡ true) → list_all (λ r. is_local h r.pid) rows ≡ true
+      → is_local h r.pid ≡ true) → AreLocal rows
   all_own [] each = refl
   all_own (r ∷ rows) each =
-      (λ i. each r (first r rows) i && all_own rows (λ x some. each x (later x r rows some)) i)
-    where
-      first : (r : Row) (rows : List Row) → 0 < occurrences same_row r (r ∷ rows)
-      first r rows = grind (arith, same_row_decides r r)
-
-      later : (x r : Row) (rows : List Row) → 0 < occurrences same_row x rows
-          → 0 < occurrences same_row x (r ∷ rows)
-      later x r rows some = grind arith
+      (λ i. each r (grind (arith, same_row_decides r r)) i
+      && all_own rows (λ x some. each x (grind arith)) i)
 
   own_is_local : (s g : List ℕ) (p : Pid) → 0 < own h s g p → is_local h p ≡ true
   own_is_local s g p some = grind (arith, foreign_own)
 
-  pub sync_own : (s : List ℕ) → list_all (λ r. is_local h r.pid) (local_rows h s) ≡ true
-  sync_own s = all_own (local_rows h s) (λ r some. own_is_local s r.group r.pid
-      (let is = IsListing.counts (local_rows_are h s) r in omega (arith, is, some)))
+  pub sync_own : (s : List ℕ) → AreLocal (local_rows h s)
+  sync_own s = grind (arith, all_own, own_is_local, local_rows_are h s)
 
-  pub exit_own : (s : List ℕ) (p : Pid) → list_all (λ r. is_local h r.pid) (exit_rows s p) ≡ true
+  pub exit_own : (s : List ℕ) (p : Pid) → AreLocal (exit_rows s p)
   exit_own s p = filtered (local_rows h s) (sync_own s)
     where
-      filtered : (rows : List Row) → list_all (λ r. is_local h r.pid) rows ≡ true
-          → list_all (λ r. is_local h r.pid) (filter (λ w. same_pid w.pid p) rows) ≡ true
+      filtered : (rows : List Row) → AreLocal rows
+          → AreLocal (filter (λ w. same_pid w.pid p) rows)
       filtered [] all = refl
       filtered (r ∷ rows) all = grind (arith, filtered rows, all)
 
   pub leave_own : (s g : List ℕ) (ps : List Pid)
-      → list_all (λ r. is_local h r.pid) (leave_rows s g ps) ≡ true
-  leave_own s g ps = all_own (leave_rows s g ps)
-      (λ r some. own_is_local s r.group r.pid (let less = within r in omega (arith, less, some)))
-    where
-      within : (r : Row) → occurrences same_row r (leave_rows s g ps) ≤ own h s r.group r.pid
-      within r = grind (arith, IsListing.counts (leave_listing s g ps) r, same_decides r.group g)
+      → AreLocal (leave_rows s g ps)
+  leave_own s g ps = grind (arith, all_own, own_is_local, leave_within)
 
   pub join_own : (g : List ℕ) (ps : List Pid) → list_all (lives h) ps ≡ true
-      → list_all (λ r. is_local h r.pid) (join_rows g ps) ≡ true
-  join_own g ps alive = all_own (join_rows g ps) (λ r some. by r (lives h r.pid) refl
-      (let is = IsListing.counts (join_listing g ps) r in omega (arith, is, some)))
-    where
-      by : (r : Row) (b : Bool) → lives h r.pid ≡ b
-          → 0 < cond (same r.group g) (mentions r.pid ps) 0 → is_local h r.pid ≡ true
-      by r true lived some = grind arith
-      by r false dead some =
-          grind (
-            arith,
-            uncounted same_pid (λ y x. (same_pid_decides y x).0) (lives h) r.pid ps alive dead,
-          )
+      → AreLocal (join_rows g ps)
+  join_own g ps alive = grind (arith, all_own, join_listing g ps, uncounted, same_pid_decides)

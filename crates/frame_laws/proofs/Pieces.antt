@@ -1,12 +1,11 @@
 -- A message in the parts of its version, and what came where some of them did.
 use Rattle.frame_laws.proofs
 use proofs.Words.{ap, append-nil, append_assoc, AreInOrder, arith, before_last, Begun, begun_after}
-use proofs.Words.{begun_by, Bool, completed, completed_by, cond, drop, false, is_some, length, lie}
-use proofs.Words.{List, max_rows, Message, Message2, message_of, None, Option, option_to_list}
-use proofs.Words.{PartKind, parts, parts_complete, parts_from, parts_in_order, refl, Row}
-use proofs.Words.{rows_before, rows_so_far, rules, slice_get, Some, subst, suc, sym, take}
-use proofs.Words.{take-append-drop, true, whole, whole_completes, zero, ℕ, [], ◌++◌, ◌+◌, ◌==◌, ◌∙◌}
-use proofs.Words.{◌∷◌, ◌≡◌}
+use proofs.Words.{begun_by, Bool, completed_by, cond, drop, false, length, List, max_rows, Message}
+use proofs.Words.{Message2, message_of, None, Option, PartKind, parts, parts_complete, parts_from}
+use proofs.Words.{parts_in_order, refl, Row, rows_before, rows_so_far, rules, slice_get, Some}
+use proofs.Words.{subst, suc, sym, take, take-append-drop, true, whole, zero, ℕ, [], ◌++◌, ◌+◌}
+use proofs.Words.{◌==◌, ◌∙◌, ◌∷◌, ◌≡◌}
 
 -- ---- lists of parts
 
@@ -14,9 +13,7 @@ pub completed_apart : (b : Option Begun) (xs ys : List Message2)
     → completed_by b (xs ++ ys) ≡ completed_by b xs ++ completed_by (begun_by b xs) ys
 completed_apart b [] ys = refl
 completed_apart b (x ∷ xs) ys =
-    ap (λ ms. option_to_list (completed b x) ++ ms) (completed_apart (begun_after b x) xs ys)
-    ∙ sym (append_assoc (option_to_list (completed b x)) (completed_by (begun_after b x) xs)
-    (completed_by (begun_by (begun_after b x) xs) ys))
+    grind (arith, completed_apart (begun_after b x) xs ys)
 
 pub begun_apart : (b : Option Begun) (xs ys : List Message2)
     → begun_by b (xs ++ ys) ≡ begun_by (begun_by b xs) ys
@@ -41,35 +38,17 @@ cuts v rows = cond (v == 2) (before_last rows) 0
 
 pub pieces_are : (v : ℕ) (kind : PartKind) (s : List ℕ) (rows : List Row)
     → pieces v (message_of kind s rows) ≡ parts_from kind s 1 (cuts v rows) rows
-pieces_are v kind s rows = by (v == 2) kind
-  where
-    by : (b : Bool) (kind : PartKind)
-        → cond b (parts (message_of kind s rows)) (whole (message_of kind s rows) ∷ [])
-        ≡ parts_from kind s 1 (cond b (before_last rows) 0) rows
-    by true PartKind.Sync = refl
-    by true PartKind.Join = refl
-    by true PartKind.Leave = refl
-    by false PartKind.Sync = refl
-    by false PartKind.Join = refl
-    by false PartKind.Leave = refl
+pieces_are v kind s rows = grind arith
 
 pub pieces_complete : (v : ℕ) (m : Message) → completed_by None (pieces v m) ≡ m ∷ []
-pieces_complete v m = by (v == 2)
-  where
-    by : (b : Bool) → completed_by None (cond b (parts m) (whole m ∷ [])) ≡ m ∷ []
-    by true = ap (completed_by None) (sym (append-nil (parts m))) ∙ parts_complete m None []
-    by false = whole_completes m None []
+pieces_complete v m = grind (arith, append-nil (parts m), parts_complete)
 
 pub pieces_in_order : (v : ℕ) (m : Message) → AreInOrder None (pieces v m)
 pieces_in_order v m = by (v == 2) m
   where
     by : (b : Bool) (m : Message) → AreInOrder None (cond b (parts m) (whole m ∷ []))
     by true m = subst (AreInOrder None) (append-nil (parts m)) (parts_in_order m [] tt)
-    by false (Message.Discover s) = (refl, tt)
-    by false (Message.Sync s rows) = (refl, tt)
-    by false (Message.Join s rows) = (refl, tt)
-    by false (Message.Leave s rows) = (refl, tt)
-    by false (Message.Down s) = (refl, tt)
+    by false m = (grind arith, tt)
 
 pub last_ends : (kind : PartKind) (s : List ℕ) (number more : ℕ) (rows : List Row) (b : Option
     Begun)
@@ -78,20 +57,29 @@ last_ends kind s number zero rows b = refl
 last_ends kind s number (suc more) rows b = last_ends kind s (suc number) more (drop max_rows rows)
     _
 
-pub pieces_end : (v : ℕ) (m : Message) → begun_by None (pieces v m) ≡ None
-pieces_end v m = by (v == 2) m
+-- what holds of a message without rows alone, and of the parts of each with rows, holds of all
+pub pieces_by : (v : ℕ) (P : Message → List Message2 → Type 0)
+    → ((s : List ℕ) → P (Message.Discover s) (Message2.Discover s ∷ []))
+    → ((s : List ℕ) → P (Message.Down s) (Message2.Down s ∷ []))
+    → ((kind : PartKind) (s : List ℕ) (more : ℕ) (rows : List Row)
+    → P (message_of kind s rows) (parts_from kind s 1 more rows))
+    → (m : Message) → P m (pieces v m)
+pieces_by v P asks downs says m = by (v == 2) m
   where
-    by : (b : Bool) (m : Message) → begun_by None (cond b (parts m) (whole m ∷ [])) ≡ None
-    by true (Message.Discover s) = refl
-    by true (Message.Sync s rows) = last_ends PartKind.Sync s 1 (before_last rows) rows None
-    by true (Message.Join s rows) = last_ends PartKind.Join s 1 (before_last rows) rows None
-    by true (Message.Leave s rows) = last_ends PartKind.Leave s 1 (before_last rows) rows None
-    by true (Message.Down s) = refl
-    by false (Message.Discover s) = refl
-    by false (Message.Sync s rows) = refl
-    by false (Message.Join s rows) = refl
-    by false (Message.Leave s rows) = refl
-    by false (Message.Down s) = refl
+    by : (b : Bool) (m : Message) → P m (cond b (parts m) (whole m ∷ []))
+    by true (Message.Discover s) = asks s
+    by false (Message.Discover s) = asks s
+    by true (Message.Down s) = downs s
+    by false (Message.Down s) = downs s
+    by true (Message.Sync s rows) = says PartKind.Sync s (before_last rows) rows
+    by false (Message.Sync s rows) = says PartKind.Sync s 0 rows
+    by true (Message.Join s rows) = says PartKind.Join s (before_last rows) rows
+    by false (Message.Join s rows) = says PartKind.Join s 0 rows
+    by true (Message.Leave s rows) = says PartKind.Leave s (before_last rows) rows
+    by false (Message.Leave s rows) = says PartKind.Leave s 0 rows
+
+pub pieces_end : (v : ℕ) (m : Message) → begun_by None (pieces v m) ≡ None
+pieces_end v = grind (arith, last_ends)
 
 -- ---- one part of a message
 
@@ -139,7 +127,7 @@ piece_later : (kind : PartKind) (s : List ℕ) (n more : ℕ) (rows before : Lis
     → IsPiece b kind s before rows n (parts_from kind s (suc n) (suc more) rows) (suc k) f
 piece_later kind s n more rows before b k f it = record {
   number = it.number;
-  numbered = (let is = it.numbered in omega (arith, is));
+  numbered = omega arith;
   last = it.last;
   some = it.some;
   first = take max_rows rows ++ it.first;
@@ -171,9 +159,9 @@ piece_at kind s n zero rows before b was zero f q = record {
   whole_is = append-nil rows;
   none = refl;
   ends = λ is. refl;
-  begins = λ is. lie is;
+  begins = λ is. cc;
 }
-piece_at kind s n zero rows before b was (suc k) f q = lie (sym (ap is_some q))
+piece_at kind s n zero rows before b was (suc k) f q = cc
 piece_at kind s n (suc more) rows before b was zero f q = record {
   number = suc n;
   numbered = omega arith;
@@ -185,7 +173,7 @@ piece_at kind s n (suc more) rows before b was zero f q = record {
   so_far = ap (λ xs. xs ++ take max_rows rows) was;
   whole_is = take-append-drop max_rows rows;
   none = refl;
-  ends = λ is. lie (sym is);
+  ends = λ is. cc;
   begins = λ is. ap (λ xs. Some (record
       { kind = kind; scope = s; number = suc n; rows = xs ++ take max_rows rows })) was;
 }

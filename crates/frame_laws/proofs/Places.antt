@@ -48,8 +48,7 @@ pub owed_here : (n : ℕ) (fs : List OutFrame) (m : ℕ) (x : Owing)
     → slice_get (map (owing n) fs) m ≡ Some x → IsOwed n fs m x
 owed_here n [] m x q = grind arith
 owed_here n (f ∷ fs) zero x q = grind arith
-owed_here n (f ∷ fs) (suc m) x q =
-    (let it = owed_here n fs m x q in record { source = it.source; frame = it.frame })
+owed_here n (f ∷ fs) (suc m) x q = grind (arith, owed_here n fs m x q)
 
 -- ---- moments
 

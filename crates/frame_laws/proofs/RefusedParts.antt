@@ -1,32 +1,28 @@
 -- What is refused while a peer is heard, or a message is kept.
 use Rattle.frame_laws.proofs
 use proofs.Words.{Accepted, and_parts, ap, append-nil, arith, Begun, begun, begun_after, begun_of}
-use proofs.Words.{Bool, but, came, comes_next, completed, cond, delivered, Entry, eqb-true, Event}
-use proofs.Words.{false, first_broken, fresh, heard, HeardIsSaid, History, is_about_rows}
-use proofs.Words.{is_accepted, is_open, is_running, is_some, is_up, is_whole, IsGiven, IsHonest}
-use proofs.Words.{IsPlayedIn, IsStep, kept_after, kind_byte, known, lie, link_version, List}
-use proofs.Words.{Message, Message2, message_checks, message_of, message_taken, None, not, Opening}
-use proofs.Words.{Option, option_and_then, option_map_or, option_to_list, PartKind, past, Pid, refl}
-use proofs.Words.{Refused, Reply, Row, Rule, said_at, same, same_decides, seen_by, slice_get, Some}
-use proofs.Words.{stated, stopped_heard, subst, sym, true, Verdict, ℕ, [], ◌&&◌, ◌++◌, ◌==◌, ◌||◌}
-use proofs.Words.{◌∙◌, ◌∷◌, ◌≡◌}
-use proofs.Accepting.{admits, heard_met, is_up_there}
+use proofs.Words.{Bool, but, came, comes_next, cond, delivered, Entry, eqb-true, Event, false}
+use proofs.Words.{first_broken, fresh, heard, HeardIsSaid, History, is_about_rows, is_open}
+use proofs.Words.{is_running, is_up, is_whole, IsGiven, IsHonest, IsPlayedIn, IsStep, kept_after}
+use proofs.Words.{kind_byte, known, lie, link_version, List, Message, Message2, message_checks}
+use proofs.Words.{message_of, message_taken, None, Opening, Option, option_to_list, PartKind, past}
+use proofs.Words.{Pid, refl, Refused, Reply, Row, Rule, said_at, same, same_decides, seen_by, Some}
+use proofs.Words.{stated, subst, sym, true, Verdict, ℕ, [], ◌&&◌, ◌++◌, ◌==◌, ◌||◌, ◌∙◌, ◌∷◌, ◌≡◌}
+use proofs.Accepting.{heard_met, is_up_there}
 use proofs.Bodies.{begun_more, completes_there, is_known, known_heard}
-use proofs.KeptStands.{all_stand, begun_whole, is_sync, Stands, up_back}
+use proofs.KeptStands.{all_stand, is_sync, Stands, up_back}
 use proofs.KnownAfter.{known_after}
 use proofs.NotRefused.{comes, heard_never, kept_of, sync_never}
-use proofs.Alike.{Alike, NeedsAlike, some_whole, taken_same}
+use proofs.Alike.{Alike, some_whole}
 
 pub from_or : (a b : Bool) (P : Type 0) → (a || b) ≡ true → (a ≡ true → P) → (b ≡ true → P) → P
-from_or true b P q first later = first refl
-from_or false b P q first later = later q
+from_or c b P q first later = grind arith
 
 abbrev pub Before : ℕ → Opening → ℕ → List ℕ → List Entry → Type 0
 Before v o l s es = heard o l s es ≡ true → HeardIsSaid v (past o es) l s
 
 pub or_true : (a : Bool) {b : Bool} → b ≡ true → (a || b) ≡ true
-or_true true q = refl
-or_true false q = q
+or_true b q = grind arith
 
 module _ (v : ℕ) (o : Opening) (es : List Entry) (e : Entry) (legal : IsPlayedIn o es) (l : ℕ)
     (agrees : is_whole l es ≡ true → link_version o l es ≡ v) (s : List ℕ) where
@@ -73,12 +69,10 @@ module _ (v : ℕ) (o : Opening) (es : List Entry) (e : Entry) (legal : IsPlayed
       (option_to_list (said_at o l es body)) []) (known o l s g p es)) (other_link (k == l) none))
     where
       other_link : (b : Bool) → cond b (body ∷ []) [] ≡ [] → b ≡ false
-      other_link true q = lie (ap (λ (xs : List (List ℕ)). is_some (slice_get xs 0)) q)
-      other_link false q = refl
+      other_link b q = grind arith
   quiet_heard ev (Accepted r) next none hears = heard_before ev (Accepted r) hears
       (λ g p. known_after o es e legal l s g p ev (Accepted r) next hears)
-  quiet_heard ev (Refused r) next none hears = heard_before ev (Refused r) hears
-      (λ g p. known_after o es e legal l s g p ev (Refused r) next hears)
+  quiet_heard ev (Refused r) next none hears = grind arith
 
   -- ---- a refused message
 
@@ -108,45 +102,29 @@ module _ (v : ℕ) (o : Opening) (es : List Entry) (e : Entry) (legal : IsPlayed
         none_of : (kind : PartKind) (t : List ℕ) (last : Bool) (xs : List Row) → same t s ≡ false
             → is_about_rows s (cond {A = Option Message} last (Some (message_of kind t xs)) None)
             ≡ false
-        none_of kind t false xs other = refl
-        none_of PartKind.Sync t true xs other = other
-        none_of PartKind.Join t true xs other = other
-        none_of PartKind.Leave t true xs other = other
+        none_of kind t last xs other = grind arith
 
         down_met : (t : List ℕ) → same t s ≡ true
             → first_broken (message_checks h l (Message2.Down t)) ≡ None
-        down_met t is = heard_met h legal l s hears (Message2.Down t) ((same_decides t s).0 is) tt
+        down_met t is = heard_met h legal l (Message2.Down t)
+            (ap (λ u. heard o l u es) ((same_decides t s).0 is) ∙ hears) tt
 
         down_apart : (t : List ℕ) → message_taken v body ≡ Some (Message2.Down t) → (b : Bool)
             → same t s ≡ b → same t s ≡ false
-        down_apart t says true is =
-            let whole = (and_parts (is_open l es) (is_whole l es) up).1 in
-            lie (sym (admits h legal l up e.seat body (Message2.Down t)
-            (taken_same v o es e legal l agrees s body whole ∙ says) (down_met t is)) ∙ ap
-            is_accepted (sym next.judged))
-        down_apart t says false other = other
+        down_apart t says b is = grind (arith, and_parts, down_met)
 
         part_apart : (kind : PartKind) (t : List ℕ) (number : ℕ) (last : Bool) (rows : List Row)
             → message_taken v body ≡ Some (Message2.Part kind t number last rows) → (b : Bool)
             → same t s ≡ b → same t s ≡ false
-        part_apart kind t number last rows says true is =
-            lie (not_heard up hears kind number last rows
-            (says ∙ ap (λ u. Some (Message2.Part kind u number last rows))
-            ((same_decides t s).0 is)))
-        part_apart kind t number last rows says false other = other
+        part_apart kind t number last rows says b is = grind (arith, not_heard, same_decides)
 
         by : (x : Option Message2) → message_taken v body ≡ x
             → is_about_rows s (completes_there v bodies body) ≡ false
-        by None says = ap (λ x. is_about_rows s (option_and_then (completed (begun_of v bodies)) x))
-            says
-        by (Some (Message2.Discover t)) says =
-            ap (λ x. is_about_rows s (option_and_then (completed (begun_of v bodies)) x)) says
-        by (Some (Message2.Down t)) says =
-            ap (λ x. is_about_rows s (option_and_then (completed (begun_of v bodies)) x)) says
-            ∙ down_apart t says (same t s) refl
+        by None says = grind arith
+        by (Some (Message2.Discover t)) says = grind arith
+        by (Some (Message2.Down t)) says = grind (arith, down_apart t says (same t s) refl)
         by (Some (Message2.Part kind t number last rows)) says =
-            ap (λ x. is_about_rows s (option_and_then (completed (begun_of v bodies)) x)) says
-            ∙ none_of kind t last _ (part_apart kind t number last rows says (same t s) refl)
+            grind (arith, part_apart kind t number last rows says (same t s) refl)
 
     -- while a message of s is kept it is no message: it would be the next part
     nothing_kept : (up : is_up l es ≡ true) → kept_of s (begun o l es) ≡ true → (f : Message2)
@@ -165,28 +143,16 @@ module _ (v : ℕ) (o : Opening) (es : List Entry) (e : Entry) (legal : IsPlayed
             says
 
         sync_only : (kind : PartKind) → is_sync kind ≡ true → kind ≡ PartKind.Sync
-        sync_only PartKind.Sync q = refl
-        sync_only PartKind.Join q = lie (sym q)
-        sync_only PartKind.Leave q = lie (sym q)
+        sync_only kind q = grind arith
 
         same_kind : (a b : PartKind) → (kind_byte a == kind_byte b) ≡ true → a ≡ b
-        same_kind PartKind.Sync PartKind.Sync q = refl
-        same_kind PartKind.Join PartKind.Join q = refl
-        same_kind PartKind.Leave PartKind.Leave q = refl
-        same_kind PartKind.Sync PartKind.Join q = lie (sym q)
-        same_kind PartKind.Sync PartKind.Leave q = lie (sym q)
-        same_kind PartKind.Join PartKind.Sync q = lie (sym q)
-        same_kind PartKind.Join PartKind.Leave q = lie (sym q)
-        same_kind PartKind.Leave PartKind.Sync q = lie (sym q)
-        same_kind PartKind.Leave PartKind.Join q = lie (sym q)
+        same_kind a b q = grind arith
 
         by : (x : Option Begun) → begun o l es ≡ x → kept_of s x ≡ true → (g : Message2)
             → message_taken v body ≡ Some g → f ≡ g → true ≡ false
         by None is kept g says_g same_f = sym kept
-        by (Some k) is kept (Message2.Discover t) says_g same_f =
-            sym (next_is k is) ∙ ap (comes_next (Some k)) same_f
-        by (Some k) is kept (Message2.Down t) says_g same_f =
-            sym (next_is k is) ∙ ap (comes_next (Some k)) same_f
+        by (Some k) is kept (Message2.Discover t) says_g same_f = grind (arith, next_is k is)
+        by (Some k) is kept (Message2.Down t) says_g same_f = grind (arith, next_is k is)
         by (Some k) is kept (Message2.Part kind t number last rows) says_g same_f =
             let follows_it = and_parts _ _ (sym (ap (comes_next (Some k)) same_f)
             ∙ next_is k is) in
@@ -223,8 +189,7 @@ module _ (v : ℕ) (o : Opening) (es : List Entry) (e : Entry) (legal : IsPlayed
 
       came_is : begun_of v (bodies ++ cond (k == l) (body ∷ []) [])
           ≡ kept_after (begun_of v bodies) (message_taken v body)
-      came_is = ap (λ b. begun_of v (bodies ++ cond b (body ∷ []) [])) is
-          ∙ begun_more v bodies body
+      came_is = grind (arith, begun_more v bodies body)
 
       heard_was : heard o l s (but e (Event.Frame k body) (Refused r) ∷ es) ≡ true
           → heard o l s es ≡ true
@@ -261,78 +226,9 @@ module _ (v : ℕ) (o : Opening) (es : List Entry) (e : Entry) (legal : IsPlayed
       by : (m : Option Message2) → message_taken v body ≡ m
           → begun o l es ≡ begun_of v (bodies ++ cond (k == l) (body ∷ []) [])
       by (Some f) says = of (Some f) says f refl
-      by None says =
-          let same_came = came_is ∙ ap (kept_after (begun_of v bodies)) says in
-          alike up_was (from_or (kept_of s (begun o l es)) _ (NeedsAlike v o l s es ≡ true) kept
-          (λ mine. ap (λ b. b || (heard o l s es && kept_of s (begun_of v bodies))) mine)
-          (λ both. (let it = and_parts _ _ both in
-          or_true (kept_of s (begun o l es)) (λ i. heard_was it.0 i
-          && (sym (ap (kept_of s) same_came) ∙ it.1) i)))) ∙ sym same_came
+      by None says = grind (arith, came_is)
 
-  -- a stop
   pub stopped_alike : (t : List ℕ) (r : Reply) → IsStep h (but e (Event.StopScope t) (Accepted r))
       → Alike v o l s es → Alike v o l s (but e (Event.StopScope t) (Accepted r) ∷ es)
-  stopped_alike t r next alike up kept = by (begun o l es) refl kept
-    where
-      nothing : bodies ++ [] ≡ bodies
-      nothing = append-nil bodies
-
-      heard_is : heard o l s (but e (Event.StopScope t) (Accepted r) ∷ es)
-          ≡ (heard o l s es && not (same t s))
-      heard_is = (stopped_heard h (but e (Event.StopScope t) (Accepted r)) refl t refl l s).heard_is
-
-      -- who is heard still was so, and another scope was stopped
-      still : heard o l s (but e (Event.StopScope t) (Accepted r) ∷ es) ≡ true
-          → (heard o l s es ≡ true) × (not (same t s) ≡ true)
-      still q = (let both = and_parts (heard o l s es) (not (same t s)) (sym heard_is ∙ q) in
-          (both.0, both.1))
-
-      by : (c : Option Begun) → begun o l es ≡ c
-          → (kept_of s (cond (option_map_or (λ y. same y.scope t) c false) None c)
-          || (heard o l s (but e (Event.StopScope t) (Accepted r) ∷ es)
-          && kept_of s (begun_of v (bodies ++ [])))) ≡ true
-          → cond (option_map_or (λ y. same y.scope t) c false) None c
-          ≡ begun_of v (bodies ++ [])
-      by None is q =
-          let both = and_parts _ _ q in
-          let was = (still both.0).0 in
-          sym is ∙ alike (is_up_there h legal l s was) (or_true (kept_of s (begun o l es))
-          (λ i. was i && (sym (ap (λ bs. kept_of s (begun_of v bs)) nothing) ∙ both.1) i))
-          ∙ sym (ap (begun_of v) nothing)
-      by (Some j) is q = of (same j.scope t) refl q
-        where
-          of : (b : Bool) → same j.scope t ≡ b
-              → (kept_of s (cond b None (Some j))
-              || (heard o l s (but e (Event.StopScope t) (Accepted r) ∷ es)
-              && kept_of s (begun_of v (bodies ++ [])))) ≡ true
-              → cond b None (Some j) ≡ begun_of v (bodies ++ [])
-          of true here q =
-              let both = and_parts _ _ q in
-              let was = still both.0 in
-              let same_kept = sym is ∙ alike (is_up_there h legal l s was.0)
-              (or_true (kept_of s (begun o l es)) (λ i. was.0 i
-              && (sym (ap (λ bs. kept_of s (begun_of v bs)) nothing) ∙ both.1) i)) in
-              let mine : same j.scope s ≡ true = ap (kept_of s) same_kept
-              ∙ (sym (ap (λ bs. kept_of s (begun_of v bs)) nothing) ∙ both.1) in
-              lie (grind (
-                arith,
-                was.1,
-                here,
-                mine,
-                same_decides j.scope s,
-                same_decides j.scope t,
-                same_decides t s,
-              ))
-          of false other q =
-              let up_was = up_back o l es e legal
-              (fresh o es legal (but e (Event.StopScope t) (Accepted r)) next)
-              (Event.StopScope t) (Accepted r) up
-              (begun_whole o l es e legal j is) in
-              sym is ∙ alike up_was (from_or (same j.scope s) _ (NeedsAlike v o l s es ≡ true) q
-              (λ mine. ap (λ b. b || (heard o l s es && kept_of s (begun_of v bodies)))
-              (ap (kept_of s) is ∙ mine))
-              (λ both. (let it = and_parts _ _ both in
-              let was = (still it.0).0 in
-              or_true (kept_of s (begun o l es)) (λ i. was i
-              && (sym (ap (λ bs. kept_of s (begun_of v bs)) nothing) ∙ it.1) i))))
-              ∙ sym (ap (begun_of v) nothing)
+  stopped_alike t r next alike up kept =
+      grind (arith, append-nil, is_up_there, same_decides)

@@ -1,70 +1,73 @@
 -- What a Join, a Leave and an Exit say of a scope to a link.
 use Rattle.frame_laws.proofs
-use proofs.Words.{Accepted, accepted, all_hold, AllByRecursion, ap, apart, append-nil, append_assoc}
-use proofs.Words.{arith, Bool, but, cond, Entry, entry_exited, entry_joined, entry_left, Event}
-use proofs.Words.{false, filter, flat_map, frames_to, History, if_told, is_about_rows, is_among}
-use proofs.Words.{is_empty, is_running, is_whole, IsListing, IsNode, IsStep, IsText, IsWritten}
-use proofs.Words.{join_checks, leb-true, length, Less, lie, link_version, List, list_all, lives}
-use proofs.Words.{local_rows, local_rows_are, Message, message_of, nat_le, not, occurrences}
-use proofs.Words.{Opening, OutFrame, own, own_limit, PartKind, past, Pid, refl, Reply, Rises, Row}
-use proofs.Words.{row, rows_of, running_among, running_rises, running_scopes, said_frames, same}
-use proofs.Words.{same_decides, same_pid, same_pid_decides, same_row, same_row_decides, same_sym}
-use proofs.Words.{Some, subst, sym, text_cmp, told, told_runs, true, unbroken, Verdict, ℕ, [], ◌++◌}
-use proofs.Words.{◌+◌, ◌-◌, ◌||◌, ◌∙◌, ◌∷◌, ◌≡◌, ◌≤◌}
+use proofs.Words.{Accepted, AllByRecursion, ap, apart, append-nil, append_assoc, arith, Bool, but}
+use proofs.Words.{cond, Entry, Event, false, filter, flat_map, frames_to, History, if_told}
+use proofs.Words.{is_about_rows, is_among, is_empty, is_running, is_whole, IsListing, IsNode}
+use proofs.Words.{IsStep, IsText, IsWritten, Less, lie, link_version, List, local_rows}
+use proofs.Words.{local_rows_are, Message, message_of, not, occurrences, Opening, OutFrame, own}
+use proofs.Words.{PartKind, past, Pid, refl, Reply, Rises, Row, row, rows_of, running_among}
+use proofs.Words.{running_rises, running_scopes, said_frames, same, same_decides, same_pid}
+use proofs.Words.{same_pid_decides, same_row, same_row_decides, same_sym, Some, subst, sym}
+use proofs.Words.{text_cmp, told, told_runs, true, Verdict, ℕ, [], ◌++◌, ◌+◌, ◌-◌, ◌||◌, ◌∙◌, ◌∷◌}
+use proofs.Words.{◌≡◌, ◌≤◌}
 use proofs.Calm.{AllCalm, calm_closed, calm_message}
 use proofs.OwnLimits.{scope_text, scopes_text}
 use proofs.Telling.{EntryTells, IsTold, Silent, Spoke, Tells, told_join, told_leave}
 use proofs.Sayable.{IsSayable}
-use proofs.OwnMessages.{exit_is, exit_rows, join_few, join_is, join_listing, join_rows, leave_is}
-use proofs.OwnMessages.{leave_listing, leave_rows, own_room, told_room, told_whole}
+use proofs.OwnMessages.{exit_is, exit_rows, join_few, join_is, join_listing, join_met, join_rows}
+use proofs.OwnMessages.{leave_is, leave_listing, leave_rows, own_room, told_room}
 
 -- ---- the part of one scope: rows to a peer that is told, among calm frames
 
 module _ (h : History) (node : IsNode h) (l v : ℕ)
     (agrees : is_whole l h.entries ≡ true → link_version h.opening l h.entries ≡ v)
     (s : List ℕ) where
+  abbrev is_told : Bool
+  is_told = told h.opening l s h.entries
+
   -- while the peer is told, it is told in this version
-  told_frames : (m : Message) → told h.opening l s h.entries ≡ true
+  told_frames : (m : Message) → is_told ≡ true
       → frames_to h l m ≡ said_frames v m
-  told_frames m tells = ap (λ n. said_frames n m) (agrees (told_whole h node l v agrees s tells))
+  told_frames m tells = grind arith
 
   module _ (was now : List ℕ → Pid → ℕ) (kind : PartKind) (rows : List Row)
-      (is : told h.opening l s h.entries ≡ true → is_empty rows ≡ false
+      (is : is_told ≡ true → is_empty rows ≡ false
       → IsSayable v (message_of kind s rows))
       (stays : is_empty rows ≡ true → (g : List ℕ) (p : Pid) → now g p ≡ was g p)
-      (tells_so : told h.opening l s h.entries ≡ true
-      → IsTold v s (told h.opening l s h.entries) was now kind rows) where
+      (tells_so : is_told ≡ true
+      → IsTold v s is_told was now kind rows) where
     abbrev say : List Row → Message
     say rs = message_of kind s rs
 
     part_tells : (front back fs : List OutFrame) → fs ≡ front ++ (if_told h l s say rows ++ back)
         → AllCalm v s front → AllCalm v s back
-        → Tells v s (told h.opening l s h.entries) (told h.opening l s h.entries) was now fs
+        → Tells v s is_told is_told was now fs
     part_tells front back fs whole early late =
-        by (told h.opening l s h.entries) refl (is_empty rows) refl
+        by is_told refl (is_empty rows) refl
       where
         none : if_told h l s say rows ≡ [] → AllCalm v s fs
         none empty = subst (AllCalm v s) (sym (whole ∙ ap (λ x. front ++ (x ++ back)) empty))
             ((calm_closed v s).both front back early late)
 
-        unless_told : told h.opening l s h.entries ≡ false → if_told h l s say rows ≡ []
-        unless_told untold = grind arith
-
-        unless_some : is_empty rows ≡ true → if_told h l s say rows ≡ []
-        unless_some q = cc
-
-        one : told h.opening l s h.entries ≡ true → is_empty rows ≡ false
+        one : is_told ≡ true → is_empty rows ≡ false
             → if_told h l s say rows ≡ said_frames v (say rows)
         one tells q = (λ i. cond (q i || not (tells i)) [] (frames_to h l (say rows)))
             ∙ told_frames (say rows) tells
 
-        by : (b : Bool) → told h.opening l s h.entries ≡ b → (c : Bool) → is_empty rows ≡ c
-            → Tells v s (told h.opening l s h.entries) (told h.opening l s h.entries) was now fs
-        by false untold c q = Silent (none (unless_told untold)) (λ t. lie (sym t ∙ untold))
-        by true tells true q = Silent (none (unless_some q)) (λ t. (t, stays q))
+        by : (b : Bool) → is_told ≡ b → (c : Bool) → is_empty rows ≡ c
+            → Tells v s is_told is_told was now fs
+        by false untold c q = grind (arith, none)
+        by true tells true q = grind (arith, none)
         by true tells false q = Spoke front kind rows back
             (whole ∙ ap (λ x. front ++ (x ++ back)) (one tells q)) early late (is tells q)
             (tells_so tells)
+
+    -- and they alone
+    alone_tells : Tells v s is_told is_told was now
+        (if_told h l s say rows)
+    alone_tells = part_tells [] [] (if_told h l s say rows)
+        (sym (append-nil (if_told h l s say rows))) (calm_closed v s).nothing
+        (calm_closed v s).nothing
 
 -- rows of another scope
 part_calm : (h : History) (node : IsNode h) (l v : ℕ)
@@ -89,7 +92,7 @@ nothing_of g p (r ∷ rows) q = cc
 
 -- all own rows
 own_within : (h : History) (s g : List ℕ) (p : Pid) → own h s g p ≤ rows_of g p (local_rows h s)
-own_within h s g p = (let is = IsListing.counts (local_rows_are h s) (row g p) in omega (arith, is))
+own_within h s g p = omega (arith, IsListing.counts (local_rows_are h s) (row g p))
 
 module _ (o : Opening) (es : List Entry) (e : Entry) (node : IsNode (past o es)) (l v : ℕ)
     (agrees : is_whole l es ≡ true → link_version o l es ≡ v) (s : List ℕ) where
@@ -102,13 +105,14 @@ module _ (o : Opening) (es : List Entry) (e : Entry) (node : IsNode (past o es))
   -- ---- a Join
 
   module _ (g : List ℕ) (ps : List Pid) (r : Reply) where
+    abbrev joins : Entry
+    joins = but e (Event.Join s g ps) (Accepted r)
+
     joined_now : is_running h s ≡ true → (f : List ℕ) (p : Pid)
-        → own (past o (but e (Event.Join s g ps) (Accepted r) ∷ es)) s f p ≡ own h s f p + rows_of f
-        p (join_rows h node g ps)
+        → own (past o (joins ∷ es)) s f p ≡ own h s f p + rows_of f p (join_rows h node g ps)
     joined_now runs f p =
         grind (
           arith,
-          entry_joined h (but e (Event.Join s g ps) (Accepted r)) s g ps refl refl runs s f p,
           same_decides s s,
           same_sym f g,
           IsListing.counts (join_listing h node g ps) (row f p),
@@ -117,27 +121,18 @@ module _ (o : Opening) (es : List Entry) (e : Entry) (node : IsNode (past o es))
     join_here : IsStep h (but e (Event.Join s g ps) (Accepted r)) → IsWritten (Event.Join s g ps)
         → TellsOf (Event.Join s g ps) (Accepted r)
     join_here next text =
-        let held = all_hold (join_checks h s g ps)
-        (accepted h e.seat (Event.Join s g ps) r next.judged).0 in
-        let runs = unbroken (is_running h s) held.0 in
-        let room = leb-true (length (local_rows h s) + length ps) (own_limit h s)
-        (unbroken (nat_le (length (local_rows h s) + length ps) (own_limit h s)) held.1.1.1.0) in
-        part_tells h node l v agrees s (own h s)
-        (own (past o (but e (Event.Join s g ps) (Accepted r) ∷ es)) s)
+        let met = join_met h node e.seat s g ps r next.judged in
+        alone_tells h node l v agrees s (own h s) (own (past o (joins ∷ es)) s)
         PartKind.Join (join_rows h node g ps)
         (λ tells some. join_is h node l v agrees s g ps text.0 text.1
-        (unbroken (list_all (lives h) ps) held.1.1.0) room tells some)
+        met.alive met.room tells some)
         (λ q f p. (let none = nothing_of f p (join_rows h node g ps) q in let is =
-        joined_now runs f p in omega (arith, none, is)))
+        joined_now met.runs f p in omega arith))
         (λ tells. told_join v s (told o l s es) (own h s)
-        (own (past o (but e (Event.Join s g ps) (Accepted r) ∷ es)) s) (join_rows h node g ps)
+        (own (past o (joins ∷ es)) s) (join_rows h node g ps)
         tells (local_rows h s) (own_within h s)
-        (let few = join_few h node g ps in
-        let most = told_room h node l v agrees s tells in omega (arith, few, room, most))
-        (joined_now runs))
-        [] [] (if_told h l s (Message.Join s) (join_rows h node g ps))
-        (sym (append-nil (if_told h l s (Message.Join s) (join_rows h node g ps))))
-        (calm_closed v s).nothing (calm_closed v s).nothing
+        (omega (arith, join_few h node g ps, told_room h node l v agrees s tells))
+        (joined_now met.runs))
 
     pub join_tells : (t : List ℕ) → IsStep h (but e (Event.Join t g ps) (Accepted r))
         → IsWritten (Event.Join t g ps) → TellsOf (Event.Join t g ps) (Accepted r)
@@ -148,25 +143,23 @@ module _ (o : Opening) (es : List Entry) (e : Entry) (node : IsNode (past o es))
             → IsWritten (Event.Join u g ps) → TellsOf (Event.Join u g ps) (Accepted r))
             (sym ((same_decides t s).0 is)) join_here next text
         by false other =
-            let held = all_hold (join_checks h t g ps)
-            (accepted h e.seat (Event.Join t g ps) r next.judged).0 in
-            let room = leb-true (length (local_rows h t) + length ps) (own_limit h t)
-            (unbroken (nat_le (length (local_rows h t) + length ps) (own_limit h t)) held.1.1.1.0)
-            in
+            let met = join_met h node e.seat t g ps r next.judged in
             Silent (part_calm h node l v agrees s t (Message.Join t) (join_rows h node g ps)
             (λ tells some. join_is h node l v agrees t g ps text.0 text.1
-            (unbroken (list_all (lives h) ps) held.1.1.0) room tells some) other)
+            met.alive met.room tells some) other)
             (λ tells. (tells, λ f p. grind (arith, other)))
 
   -- ---- a Leave
 
   module _ (g : List ℕ) (ps : List Pid) (r : Reply) where
-    left_now : (f : List ℕ) (p : Pid) → own (past o (but e (Event.Leave s g ps) (Accepted r) ∷ es))
-        s f p ≡ own h s f p - rows_of f p (leave_rows h node s g ps)
+    abbrev leaves : Entry
+    leaves = but e (Event.Leave s g ps) (Accepted r)
+
+    left_now : (f : List ℕ) (p : Pid)
+        → own (past o (leaves ∷ es)) s f p ≡ own h s f p - rows_of f p (leave_rows h node s g ps)
     left_now f p =
         grind (
           arith,
-          entry_left h (but e (Event.Leave s g ps) (Accepted r)) s g ps refl refl s f p,
           same_decides s s,
           same_sym f g,
           same_decides f g,
@@ -175,21 +168,16 @@ module _ (o : Opening) (es : List Entry) (e : Entry) (node : IsNode (past o es))
 
     leave_here : IsWritten (Event.Leave s g ps) → TellsOf (Event.Leave s g ps) (Accepted r)
     leave_here text =
-        part_tells h node l v agrees s (own h s)
-        (own (past o (but e (Event.Leave s g ps) (Accepted r) ∷ es)) s)
+        alone_tells h node l v agrees s (own h s) (own (past o (leaves ∷ es)) s)
         PartKind.Leave (leave_rows h node s g ps)
         (λ tells some. leave_is h node l v agrees s g ps text.0 tells some)
-        (λ q f p. (let none = nothing_of f p (leave_rows h node s g ps) q in let is =
-        left_now f p in omega (arith, none, is)))
+        (λ q f p. omega (arith, nothing_of f p (leave_rows h node s g ps) q, left_now f p))
         (λ tells. told_leave v s (told o l s es) (own h s)
-        (own (past o (but e (Event.Leave s g ps) (Accepted r) ∷ es)) s) (leave_rows h node s g ps)
+        (own (past o (leaves ∷ es)) s) (leave_rows h node s g ps)
         tells (local_rows h s) (own_within h s) (own_room h node l v agrees s tells)
         (λ f p. grind
         (arith, same_decides f g, IsListing.counts (leave_listing h node s g ps) (row f p)))
         left_now)
-        [] [] (if_told h l s (Message.Leave s) (leave_rows h node s g ps))
-        (sym (append-nil (if_told h l s (Message.Leave s) (leave_rows h node s g ps))))
-        (calm_closed v s).nothing (calm_closed v s).nothing
 
     pub leave_tells : (t : List ℕ) → IsWritten (Event.Leave t g ps)
         → TellsOf (Event.Leave t g ps) (Accepted r)
@@ -218,12 +206,14 @@ module _ (o : Opening) (es : List Entry) (e : Entry) (node : IsNode (past o es))
     exit_counts q [] = grind arith
     exit_counts q (w ∷ rows) = grind (arith, exit_counts q rows, same_row_decides w q)
 
-    exited_now : (f : List ℕ) (p : Pid) → own (past o (but e (Event.Exit x) (Accepted r) ∷ es)) s f
-        p ≡ own h s f p - rows_of f p (exit_rows h node s x)
+    abbrev exits : Entry
+    exits = but e (Event.Exit x) (Accepted r)
+
+    exited_now : (f : List ℕ) (p : Pid)
+        → own (past o (exits ∷ es)) s f p ≡ own h s f p - rows_of f p (exit_rows h node s x)
     exited_now f p =
         grind (
           arith,
-          entry_exited h (but e (Event.Exit x) (Accepted r)) x refl refl s f p,
           exit_counts (row f p) (local_rows h s),
           IsListing.counts (local_rows_are h s) (row f p),
           same_pid_decides x p,
@@ -254,7 +244,7 @@ module _ (o : Opening) (es : List Entry) (e : Entry) (node : IsNode (past o es))
 
     parted : (ss : List (List ℕ)) → Rises text_cmp ss → AllByRecursion IsText ss
         → is_among s ss ≡ true → IsParted ss
-    parted [] rises texts q = lie (sym q)
+    parted [] rises texts q = cc
     parted (t ∷ ss) rises texts q = by (same t s) refl (parted ss rises.1 texts.1)
       where
         by : (b : Bool) → same t s ≡ b → (is_among s ss ≡ true → IsParted ss) → IsParted (t ∷ ss)
@@ -288,14 +278,12 @@ module _ (o : Opening) (es : List Entry) (e : Entry) (node : IsNode (past o es))
         by true runs =
             let it = parted (running_scopes h) (running_rises h) (scopes_text h node)
             (running_among h s ∙ runs) in
-            part_tells h node l v agrees s (own h s)
-            (own (past o (but e (Event.Exit x) (Accepted r) ∷ es)) s)
+            part_tells h node l v agrees s (own h s) (own (past o (exits ∷ es)) s)
             PartKind.Leave (exit_rows h node s x)
             (λ tells some. exit_is h node l v agrees s x (scope_text h node s runs) tells some)
-            (λ q f p. (let none = nothing_of f p (exit_rows h node s x) q in let is =
-            exited_now f p in omega (arith, none, is)))
+            (λ q f p. omega (arith, nothing_of f p (exit_rows h node s x) q, exited_now f p))
             (λ tells. told_leave v s (told o l s es) (own h s)
-            (own (past o (but e (Event.Exit x) (Accepted r) ∷ es)) s) (exit_rows h node s x)
+            (own (past o (exits ∷ es)) s) (exit_rows h node s x)
             tells (local_rows h s) (own_within h s) (own_room h node l v agrees s tells)
             (λ f p. grind (
               arith,

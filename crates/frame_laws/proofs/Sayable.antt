@@ -1,13 +1,13 @@
 -- What may be said on a link, and the frames of a message, which are read as its parts.
 use Rattle.frame_laws.proofs
 use proofs.Words.{All-from_recursion, AllByRecursion, and_parts, ap, AreRows, AreWritten, arith}
-use proofs.Words.{before_last, Bool, cond, drop, false, frames_said, HasParts, is_some, IsMessage}
-use proofs.Words.{IsMessage2, IsRow, IsText, length, lie, limit, List, list_all, list_all-append}
-use proofs.Words.{map, max_rows, Message, message-spelled, Message2, message2-spelled}
-use proofs.Words.{message2_bytes, message_bytes, message_taken, option_map, option_to_list}
-use proofs.Words.{OutFrame, PartKind, parts, parts_from, parts_within, recursion_from_All, refl}
-use proofs.Words.{Row, rows_in, said_frames, slice_get, Some, suc, sym, take, take-append-drop}
-use proofs.Words.{true, whole, wide, zero, ℕ, [], ◌++◌, ◌<◌, ◌==◌, ◌^◌, ◌∙◌, ◌∷◌, ◌≡◌, ◌≤◌}
+use proofs.Words.{Bool, cond, drop, false, frames_said, HasParts, IsMessage, IsMessage2, IsRow}
+use proofs.Words.{IsText, length, limit, List, list_all, list_all-append, map, max_rows, Message}
+use proofs.Words.{message-spelled, Message2, message2-spelled, message2_bytes, message_bytes}
+use proofs.Words.{message_taken, option_map, option_to_list, OutFrame, PartKind, parts, parts_from}
+use proofs.Words.{parts_within, recursion_from_All, refl, Row, rows_in, said_frames, slice_get}
+use proofs.Words.{Some, suc, sym, take, take-append-drop, true, whole, wide, zero, ℕ, [], ◌++◌}
+use proofs.Words.{◌<◌, ◌==◌, ◌^◌, ◌∙◌, ◌∷◌, ◌≡◌, ◌≤◌}
 use proofs.Handshakes.{taken_new, taken_old}
 use proofs.Pieces.{pieces, value_of}
 
@@ -32,27 +32,16 @@ are_few v rows old each few =
     record { count = omega (arith, few, is); each = All-from_recursion IsRow rows each }
 
 old_message : (v : ℕ) (m : Message) → (v == 2) ≡ false → IsSayable v m → IsMessage m
-old_message v (Message.Discover s) old it = it.written
-old_message v (Message.Sync s rows) old it =
-    (it.written.0, are_few v rows old (recursion_from_All IsRow rows it.written.1) it.few)
-old_message v (Message.Join s rows) old it =
-    (it.written.0, are_few v rows old (recursion_from_All IsRow rows it.written.1) it.few, it.has.0)
-old_message v (Message.Leave s rows) old it =
-    (it.written.0, are_few v rows old (recursion_from_All IsRow rows it.written.1) it.few, it.has.0)
-old_message v (Message.Down s) old it = it.written
+old_message v m old it = grind arith
 
 limit_small : (v : ℕ) → limit v ≤ 65536
-limit_small v = by (v == 2)
-  where
-    by : (b : Bool) → cond b 65536 max_rows ≤ 65536
-    by true = omega arith
-    by false = omega arith
+limit_small v = grind arith
 
 -- rows of each kind
 module _ (v : ℕ) (s : List ℕ) (text : IsText s) (rows : List Row)
     (each : AllByRecursion IsRow rows) (few : length rows ≤ limit v) where
   fits : length rows < 2 ^ 32
-  fits = (let small = limit_small v in omega (arith, few, small))
+  fits = omega (arith, limit_small v)
 
   pub sync_sayable : IsSayable v (Message.Sync s rows)
   sync_sayable = record
@@ -108,15 +97,13 @@ pub record IsReadAt (v : ℕ) (f : OutFrame) (ps : List Message2) (k : ℕ) : Ty
 
 pub reads_at : (v : ℕ) (fs : List OutFrame) (ps : List Message2) → Reads v fs ps → (k : ℕ)
     (f : OutFrame) → slice_get fs k ≡ Some f → IsReadAt v f ps k
-reads_at v [] ps reads k f q = lie (sym (ap is_some q))
+reads_at v [] ps reads k f q = cc
 reads_at v (x ∷ fs) (p ∷ ps) reads zero f q = record {
   part = p;
   stands = refl;
   says = ap (λ y. message_taken v (OutFrame.body y)) (sym (value_of q)) ∙ reads.0.1;
 }
-reads_at v (x ∷ fs) (p ∷ ps) reads (suc k) f q =
-    let it = reads_at v fs ps reads.1 k f q in
-    record { part = it.part; stands = it.stands; says = it.says }
+reads_at v (x ∷ fs) (p ∷ ps) reads (suc k) f q = grind (arith, reads_at v fs ps reads.1 k f q)
 reads_at v (x ∷ fs) [] reads k f q = absurd reads
 
 -- what holds of each that is read as one of these holds of all
@@ -167,25 +154,11 @@ reads v m it = by (v == 2) refl
 -- a message without rows is one frame, of the same bytes in both versions
 pub asks_alike : (v : ℕ) (s : List ℕ)
     → said_frames v (Message.Discover s) ≡ wide (Message.Discover s) ∷ []
-asks_alike v s = by (v == 2)
-  where
-    by : (b : Bool)
-        → cond b (map (λ part. record { wide = true; body = message2_bytes part })
-        (parts (Message.Discover s))) (wide (Message.Discover s) ∷ [])
-        ≡ wide (Message.Discover s) ∷ []
-    by true = refl
-    by false = refl
+asks_alike v s = grind arith
 
 pub downs_alike : (v : ℕ) (s : List ℕ)
     → said_frames v (Message.Down s) ≡ wide (Message.Down s) ∷ []
-downs_alike v s = by (v == 2)
-  where
-    by : (b : Bool)
-        → cond b (map (λ part. record { wide = true; body = message2_bytes part })
-        (parts (Message.Down s))) (wide (Message.Down s) ∷ [])
-        ≡ wide (Message.Down s) ∷ []
-    by true = refl
-    by false = refl
+downs_alike v s = grind arith
 
 pub asks_sayable : (v : ℕ) (s : List ℕ) → IsText s → IsSayable v (Message.Discover s)
 asks_sayable v s text = record { written = text; has = tt; few = omega arith }
@@ -215,17 +188,4 @@ module _ (test : Row → Bool) where
 
   pub pieces_meet : (v : ℕ) (m : Message) → list_all test (rows_said m) ≡ true
       → AllMeet (pieces v m)
-  pieces_meet v m = by (v == 2) m
-    where
-      by : (b : Bool) (m : Message) → list_all test (rows_said m) ≡ true
-          → AllMeet (cond b (parts m) (whole m ∷ []))
-      by true (Message.Discover s) all = (refl, tt)
-      by true (Message.Sync s rows) all = from_meet PartKind.Sync s 1 (before_last rows) rows all
-      by true (Message.Join s rows) all = from_meet PartKind.Join s 1 (before_last rows) rows all
-      by true (Message.Leave s rows) all = from_meet PartKind.Leave s 1 (before_last rows) rows all
-      by true (Message.Down s) all = (refl, tt)
-      by false (Message.Discover s) all = (refl, tt)
-      by false (Message.Sync s rows) all = (all, tt)
-      by false (Message.Join s rows) all = (all, tt)
-      by false (Message.Leave s rows) all = (all, tt)
-      by false (Message.Down s) all = (refl, tt)
+  pieces_meet v = grind (arith, from_meet)

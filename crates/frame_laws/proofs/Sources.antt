@@ -39,15 +39,16 @@ module _ (o : Opening) (l : ℕ) where
           → Parted (out_in o l es) (owes (past o es) l e) n y → x.source ≤ y.source
       by so_far (InFirst a less) (InFirst b few) = so_far a b
       by so_far (InFirst a less) (InSecond j is b) =
-          let low = (is_entry es legal.1 m x a).within in
           let it = owed_here e.number (owed (past o es) l e.number e.event e.verdict) j y b in
-          let high = it.source in
-          let number = owed_number o es e legal.0 l j y.frame it.frame in
-          omega (arith, low, high, number)
+          omega (
+            arith,
+            (is_entry es legal.1 m x a).within,
+            owed_number o es e legal.0 l j y.frame it.frame,
+          )
       by so_far (InSecond i is a) (InFirst b few) = grind arith
       by so_far (InSecond i is a) (InSecond j at b) =
-          let low = (owed_here e.number (owed (past o es) l e.number e.event e.verdict) i x
-          a).source in
-          let high = (owed_here e.number (owed (past o es) l e.number e.event e.verdict) j y
-          b).source in
-          omega (arith, low, high)
+          omega (
+            arith,
+            (owed_here e.number (owed (past o es) l e.number e.event e.verdict) i x a).source,
+            (owed_here e.number (owed (past o es) l e.number e.event e.verdict) j y b).source,
+          )

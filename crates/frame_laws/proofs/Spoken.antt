@@ -1,18 +1,15 @@
 -- Each frame that is owed is one of the handshake, or a message within the grammar, in its parts.
 use Rattle.frame_laws.proofs
-use proofs.Numbers.{entered_more}
-use proofs.Words.{Accepted, accepted, all_hold, AllByRecursion, always, ap, arith, Awaited}
-use proofs.Words.{AwaitMessage, awaits, Bool, cond, creation, Entry, eqb-true, Event, false}
-use proofs.Words.{first_broken, flat_map, frame_checks, frame_owes, frame_taken, frames_to, heard}
-use proofs.Words.{Hello, History, if_told, if_visible, is_empty, is_local, is_of, is_open}
-use proofs.Words.{is_running, is_some, is_up, is_visible, is_whole, IsNode, IsText, IsWritten}
-use proofs.Words.{join_checks, judgement, leb-true, length, lie, link_version, List, list_all}
-use proofs.Words.{lives, local_rows, max_rows, Means, Message, Message2, message_checks}
-use proofs.Words.{message_owes, message_taken, narrow, nat_le, None, not, open_first, Opening}
-use proofs.Words.{option_map_or, OutFrame, owed, own, own_limit, own_name_frame, past, Pid, refl}
-use proofs.Words.{refusal_owes, Refused, Row, Rule, running_scopes, said_frames, SaysOne, Some}
-use proofs.Words.{Speaks, subst, sym, told, true, unbroken, Verdict, whole_is_message, wide, ℕ, []}
-use proofs.Words.{◌&&◌, ◌+◌, ◌==◌, ◌||◌, ◌∙◌, ◌∷◌, ◌≡◌}
+use proofs.Words.{Accepted, accepted, all_hold, AllByRecursion, arith, Awaited, AwaitMessage}
+use proofs.Words.{awaits, Bool, cond, creation, Entry, eqb-true, Event, false, first_broken}
+use proofs.Words.{flat_map, frame_checks, frame_owes, frame_taken, frames_to, heard, Hello}
+use proofs.Words.{History, if_told, if_visible, is_empty, is_local, is_of, is_open, is_running}
+use proofs.Words.{is_whole, IsNode, IsText, IsWritten, judgement, length, link_version, List}
+use proofs.Words.{list_all, local_rows, max_rows, Means, Message, Message2, message_checks}
+use proofs.Words.{message_owes, message_taken, narrow, nat_le, None, open_first, Opening, OutFrame}
+use proofs.Words.{owed, own, own_name_frame, past, Pid, refl, Refused, Row, running_scopes}
+use proofs.Words.{said_frames, SaysOne, Some, Speaks, subst, sym, told, true, unbroken, Verdict}
+use proofs.Words.{whole_is_message, wide, ℕ, [], ◌==◌, ◌||◌, ◌∙◌, ◌∷◌, ◌≡◌}
 use proofs.OwnLimits.{scope_text, scopes_text}
 use proofs.Handshakes.{all_closed, begins_message, first_byte, frame_all, HoldsOfHellos, IsClosed}
 use proofs.Handshakes.{no_message, of_hellos, refusal_all}
@@ -20,8 +17,8 @@ use proofs.Pieces.{pieces, value_of}
 use proofs.Places.{all_at, AllOwed}
 use proofs.Sayable.{asks_alike, asks_sayable, downs_alike, downs_sayable, IsSayable, pieces_meet}
 use proofs.Sayable.{reads, reads_hold, rows_said}
-use proofs.OwnMessages.{exit_is, exit_own, exit_rows, join_is, join_own, join_rows, leave_is}
-use proofs.OwnMessages.{leave_own, leave_rows, sync_is, sync_own, told_whole}
+use proofs.OwnMessages.{exit_is, exit_own, exit_rows, join_is, join_met, join_own, join_rows}
+use proofs.OwnMessages.{leave_is, leave_own, leave_rows, sync_is, sync_own}
 
 -- ---- what a frame says
 
@@ -34,7 +31,7 @@ pub record IsSpoken (v : ℕ) (h : History) (f : OutFrame) : Type 0 where
 hello : (v : ℕ) (h : History) (body : List ℕ) → begins_message (first_byte body) ≡ false
     → IsSpoken v h (narrow body)
 hello v h body q = (let none = no_message v body q in
-    record { says = Hello refl none; own = λ m says. lie (sym (ap is_some (sym none ∙ says))) })
+    record { says = Hello refl none; own = λ m says. cc })
 
 means : (v : ℕ) (h : History) (f : OutFrame) (m : Message2) → f.wide ≡ true
     → message_taken v f.body ≡ Some m → is_of h.opening.name (creation h) m ≡ true → IsSpoken v h f
@@ -60,30 +57,30 @@ module _ (h : History) (node : IsNode h) where
     pub downs : (s : List ℕ) → IsText s → L (wide (Message.Down s) ∷ [])
     pub said : (m : Message) → IsSayable v m → AreOwn m → L (said_frames v m)
 
+  -- so does what holds of each frame that is no message, and of the frames of each message
+  pub holds_of : (l v : ℕ) (L : List OutFrame → Type 0) → IsClosed L
+      → ((body : List ℕ) → begins_message (first_byte body) ≡ false → L (narrow body ∷ []))
+      → ((m : Message) → IsSayable v m → AreOwn m → L (said_frames v m)) → Holds l v L
+  holds_of l v L closed hellos said = record {
+    closed = closed;
+    hellos = of_hellos h l L hellos;
+    asks = λ s text. subst L (asks_alike v s)
+        (said (Message.Discover s) (asks_sayable v s text) refl);
+    downs = λ s text. subst L (downs_alike v s)
+        (said (Message.Down s) (downs_sayable v s text) refl);
+    said = said;
+  }
+
   module _ (l v : ℕ)
       (agrees : is_whole l h.entries ≡ true → link_version h.opening l h.entries ≡ v)
       (L : List OutFrame → Type 0) (it : Holds l v L) where
     told_hold : (s : List ℕ) (say : List Row → Message) (rows : List Row)
         → (told h.opening l s h.entries ≡ true → is_empty rows ≡ false → IsSayable v (say rows))
         → AreOwn (say rows) → L (if_told h l s say rows)
-    told_hold s say rows is from =
-        by (is_empty rows) refl (told h.opening l s h.entries) refl
-      where
-        by : (b : Bool) → is_empty rows ≡ b → (c : Bool) → told h.opening l s h.entries ≡ c
-            → L (cond (b || not c) [] (frames_to h l (say rows)))
-        by true q c t = it.closed.nothing
-        by false q false t = it.closed.nothing
-        by false q true t =
-            subst (λ n. L (said_frames n (say rows))) (sym (agrees (told_whole h node l v agrees s
-            t)))
-            (it.said (say rows) (is t q) from)
+    told_hold s say rows is from = grind arith
 
     visible_hold : (m : Message) → L (wide m ∷ []) → L (if_visible h l m)
-    visible_hold m holds = by (is_up l h.entries && is_visible h l)
-      where
-        by : (b : Bool) → L (cond b (wide m ∷ []) [])
-        by true = holds
-        by false = it.closed.nothing
+    visible_hold m holds = grind arith
 
     exits_hold : (p : Pid) (ss : List (List ℕ)) → AllByRecursion IsText ss
         → L (flat_map (λ s. if_told h l s (Message.Leave s) (exit_rows h node s p)) ss)
@@ -121,37 +118,26 @@ module _ (h : History) (node : IsNode h) where
         → frame_taken h.opening l h.entries body ≡ Some m
         → first_broken (frame_checks h l body a) ≡ None
         → first_broken (message_checks h l m) ≡ None
-    message_met body a awaited m says q =
-        subst (λ x. first_broken (option_map_or (message_checks h l) x (always Rule.BadFrame))
-        ≡ None) says (subst (λ a. first_broken (frame_checks h l body a) ≡ None) awaited q)
+    message_met body a awaited m says q = grind arith
 
     -- each frame that an entry owes
     pub owed_hold : (number seat : ℕ) (ev : Event) (v : Verdict)
         → ((number == l) ≡ true → L (own_name_frame h ∷ [])) → v ≡ judgement h seat ev
         → IsWritten ev → L (owed h l number ev v)
-    owed_hold number seat (Event.StartScope s) (Accepted r) name q text =
-        visible_hold (Message.Discover s) (it.asks s text)
-    owed_hold number seat (Event.StopScope s) (Accepted r) name q text =
-        visible_hold (Message.Down s) (it.downs s text)
+    owed_hold number seat (Event.StartScope s) (Accepted r) name q text = grind arith
+    owed_hold number seat (Event.StopScope s) (Accepted r) name q text = grind arith
     owed_hold number seat (Event.Exit p) (Accepted r) name q text = exits_hold p (running_scopes h)
         (scopes_text h node)
     owed_hold number seat (Event.Join s g ps) (Accepted r) name q text =
-        let held = all_hold (join_checks h s g ps) (accepted h seat (Event.Join s g ps) r q).0 in
-        let alive = unbroken (list_all (lives h) ps) held.1.1.0 in
+        let met = join_met h node seat s g ps r q in
         told_hold s (Message.Join s) (join_rows h node g ps)
-        (join_is h node l v agrees s g ps text.0 text.1 alive
-        (leb-true (length (local_rows h s) + length ps) (own_limit h s)
-        (unbroken (nat_le (length (local_rows h s) + length ps) (own_limit h s)) held.1.1.1.0)))
-        (join_own h node g ps alive)
+        (join_is h node l v agrees s g ps text.0 text.1 met.alive met.room)
+        (join_own h node g ps met.alive)
     owed_hold number seat (Event.Leave s g ps) (Accepted r) name q text =
         told_hold s (Message.Leave s) (leave_rows h node s g ps) (leave_is h node l v agrees s g ps
         text.0)
         (leave_own h node s g ps)
-    owed_hold number seat (Event.Dial n c) (Accepted r) name q text = by (number == l) refl
-      where
-        by : (b : Bool) → (number == l) ≡ b → L (cond b (own_name_frame h ∷ []) [])
-        by true is = name is
-        by false is = it.closed.nothing
+    owed_hold number seat (Event.Dial n c) (Accepted r) name q text = grind arith
     owed_hold number seat (Event.Frame k body) (Accepted r) name q text = by (k == l) refl
       where
         by : (b : Bool) → (k == l) ≡ b → L (cond b (frame_owes h l body (awaits l h.entries)) [])
@@ -164,11 +150,8 @@ module _ (h : History) (node : IsNode h) where
             (λ a m says. message_hold ((whole_is_message l h.entries found.0).1 a) m
             (message_met body (awaits l h.entries) a m says found.1))
         by false is = it.closed.nothing
-    owed_hold number seat (Event.Frame k body) (Refused r) name q text = by (k == l)
-      where
-        by : (b : Bool) → L (cond b (refusal_owes r) [])
-        by true = refusal_all h node l L it.closed it.hellos it.asks r
-        by false = it.closed.nothing
+    owed_hold number seat (Event.Frame k body) (Refused r) name q text =
+        grind (arith, refusal_all h node l L it.closed it.hellos it.asks r)
     owed_hold number seat ev v name q text = it.closed.nothing
 
   -- ---- what each says
@@ -181,44 +164,36 @@ module _ (h : History) (node : IsNode h) where
       (reads v m can) (pieces_meet (λ r. is_local h r.pid) v m own)
 
   pub each_spoken : (l v : ℕ) → Holds l v (AllByRecursion (IsSpoken v h))
-  each_spoken l v = record {
-    closed = all_closed (IsSpoken v h);
-    hellos = of_hellos h l (AllByRecursion (IsSpoken v h)) (λ body q. (hello v h body q, tt));
-    asks = λ s text. subst (AllByRecursion (IsSpoken v h)) (asks_alike v s)
-        (spoken_parts v (Message.Discover s) (asks_sayable v s text) refl);
-    downs = λ s text. subst (AllByRecursion (IsSpoken v h)) (downs_alike v s)
-        (spoken_parts v (Message.Down s) (downs_sayable v s text) refl);
-    said = spoken_parts v;
-  }
-
-  pub owed_say : (number seat l v : ℕ)
-      → (is_whole l h.entries ≡ true → link_version h.opening l h.entries ≡ v)
-      → (ev : Event) (w : Verdict) → w ≡ judgement h seat ev → IsWritten ev
-      → AllByRecursion (IsSpoken v h) (owed h l number ev w)
-  owed_say number seat l v agrees ev w =
-      owed_hold l v agrees (AllByRecursion (IsSpoken v h)) (each_spoken l v) number seat ev w
-      (λ is. (hello v h _ refl, tt))
+  each_spoken l v = holds_of l v (AllByRecursion (IsSpoken v h)) (all_closed (IsSpoken v h))
+      (λ body q. (hello v h body q, tt)) (spoken_parts v)
 
 -- ---- along a history
 
 pub speaks_now : (o : Opening) (l v : ℕ) (es : List Entry) → Speaks o l v es
     → is_whole l es ≡ true → link_version o l es ≡ v
-speaks_now o l v [] speaks whole = lie (sym whole)
+speaks_now o l v [] speaks whole = cc
 speaks_now o l v (e ∷ es) speaks whole = speaks.0 whole
 
 -- a node as it was
 pub node_before : (o : Opening) (e : Entry) (es : List Entry) → IsNode (past o (e ∷ es))
     → IsNode (past o es)
-node_before o e es node =
-    record {
-      legal = node.legal.1;
-      room = (let room = node.room in let more = entered_more e es in omega (arith, room, more));
-      name = node.name;
-      creation = node.creation;
-      entries = node.entries;
-      links = node.links;
-      written = node.written.1;
-    }
+node_before o e es node = grind arith
+
+-- what holds so holds of all that an entry owes
+module _ (o : Opening) (e : Entry) (es : List Entry) (node : IsNode (past o (e ∷ es))) (l v : ℕ)
+    (speaks : Speaks o l v es) where
+  pub entry_holds : (L : List OutFrame → Type 0)
+      → Holds (past o es) (node_before o e es node) l v L
+      → L (own_name_frame (past o es) ∷ [])
+      → L (owed (past o es) l e.number e.event e.verdict)
+  entry_holds L it name =
+      owed_hold (past o es) (node_before o e es node) l v (speaks_now o l v es speaks) L it e.number
+      e.seat e.event e.verdict (λ is. name) node.legal.0.judged node.written.0
+
+  pub entry_says : AllByRecursion (IsSpoken v (past o es))
+      (owed (past o es) l e.number e.event e.verdict)
+  entry_says = entry_holds (AllByRecursion (IsSpoken v (past o es)))
+      (each_spoken (past o es) (node_before o e es node) l v) (hello v (past o es) _ refl, tt)
 
 abbrev pub IsSaid : ℕ → History → OutFrame → Type 0
 IsSaid v h f = SaysOne v f
@@ -228,8 +203,6 @@ pub all_said : (o : Opening) (es : List Entry) → IsNode (past o es) → (l v :
 all_said o [] node l v speaks = tt
 all_said o (e ∷ es) node l v speaks = (
   λ m f q. (all_at (IsSpoken v (past o es)) (owed (past o es) l e.number e.event e.verdict)
-      (owed_say (past o es) (node_before o e es node) e.number e.seat l v
-      (speaks_now o l v es speaks.1) e.event e.verdict
-      node.legal.0.judged node.written.0) m f q).says,
+      (entry_says o e es node l v speaks.1) m f q).says,
   all_said o es (node_before o e es node) l v speaks.1,
 )

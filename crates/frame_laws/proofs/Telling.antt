@@ -46,12 +46,10 @@ rows_both g p xs ys = how_many_append (λ x. same_row x (row g p)) xs ys
 
 module _ (g : List ℕ) (p : Pid) (first rest rows : List Row) (is : first ++ rest ≡ rows) where
   pub fewer_of : rows_of g p first ≤ rows_of g p rows
-  fewer_of = (let all = rows_both g p first rest in let same = ap (rows_of g p) is in
-      omega (arith, all, same))
+  fewer_of = grind (arith, rows_both)
 
 shorter : (first rest rows : List Row) → first ++ rest ≡ rows → length first ≤ length rows
-shorter first rest rows is = (let all = length-append first rest in let same = ap length is in
-    omega (arith, all, same))
+shorter first rest rows is = grind (arith, length-append)
 
 synced : (s g : List ℕ) (p : Pid) (rows : List Row) (x : Option ℕ)
     → seen s g p (Message.Sync s rows) x ≡ Some (rows_of g p rows)
@@ -74,7 +72,7 @@ module _ (v : ℕ) (s : List ℕ) (told_before : Bool) (was now : List ℕ → P
     few = λ x before first rest is. (
       first,
       (λ g p. (rows_of g p first, synced s g p first (x g p), omega arith)),
-      (let short = shorter first rest rows is in omega (arith, few, short)),
+      (omega (arith, shorter first rest rows is)),
     );
     there = λ x before is. cc;
   }
@@ -93,11 +91,9 @@ module _ (v : ℕ) (s : List ℕ) (told_before : Bool) (was now : List ℕ → P
           was g p + rows_of g p first,
           ap (seen s g p (Message.Join s first)) (before tells g p)
               ∙ added s g p first (was g p),
-          (let both = rows_both g p base first in let low = within g p in
-              omega (arith, both, low)),
+          (omega (arith, rows_both g p base first)),
         )),
-        (let short = shorter first rest rows is in let both = length-append base first in
-            omega (arith, few, short, both)),
+        (omega (arith, shorter first rest rows is, length-append base first)),
       );
       there = λ x before is. cc;
     }
@@ -115,7 +111,7 @@ module _ (v : ℕ) (s : List ℕ) (told_before : Bool) (was now : List ℕ → P
           was g p - rows_of g p first,
           ap (seen s g p (Message.Leave s first)) (before tells g p)
               ∙ taken_off s g p first (was g p),
-          (let low = within g p in omega (arith, low)),
+          (omega arith),
         )),
         few,
       );

@@ -2,16 +2,16 @@
 use Rattle.frame_laws.proofs
 use proofs.Numbers.{owed_number}
 use proofs.Words.{and_parts, ap, AreThere, arith, Begun, begun_by, begun_of, bodies_of, Bool}
-use proofs.Words.{completed_by, ends_rows, Entry, false, frames_said, has_rows, is_some, IsFew}
-use proofs.Words.{IsNode, IsPlayedIn, IsStep, length, lie, List, map, Message, Message2, message_of}
+use proofs.Words.{completed_by, ends_rows, Entry, false, frames_said, has_rows, IsFew, IsNode}
+use proofs.Words.{IsPlayedIn, IsStep, length, lie, List, map, Message, Message2, message_of}
 use proofs.Words.{message_taken, moment, None, Opening, Option, option_map_or, out_in, OutFrame}
 use proofs.Words.{owed, owes, Owing, owing, own, PartKind, parts_from, PassesThrough, past, Pid}
-use proofs.Words.{refl, Row, rows_so_far, said_frames, same, same_decides, seen, seen_by, slice_get}
+use proofs.Words.{refl, Row, rows_so_far, said_frames, same, same_decides, seen, slice_get}
 use proofs.Words.{slice_get_within, so_far_behind, Some, Speaks, subst, suc, sym, take}
 use proofs.Words.{take-append-add, take-append-le, take-length, told, true, view_of, zero, ℕ, []}
 use proofs.Words.{◌++◌, ◌+◌, ◌<◌, ◌∙◌, ◌∷◌, ◌≡◌}
-use proofs.Calm.{AllCalm, frames_apart, frames_seen, is_part, message_ends, message_seen}
-use proofs.Calm.{no_rows_at, rows_part, seen_apart, seen_frames}
+use proofs.Calm.{AllCalm, FewBehind, frames_apart, frames_seen, is_part, message_ends}
+use proofs.Calm.{message_seen, no_rows_at, rows_part, seen_apart, seen_frames, ThereBehind}
 use proofs.Orderly.{out_orderly, said_more}
 use proofs.Pieces.{begun_apart, completed_apart, cuts, IsPiece, piece_at, pieces, pieces_are}
 use proofs.Pieces.{value_of}
@@ -32,17 +32,21 @@ module _ (v : ℕ) (xs : List Owing) (ends : begun_of v (bodies_of xs) ≡ None)
   view_after : (s g : List ℕ) (p : Pid) → view_of v s g p (bodies_of (xs ++ map (owing n) fs))
       ≡ seen_frames v s g p fs (view_of v s g p (bodies_of xs))
   view_after s g p =
-      ap (λ ps. seen_by s g p (completed_by None ps) None) (said_more v xs n fs)
-      ∙ ap (λ ms. seen_by s g p ms None)
-      (completed_apart None (frames_said v (bodies_of xs)) (said v fs)
-      ∙ ap (λ b. completed_by None (frames_said v (bodies_of xs)) ++ completed_by b (said v fs))
-      ends) ∙ seen_apart s g p (completed_by None (frames_said v (bodies_of xs)))
-      (completed_by None (said v fs)) None
+      grind (
+        arith,
+        said_more v xs n fs,
+        completed_apart None (frames_said v (bodies_of xs)) (said v fs),
+        seen_apart s g p (completed_by None (frames_said v (bodies_of xs)))
+            (completed_by None (said v fs)) None,
+      )
 
   begun_after_them : begun_of v (bodies_of (xs ++ map (owing n) fs)) ≡ begun_by None (said v fs)
-  begun_after_them = ap (begun_by None) (said_more v xs n fs)
-      ∙ begun_apart None (frames_said v (bodies_of xs)) (said v fs)
-      ∙ ap (λ b. begun_by b (said v fs)) ends
+  begun_after_them =
+      grind (
+        arith,
+        said_more v xs n fs,
+        begun_apart None (frames_said v (bodies_of xs)) (said v fs),
+      )
 
 -- what holds at a part, with the rows so far, where this was kept and the view was x
 abbrev FewAt : ℕ → List ℕ → (List ℕ → Pid → Option ℕ) → Option Begun → Message2 → Type 0
@@ -75,12 +79,12 @@ module _ (v : ℕ) (s : List ℕ) (front : List OutFrame) (kind : PartKind) (row
   in_all : (g : List ℕ) (p : Pid) (x : Option ℕ) → seen_frames v s g p fs x ≡ seen s g p whole_said
       x
   in_all g p x =
-      ap (λ y. seen_frames v s g p y x) is
-      ∙ frames_seen v s g p front (block ++ back) x early.ends
-      ∙ ap (seen_frames v s g p (block ++ back)) (early.stays g p x)
-      ∙ frames_seen v s g p block back x (message_ends v whole_said can)
-      ∙ ap (seen_frames v s g p back) (message_seen v whole_said can s g p x)
-      ∙ late.stays g p (seen s g p whole_said x)
+      grind (
+        arith,
+        frames_seen v s g p front (block ++ back) x early.ends,
+        frames_seen v s g p block back x (message_ends v whole_said can),
+        message_seen v whole_said can s g p x,
+      )
 
   -- a part of s stands in that message
   record IsWithin (m : ℕ) (f : OutFrame) : Type 0 where
@@ -109,32 +113,39 @@ module _ (v : ℕ) (s : List ℕ) (front : List OutFrame) (kind : PartKind) (row
     read = reads_at v block (pieces v whole_said) (reads v whole_said can) k f it.stands
 
     piece : IsPiece None kind s [] rows 0 cut k read.part
-    piece = piece_at kind s 0 (cuts v rows) rows [] None refl k read.part
-        (ap (λ ps. slice_get ps k) (sym cut_is) ∙ read.stands)
+    piece = grind (arith, piece_at)
 
     taken_so : take m fs ≡ front ++ take k block
     taken_so =
-        let less = slice_get_within block k f it.stands in
-        (λ i. take (it.at i) (is i)) ∙ take-append-add front (block ++ back) k
-        ∙ ap (λ y. front ++ y) (take-append-le k block back (omega (arith, less)))
+        grind (
+          arith,
+          slice_get_within block k f it.stands,
+          take-append-add front (block ++ back) k,
+          take-append-le,
+        )
 
     said_so : said v (take k block) ≡ take k cut
-    said_so = said_take v block (pieces v whole_said) (reads v whole_said can) k
-        ∙ ap (take k) cut_is
+    said_so = grind (arith, said_take, reads, cut_is)
 
     begun_so : begun_by None (said v (take m fs)) ≡ begun_by None (take k cut)
     begun_so =
-        ap (λ y. begun_by None (said v y)) taken_so
-        ∙ ap (begun_by None) (frames_apart v front (take k block))
-        ∙ begun_apart None (said v front) (said v (take k block))
-        ∙ (λ i. begun_by (early.ends i) (said_so i))
+        grind (
+          arith,
+          taken_so,
+          frames_apart v front (take k block),
+          begun_apart None (said v front) (said v (take k block)),
+          said_so,
+        )
 
     view_so : (g : List ℕ) (p : Pid) (x : Option ℕ) → seen_frames v s g p (take m fs) x ≡ x
     view_so g p x =
-        ap (λ y. seen_frames v s g p y x) taken_so
-        ∙ frames_seen v s g p front (take k block) x early.ends
-        ∙ ap (seen_frames v s g p (take k block)) (early.stays g p x)
-        ∙ ap (λ ms. seen_by s g p ms x) (ap (completed_by None) said_so ∙ piece.none)
+        grind (
+          arith,
+          taken_so,
+          frames_seen v s g p front (take k block) x early.ends,
+          said_so,
+          piece.none,
+        )
 
     -- the part that is read there
     says : message_taken v f.body
@@ -200,12 +211,11 @@ module _ (v : ℕ) (o : Opening) (l : ℕ) (s : List ℕ) where
 
     now_seen : EntryTells v o l s e es → told o l s (e ∷ es) ≡ true → (g : List ℕ) (p : Pid)
         → seen_frames v s g p fs (view g p) ≡ Some (own (past o (e ∷ es)) s g p)
-    now_seen (Silent calm stays) t g p =
-        calm.stays g p (view g p) ∙ before.now (stays t).0 g p ∙ ap Some (sym ((stays t).1 g p))
+    now_seen (Silent calm stays) t g p = grind arith
     now_seen (Spoke front kind rows back is early late can it) t g p =
         in_all v s front kind rows back early late can fs is g p (view g p)
         ∙ it.says view seen_before g p
-    now_seen (Ended none ends) t g p = lie (sym t ∙ ends)
+    now_seen (Ended none ends) t g p = cc
 
     then_seen : EntryTells v o l s e es → (m : ℕ) (x : OutFrame) → slice_get fs m ≡ Some x
         → has_rows v s x.body ≡ true → (g : List ℕ) (p : Pid)
@@ -232,8 +242,7 @@ module _ (v : ℕ) (o : Opening) (l : ℕ) (s : List ℕ) where
         → PartSeen m f
     part_seen (Silent calm stays) m x q f says its =
         lie (sym (ap (is_part s) says ∙ its) ∙ no_rows_at v s fs calm.no_rows m x q)
-    part_seen (Ended none ends) m x q f says its =
-        lie (sym (ap (is_part s) says ∙ its) ∙ no_rows_at v s fs none m x q)
+    part_seen (Ended none ends) m x q f says its = grind (arith, no_rows_at v s fs none m x q)
     part_seen (Spoke front kind rows back is early late can it) m x q f taken_is its =
         let here = within v s front kind rows back early late can fs is m x q
         (ap (is_part s) taken_is ∙ its) in
@@ -258,109 +267,99 @@ module _ (v : ℕ) (o : Opening) (l : ℕ) (s : List ℕ) where
       -- a place in what was owed before, or one in what is owed now
       earlier_take : (n : ℕ) (x : Owing) → n < length (out_in o l es)
           → take n (out_in o l (e ∷ es)) ≡ take n (out_in o l es)
-      earlier_take n x less =
-          take-append-le n (out_in o l es) (owes (past o es) l e) (omega (arith, less))
+      earlier_take n x less = grind (arith, take-append-le)
 
       now_take : (n m : ℕ) → n ≡ length (out_in o l es) + m
           → take n (out_in o l (e ∷ es)) ≡ out_in o l es ++ map (owing e.number) (take m fs)
-      now_take n m at = ap (λ j. take j (out_in o l (e ∷ es))) at
-          ∙ take-append-add (out_in o l es) (owes (past o es) l e) m
-          ∙ ap (λ ys. out_in o l es ++ ys) (take_owing e.number m fs)
+      now_take n m at =
+          grind (
+            arith,
+            take-append-add (out_in o l es) (owes (past o es) l e) m,
+            take_owing e.number m fs,
+          )
 
       -- behind that, while nothing completes
       now_view : (n m : ℕ) → n ≡ length (out_in o l es) + m → (f : Message2) → PartSeen m f
           → (g : List ℕ) (p : Pid)
           → view_of v s g p (bodies_of (take n (out_in o l (e ∷ es)))) ≡ view g p
-      now_view n m at f it g p = ap (λ ys. view_of v s g p (bodies_of ys)) (now_take n m at)
-          ∙ view_after v (out_in o l es) ends e.number (take m fs) s g p ∙ it.stays g p
+      now_view n m at f it g p =
+          grind (
+            arith,
+            now_take n m at,
+            view_after v (out_in o l es) ends e.number (take m fs) s g p,
+          )
 
       now_begun : (n m : ℕ) → n ≡ length (out_in o l es) + m → (f : Message2) → (it : PartSeen m f)
           → begun_of v (bodies_of (take n (out_in o l (e ∷ es)))) ≡ it.kept
-      now_begun n m at f it = ap (λ ys. begun_of v (bodies_of ys)) (now_take n m at)
-          ∙ begun_after_them v (out_in o l es) ends e.number (take m fs) ∙ it.kept_is
+      now_begun n m at f it =
+          grind (
+            arith,
+            now_take n m at,
+            begun_after_them v (out_in o l es) ends e.number (take m fs),
+          )
 
-      few : (n : ℕ) (x : Owing) → slice_get (out_in o l (e ∷ es)) n ≡ Some x
+      abbrev behind : ℕ → List (List ℕ)
+      behind n = bodies_of (take n (out_in o l (e ∷ es)))
+
+      abbrev Here : ℕ → Owing → Type 0
+      Here n x = Parted (out_in o l es) (owes (past o es) l e) n x
+
+      few : (n : ℕ) (x : Owing) → Here n x
           → (kind : PartKind) (number : ℕ) (last : Bool) (rows : List Row)
           → message_taken v x.frame.body ≡ Some (Message2.Part kind s number last rows)
-          → IsFew v s (λ g p. view_of v s g p (bodies_of (take n (out_in o l (e ∷ es))))) kind
-          (so_far_behind v (bodies_of (take n (out_in o l (e ∷ es)))) kind s number rows)
-      few n x q kind number last rows says =
-          by (part (out_in o l es) (owes (past o es) l e) n x q)
-        where
-          by : Parted (out_in o l es) (owes (past o es) l e) n x
-              → IsFew v s (λ g p. view_of v s g p (bodies_of (take n (out_in o l (e ∷ es))))) kind
-              (so_far_behind v (bodies_of (take n (out_in o l (e ∷ es)))) kind s number rows)
-          by (InFirst r less) =
-              subst (λ ys. IsFew v s (λ g p. view_of v s g p (bodies_of ys)) kind
-              (so_far_behind v (bodies_of ys) kind s number rows)) (sym (earlier_take n x less))
-              (before.few n x r kind number last rows says)
-          by (InSecond m at r) =
-              let here = owed_here e.number fs m x r in
-              let f = Message2.Part kind s number last rows in
-              let it = part_seen tells m x.frame here.frame f says ((same_decides s s).1 refl) in
-              let all = subst (λ b. IsFew v s view kind (rows_so_far b kind s number rows))
-              (sym (now_begun n m at f it)) (PartSeen.few it) in (
-                all.0,
-                (λ g p. (let one = all.1 g p in (
-                  one.0,
-                  ap (seen s g p (message_of kind s
-                      (so_far_behind v (bodies_of (take n (out_in o l (e ∷ es)))) kind s number
-                      rows))) (now_view n m at f it g p) ∙ one.1,
-                  one.2,
-                ))),
-                all.2,
-              )
+          → FewBehind v s kind number rows (behind n)
+      few n x (InFirst r less) kind number last rows says =
+          subst (λ ys. FewBehind v s kind number rows (bodies_of ys)) (sym (earlier_take n x less))
+          (before.few n x r kind number last rows says)
+      few n x (InSecond m at r) kind number last rows says =
+          let here = owed_here e.number fs m x r in
+          let f = Message2.Part kind s number last rows in
+          let it = part_seen tells m x.frame here.frame f says ((same_decides s s).1 refl) in
+          let all = subst (λ b. IsFew v s view kind (rows_so_far b kind s number rows))
+          (sym (now_begun n m at f it)) (PartSeen.few it) in (
+            all.0,
+            (λ g p. (let one = all.1 g p in (
+              one.0,
+              ap (seen s g p (message_of kind s (so_far_behind v (behind n) kind s number rows)))
+                  (now_view n m at f it g p) ∙ one.1,
+              one.2,
+            ))),
+            all.2,
+          )
 
-      there : (n : ℕ) (x : Owing) → slice_get (out_in o l (e ∷ es)) n ≡ Some x
-          → (number : ℕ) (last : Bool) (rows : List Row)
+      there : (n : ℕ) (x : Owing) → Here n x → (number : ℕ) (last : Bool) (rows : List Row)
           → message_taken v x.frame.body ≡ Some (Message2.Part PartKind.Leave s number last rows)
-          → AreThere (λ g p. view_of v s g p (bodies_of (take n (out_in o l (e ∷ es)))))
-          (so_far_behind v (bodies_of (take n (out_in o l (e ∷ es)))) PartKind.Leave s number rows)
-      there n x q number last rows says =
-          by (part (out_in o l es) (owes (past o es) l e) n x q)
-        where
-          by : Parted (out_in o l es) (owes (past o es) l e) n x
-              → AreThere (λ g p. view_of v s g p (bodies_of (take n (out_in o l (e ∷ es)))))
-              (so_far_behind v (bodies_of (take n (out_in o l (e ∷ es)))) PartKind.Leave s number
-              rows)
-          by (InFirst r less) =
-              subst (λ ys. AreThere (λ g p. view_of v s g p (bodies_of ys))
-              (so_far_behind v (bodies_of ys) PartKind.Leave s number rows))
-              (sym (earlier_take n x less)) (before.there n x r number last rows says)
-          by (InSecond m at r) =
-              let here = owed_here e.number fs m x r in
-              let f = Message2.Part PartKind.Leave s number last rows in
-              let it = part_seen tells m x.frame here.frame f says ((same_decides s s).1 refl) in
-              let all = subst
-              (λ b. AreThere view (rows_so_far b PartKind.Leave s number rows))
-              (sym (now_begun n m at f it)) (PartSeen.there it) in
-              λ g p. (let one = all g p in
-              (one.0, now_view n m at f it g p ∙ one.1, one.2))
+          → ThereBehind v s number rows (behind n)
+      there n x (InFirst r less) number last rows says g p =
+          subst (λ ys. ThereBehind v s number rows (bodies_of ys))
+          (sym (earlier_take n x less)) (before.there n x r number last rows says) g p
+      there n x (InSecond m at r) number last rows says g p =
+          let here = owed_here e.number fs m x r in
+          let f = Message2.Part PartKind.Leave s number last rows in
+          let it = part_seen tells m x.frame here.frame f says ((same_decides s s).1 refl) in
+          let one = subst (λ b. AreThere view (rows_so_far b PartKind.Leave s number rows))
+          (sym (now_begun n m at f it)) (PartSeen.there it) g p in
+          (one.0, now_view n m at f it g p ∙ one.1, one.2)
 
-      moments : (n : ℕ) (x : Owing) → slice_get (out_in o l (e ∷ es)) n ≡ Some x
+      moments : (n : ℕ) (x : Owing) → Here n x
           → has_rows v s x.frame.body ≡ true → (g : List ℕ) (p : Pid)
-          → view_of v s g p (bodies_of (take (n + 1) (out_in o l (e ∷ es)))) ≡ Some
-          (own (moment x.source (past o (e ∷ es))) s g p)
-      moments n x q has g p = by (part (out_in o l es) (owes (past o es) l e) n x q)
-        where
-          by : Parted (out_in o l es) (owes (past o es) l e) n x
-              → view_of v s g p (bodies_of (take (n + 1) (out_in o l (e ∷ es)))) ≡ Some
-              (own (moment x.source (past o (e ∷ es))) s g p)
-          by (InFirst r less) =
-              ap (λ ys. view_of v s g p (bodies_of ys))
-              (take-append-le (n + 1) (out_in o l es) (owes (past o es) l e) (omega (arith, less)))
-              ∙ before.moments n x r has g p
-              ∙ ap (λ h. Some (own h s g p))
-              (sym (earlier_moment o e es x.source (is_entry o l es legal n x r).within))
-          by (InSecond m at r) =
-              let here = owed_here e.number fs m x r in
-              ap (λ ys. view_of v s g p (bodies_of ys))
-              (now_take (n + 1) (suc m) (omega (arith, at)))
-              ∙ view_after v (out_in o l es) ends e.number (take (suc m) fs) s g p
-              ∙ then_seen tells m x.frame here.frame has g p
-              ∙ ap (λ h. Some (own h s g p))
-              (sym (this_moment o e es x.source
-              (here.source ∙ owed_number o es e made l m x.frame here.frame)))
+          → view_of v s g p (behind (n + 1))
+          ≡ Some (own (moment x.source (past o (e ∷ es))) s g p)
+      moments n x (InFirst r less) has g p =
+          grind (
+            arith,
+            take-append-le (n + 1) (out_in o l es) (owes (past o es) l e) (omega (arith, less)),
+            earlier_moment o e es x.source (is_entry o l es legal n x r).within,
+          )
+      moments n x (InSecond m at r) has g p =
+          let here = owed_here e.number fs m x r in
+          ap (λ ys. view_of v s g p (bodies_of ys))
+          (now_take (n + 1) (suc m) (omega arith))
+          ∙ view_after v (out_in o l es) ends e.number (take (suc m) fs) s g p
+          ∙ then_seen tells m x.frame here.frame has g p
+          ∙ ap (λ h. Some (own h s g p))
+          (sym (this_moment o e es x.source
+          (here.source ∙ owed_number o es e made l m x.frame here.frame)))
 
       now : told o l s (e ∷ es) ≡ true → (g : List ℕ) (p : Pid)
           → view_of v s g p (bodies_of (out_in o l (e ∷ es))) ≡ Some (own (past o (e ∷ es)) s g p)
@@ -369,18 +368,21 @@ module _ (v : ℕ) (o : Opening) (l : ℕ) (s : List ℕ) where
   pub passes : (es : List Entry) → IsNode (past o es) → Speaks o l v es → AllTell v o l s es
       → PassesThrough v (past o es) l s
   passes [] node speaks tell = record {
-    moments = λ n x q has g p. lie (sym (ap is_some q));
-    now = λ t g p. lie (sym t);
-    few = λ n x q kind number last rows says. lie (sym (ap is_some q));
-    there = λ n x q number last rows says. lie (sym (ap is_some q));
+    moments = λ n x q has g p. cc;
+    now = λ t g p. cc;
+    few = λ n x q kind number last rows says. cc;
+    there = λ n x q number last rows says. cc;
   }
   passes (e ∷ es) node speaks tell =
       let was = node_before o e es node in
       let before = passes es was speaks.1 tell.1 in
       let ends = (out_orderly o es was l v speaks.1).ends in
+      let at = λ (n : ℕ) (x : Owing) (q : slice_get (out_in o l (e ∷ es)) n ≡ Some x).
+      part (out_in o l es) (owes (past o es) l e) n x q in
       record {
-        moments = moments e es node.legal.0 before ends tell.0 node.legal.1;
+        moments = λ n x q.
+            moments e es node.legal.0 before ends tell.0 node.legal.1 n x (at n x q);
         now = now e es node.legal.0 before ends tell.0 node.legal.1;
-        few = few e es node.legal.0 before ends tell.0 node.legal.1;
-        there = there e es node.legal.0 before ends tell.0 node.legal.1;
+        few = λ n x q. few e es node.legal.0 before ends tell.0 node.legal.1 n x (at n x q);
+        there = λ n x q. there e es node.legal.0 before ends tell.0 node.legal.1 n x (at n x q);
       }

@@ -1,9 +1,8 @@
 -- The places of told rows fall, and each is the place of a frame that came.
 use Rattle.frame_laws.proofs
-use proofs.Words.{Accepted, AllByRecursion, ap, arith, Bool, came, cond, delivered, Entry, Event}
-use proofs.Words.{Falls, false, heard, is_whole, length, length-append, lie, List, Opening}
-use proofs.Words.{option_map_or, refl, Refused, said_at, says_rows, sym, tells_rows, told_rows}
-use proofs.Words.{true, Verdict, ℕ, [], ◌&&◌, ◌++◌, ◌+◌, ◌<◌, ◌==◌, ◌∷◌, ◌≡◌, ◌≤◌}
+use proofs.Words.{AllByRecursion, arith, Bool, came, cond, delivered, Entry, Event, Falls, false}
+use proofs.Words.{heard, length, length-append, List, Opening, refl, tells_rows, told_rows, true}
+use proofs.Words.{Verdict, ℕ, [], ◌++◌, ◌+◌, ◌<◌, ◌∷◌, ◌≡◌, ◌≤◌}
 
 lower : (n m : ℕ) → n ≤ m → (xs : List ℕ) → AllByRecursion (λ x. x < n) xs
     → AllByRecursion (λ x. x < m) xs
@@ -13,15 +12,7 @@ lower n m le (x ∷ xs) all = grind (arith, lower n m le xs all.1)
 -- what tells rows came
 one_came : (o : Opening) (l : ℕ) (s : List ℕ) (es : List Entry) (ev : Event) (v : Verdict)
     → tells_rows o l s es v ev ≡ true → length (came l ev) ≡ 1
-one_came o l s es (Event.Frame k body) (Accepted r) q = by (k == l) refl q
-  where
-    by : (b : Bool) → (k == l) ≡ b → ((b && is_whole l es)
-        && option_map_or (says_rows s) (said_at o l es body) false) ≡ true
-        → length (came l (Event.Frame k body)) ≡ 1
-    by true is q = ap (λ b. length (cond b (body ∷ []) [])) is
-    by false other q = lie (sym q)
-one_came o l s es ev (Accepted r) q = cc
-one_came o l s es ev (Refused r) q = cc
+one_came o l s es ev w q = grind arith
 
 pub record AreBelow (n : ℕ) (xs : List ℕ) : Type 0 where
   pub below : AllByRecursion (λ x. x < n) xs

@@ -1,6 +1,11 @@
 -- The words that the proofs of this crate speak in: those of std, of the crates below and of its
 -- own specs, passed on from one place.
 use Rattle.frame_laws.specs
+use Rattle.policy_audit.specs as audit
+use Rattle.policy_audit.proofs as audits
+use Rattle.link_frames.specs as link
+use Rattle.link_frames.proofs as links
+use Rattle.handshake_frames.specs as hands
 pub use Rattle.std.proofs.Common.{ap, arith, inl, inr, refl, subst, sym, ◌∙◌}
 pub use Rattle.std.proofs.lemmas.Bool.{and_parts, eq-eqb, eqb-false, eqb-true, le-leb, leb-false}
 pub use Rattle.std.proofs.lemmas.Bool.{leb-true, lt-ltb, ltb-true, not-false}
@@ -13,9 +18,9 @@ pub use Rattle.std.specs.List.{AllByRecursion, filter, flat_map, list_all}
 pub use Rattle.std.specs.Option.{option_and_then, option_map, option_map_or, option_to_list}
 pub use Rattle.std.specs.Option.{unwrap_or}
 pub use Rattle.std.specs.Prelude.{Bool, cond, drop, false, get_or, is_some, IsTrue, length, List}
-pub use Rattle.std.specs.Prelude.{map, min, nat_le, nat_lt, None, not, Option, slice_get, Some, suc}
-pub use Rattle.std.specs.Prelude.{take, true, zero, ℕ, [], ◌&&◌, ◌++◌, ◌+◌, ◌-◌, ◌<◌, ◌==◌, ◌^◌}
-pub use Rattle.std.specs.Prelude.{◌||◌, ◌∷◌, ◌≡◌, ◌≤◌}
+pub use Rattle.std.specs.Prelude.{map, min, nat_le, nat_lt, None, not, Option, slice_get, Some}
+pub use Rattle.std.specs.Prelude.{suc, take, true, zero, ℕ, [], ◌&&◌, ◌++◌, ◌+◌, ◌-◌, ◌<◌, ◌==◌}
+pub use Rattle.std.specs.Prelude.{◌^◌, ◌||◌, ◌∷◌, ◌≡◌, ◌≤◌}
 pub use Rattle.std.specs.declared.cmp.Ordering.TheVariants.{Less}
 pub use Rattle.std.proofs.lemmas.List.Elements.{All-from_recursion, filter-append}
 pub use Rattle.std.proofs.lemmas.List.Elements.{recursion_from_All}
@@ -32,98 +37,86 @@ pub use Rattle.dist_types.proofs.Listings.{all_append, fewer_length, listing_cou
 pub use Rattle.dist_types.proofs.Orders.{exact_pids, pids_total, same_decides, same_pid_decides}
 pub use Rattle.dist_types.proofs.Orders.{same_row_decides, same_sym}
 pub use Rattle.dist_types.proofs.Totals.{how_many_append}
-pub use Rattle.link_frames.specs.Spelling.{AreRows, IsMessage, IsRow, message_bytes, SpellsMessage}
-pub use Rattle.link_frames.specs.declared.message.Message.{Message}
-pub use Rattle.link_frames.specs.declared.part.Message2.{Message2}
-pub use Rattle.link_frames.specs.declared.part.PartKind.{PartKind}
-pub use Rattle.link_frames.specs.Parts.{AreInOrder, AreWritten, before_last, Begun, begun_after}
-pub use Rattle.link_frames.specs.Parts.{begun_by, comes_next, completed, completed_by, follows}
-pub use Rattle.link_frames.specs.Parts.{HasParts, is_next, IsMessage2, KeepsOrNot, kind_byte}
-pub use Rattle.link_frames.specs.Parts.{message2_bytes, message_of, parts, parts_from, rows_before}
-pub use Rattle.link_frames.specs.Parts.{rows_so_far, SpellsMessage2, whole}
-pub use Rattle.link_frames.specs.PartReading.{message2 as read_message2}
-pub use Rattle.link_frames.proofs.PartLemmas.{message2-spelled, SpellsMessage2-read}
-pub use Rattle.link_frames.proofs.PartLaws.{parts_complete, parts_within, whole_completes}
-pub use Rattle.link_frames.proofs.PartOrders.{begins_in_order, begun_by_more, completed_by_more}
-pub use Rattle.link_frames.proofs.PartOrders.{last_in_order, parts_in_order}
-pub use Rattle.link_frames.proofs.Words.{rules}
-pub use Rattle.policy_audit.specs.OutFrame.{OutFrame}
-pub use Rattle.policy_audit.specs.declared.opening.Opening.{Opening}
-pub use Rattle.policy_audit.specs.declared.event.Event.{Event}
-pub use Rattle.policy_audit.specs.declared.reply.Reply.{Reply}
-pub use Rattle.policy_audit.specs.declared.rule.Rule.{Rule}
-pub use Rattle.policy_audit.specs.declared.entry.Verdict.{Verdict}
-pub use Rattle.policy_audit.specs.declared.entry.Verdict.TheVariants.{Accepted, Refused}
-pub use Rattle.policy_audit.specs.declared.entry.Entry.{Entry}
-pub use Rattle.policy_audit.specs.History.{creation, entered, events, first_of, History}
-pub use Rattle.policy_audit.specs.History.{is_accepted, is_entered, is_restart, just, past}
-pub use Rattle.policy_audit.specs.Own.{is_local, is_running, joined, lives, own, running_scopes}
-pub use Rattle.policy_audit.specs.Own.{spawned}
-pub use Rattle.policy_audit.specs.Sides.{and_frame, AwaitAck, AwaitAnswer, AwaitChallenge, Awaited}
-pub use Rattle.policy_audit.specs.Sides.{AwaitMessage, AwaitName, AwaitReply, awaits, AwaitStatus}
-pub use Rattle.policy_audit.specs.Sides.{ByDial, ByPeer, challenge_in, given, given_in, is_last}
-pub use Rattle.policy_audit.specs.Sides.{is_name_up, is_peer, is_visible, is_whole, is_whole_in}
-pub use Rattle.policy_audit.specs.Sides.{Opened, opened, peer_in, peer_of, present_link, Start}
-pub use Rattle.policy_audit.specs.Sides.{start_of, Taken, taken}
-pub use Rattle.policy_audit.specs.Links.{ends, is_dialling, is_open, is_opened_by, is_up}
-pub use Rattle.link_frames.specs.Reading.{message as read_message}
-pub use Rattle.policy_audit.specs.Hearing.{begun, frame_taken, heard, hears, kept_after}
-pub use Rattle.policy_audit.specs.Hearing.{link_version, message_taken, rows_kept, rows_of, Said}
-pub use Rattle.policy_audit.specs.Hearing.{said_at, stated, stated_in, Talk, talk, talk_of, tells}
-pub use Rattle.policy_audit.specs.Hearing.{told}
-pub use Rattle.policy_audit.specs.Contents.{groups, groups_named, local_rows, members, pids_named}
-pub use Rattle.policy_audit.specs.Contents.{row}
-pub use Rattle.policy_audit.specs.Checks.{always, checks, first_broken, frame_checks, join_checks}
-pub use Rattle.policy_audit.specs.Checks.{message_checks, own_limit, part_checks, peer_limit}
-pub use Rattle.policy_audit.specs.Checks.{peer_rows, so_far}
-pub use Rattle.policy_audit.specs.Owed.{digest_for, discovers, drops, frame_owes, frames_to}
-pub use Rattle.policy_audit.specs.Owed.{if_told, if_visible, message_owes, narrow, owed}
-pub use Rattle.policy_audit.specs.Owed.{own_challenge, own_challenge_frame, own_name_frame}
-pub use Rattle.policy_audit.specs.Owed.{refusal_owes, said_frames, status_frame, true_to, waiting}
-pub use Rattle.policy_audit.specs.Owed.{waiting_in, welcome, wide}
-pub use Rattle.policy_audit.specs.Policy.{is_full, IsNumbered, IsPlayed, IsPlayedIn, IsStep, judged}
-pub use Rattle.policy_audit.specs.Policy.{judgement, next_number, verdict}
-pub use Rattle.policy_audit.proofs.Accepted.{accepted, all_hold, lie, open_first, unbroken}
-pub use Rattle.policy_audit.proofs.Walked.{but, Far, far, frame_fits, fresh, open_opened}
-pub use Rattle.policy_audit.proofs.Walked.{opens_number, unborn}
-pub use Rattle.policy_audit.specs.Effects.{is_about_rows}
+pub use link.Spelling.{AreRows, IsMessage, IsRow, message_bytes, SpellsMessage}
+pub use link.declared.message.Message.{Message}
+pub use link.declared.part.Message2.{Message2}
+pub use link.declared.part.PartKind.{PartKind}
+pub use link.Parts.{AreInOrder, AreWritten, before_last, Begun, begun_after, begun_by, comes_next}
+pub use link.Parts.{completed, completed_by, follows, HasParts, is_next, IsMessage2, KeepsOrNot}
+pub use link.Parts.{kind_byte, message2_bytes, message_of, parts, parts_from, rows_before}
+pub use link.Parts.{rows_so_far, SpellsMessage2, whole}
+pub use link.PartReading.{message2 as read_message2}
+pub use links.PartLemmas.{message2-spelled, SpellsMessage2-read}
+pub use links.PartLaws.{parts_complete, parts_within, whole_completes}
+pub use links.PartOrders.{begins_in_order, begun_by_more, completed_by_more, last_in_order}
+pub use links.PartOrders.{parts_in_order}
+pub use links.Words.{rules}
+pub use audit.OutFrame.{OutFrame}
+pub use audit.declared.opening.Opening.{Opening}
+pub use audit.declared.event.Event.{Event}
+pub use audit.declared.reply.Reply.{Reply}
+pub use audit.declared.rule.Rule.{Rule}
+pub use audit.declared.entry.Verdict.{Verdict}
+pub use audit.declared.entry.Verdict.TheVariants.{Accepted, Refused}
+pub use audit.declared.entry.Entry.{Entry}
+pub use audit.History.{creation, entered, events, first_of, History, is_accepted, is_entered}
+pub use audit.History.{is_restart, just, past}
+pub use audit.Own.{is_local, is_running, joined, lives, own, running_scopes, spawned}
+pub use audit.Sides.{and_frame, AwaitAck, AwaitAnswer, AwaitChallenge, Awaited, AwaitMessage}
+pub use audit.Sides.{AwaitName, AwaitReply, awaits, AwaitStatus, ByDial, ByPeer, challenge_in}
+pub use audit.Sides.{given, given_in, is_last, is_name_up, is_peer, is_visible, is_whole}
+pub use audit.Sides.{is_whole_in, Opened, opened, peer_in, peer_of, present_link, Start, start_of}
+pub use audit.Sides.{Taken, taken}
+pub use audit.Links.{ends, is_dialling, is_open, is_opened_by, is_up}
+pub use link.Reading.{message as read_message}
+pub use audit.Hearing.{begun, frame_taken, heard, hears, kept_after, link_version, message_taken}
+pub use audit.Hearing.{rows_kept, rows_of, Said, said_at, stated, stated_in, Talk, talk, talk_of}
+pub use audit.Hearing.{tells, told}
+pub use audit.Contents.{groups, groups_named, local_rows, members, pids_named, row}
+pub use audit.Checks.{always, checks, first_broken, frame_checks, join_checks, message_checks}
+pub use audit.Checks.{own_limit, part_checks, peer_limit, peer_rows, so_far}
+pub use audit.Owed.{digest_for, discovers, drops, frame_owes, frames_to, if_told, if_visible}
+pub use audit.Owed.{message_owes, narrow, owed, own_challenge, own_challenge_frame, own_name_frame}
+pub use audit.Owed.{refusal_owes, said_frames, status_frame, true_to, waiting, waiting_in, welcome}
+pub use audit.Owed.{wide}
+pub use audit.Policy.{is_full, IsNumbered, IsPlayed, IsPlayedIn, IsStep, judged, judgement}
+pub use audit.Policy.{next_number, verdict}
+pub use audits.Accepted.{accepted, all_hold, lie, open_first, unbroken}
+pub use audits.Walked.{but, Far, far, frame_fits, fresh, open_opened, opens_number, unborn}
+pub use audit.Effects.{is_about_rows}
 pub use Rattle.dist_types.specs.Flags.{has_bit, own_flags}
 pub use Rattle.handshake_frames.proofs.ReadingLemmas.{challenge_frame-spelled, name_frame-spelled}
 pub use Rattle.handshake_frames.proofs.ReadingLemmas.{SpellsChallenge-read, version_read}
-pub use Rattle.handshake_frames.specs.Frame.{Challenge, Name}
-pub use Rattle.handshake_frames.specs.Reading.{challenge_frame, name_frame, reply_frame, status_of}
-pub use Rattle.handshake_frames.specs.Spelling.{ack_bytes, challenge_bytes, IsVersion, name_bytes}
-pub use Rattle.handshake_frames.specs.Spelling.{reply_bytes, version_bytes}
-pub use Rattle.handshake_frames.specs.declared.frame.AckFrame.{AckFrame}
-pub use Rattle.handshake_frames.specs.declared.frame.ReplyFrame.{ReplyFrame}
-pub use Rattle.handshake_frames.specs.declared.frame.StatusWord.{StatusWord}
-pub use Rattle.link_frames.proofs.ReadingLemmas.{message-spelled, SpellsMessage-read}
-pub use Rattle.policy_audit.proofs.Effects.{entry_exited, entry_joined, entry_left, entry_link}
-pub use Rattle.policy_audit.proofs.FewRows.{few}
-pub use Rattle.policy_audit.proofs.Words.{codes, list_all-append, play}
-pub use Rattle.policy_audit.proofs.OldTold.{few_local, old_limit}
-pub use Rattle.policy_audit.proofs.Begun.{kept_peers, none_begun}
-pub use Rattle.policy_audit.proofs.Finished.{given_by, given_kept, is_message, whole_awaits}
-pub use Rattle.policy_audit.proofs.Finished.{whole_by, whole_kept}
-pub use Rattle.policy_audit.proofs.NewLinks.{opened_apart}
-pub use Rattle.policy_audit.proofs.Foreign.{peer_foreign}
-pub use Rattle.policy_audit.proofs.Heard.{has_sync, heard_runs, heard_whole}
-pub use Rattle.policy_audit.proofs.HeardNow.{framed_heard, message_heard, opening_heard}
-pub use Rattle.policy_audit.proofs.HeardNow.{proved_heard, stopped_heard}
-pub use Rattle.policy_audit.proofs.KeptLinks.{told_runs, unborn_waiting, unowed}
-pub use Rattle.policy_audit.proofs.Lines.{a_up, calls, done, gives, Line, node, pid}
-pub use Rattle.policy_audit.proofs.Lists.{count_in_group, filter_all, groups_are, members_are}
-pub use Rattle.policy_audit.proofs.Lists.{rows_are}
-pub use Rattle.policy_audit.proofs.Named.{group_named, listed_named, occurs_stands, pid_named}
-pub use Rattle.policy_audit.proofs.OneDifference.{apart}
-pub use Rattle.policy_audit.proofs.Onward.{ack_taken, message_taken_on, reply_taken}
-pub use Rattle.policy_audit.proofs.Onward.{whole_is_message}
-pub use Rattle.policy_audit.proofs.OwnRows.{foreign_own, local_rows_are, rows_in_group}
-pub use Rattle.policy_audit.proofs.RowsAfter.{uncounted}
-pub use Rattle.policy_audit.proofs.ScopesNow.{running_among, running_rises}
-pub use Rattle.policy_audit.proofs.Untouched.{entry_leaves}
-pub use Rattle.policy_audit.proofs.UpLinks.{agrees, and_false, done_now, none_taken}
-pub use Rattle.policy_audit.specs.Listed.{is_from, listed}
+pub use hands.Frame.{Challenge, Name}
+pub use hands.Reading.{challenge_frame, name_frame, reply_frame, status_of}
+pub use hands.Spelling.{ack_bytes, challenge_bytes, IsVersion, name_bytes, reply_bytes}
+pub use hands.Spelling.{version_bytes}
+pub use hands.declared.frame.AckFrame.{AckFrame}
+pub use hands.declared.frame.ReplyFrame.{ReplyFrame}
+pub use hands.declared.frame.StatusWord.{StatusWord}
+pub use links.ReadingLemmas.{message-spelled, SpellsMessage-read}
+pub use audits.Effects.{entry_exited, entry_joined, entry_left, entry_link}
+pub use audits.FewRows.{few}
+pub use audits.Words.{codes, list_all-append, play}
+pub use audits.OldTold.{few_local, old_limit}
+pub use audits.Begun.{kept_peers, none_begun}
+pub use audits.Finished.{given_by, given_kept, is_message, whole_awaits, whole_by, whole_kept}
+pub use audits.NewLinks.{opened_apart}
+pub use audits.Foreign.{peer_foreign}
+pub use audits.Heard.{has_sync, heard_runs, heard_whole}
+pub use audits.HeardNow.{framed_heard, message_heard, opening_heard, proved_heard, stopped_heard}
+pub use audits.KeptLinks.{told_runs, unborn_waiting, unowed}
+pub use audits.Lines.{a_up, calls, done, gives, Line, node, pid}
+pub use audits.Lists.{count_in_group, filter_all, groups_are, members_are, rows_are}
+pub use audits.Named.{group_named, listed_named, occurs_stands, pid_named}
+pub use audits.OneDifference.{apart}
+pub use audits.Onward.{ack_taken, message_taken_on, reply_taken, whole_is_message}
+pub use audits.OwnRows.{foreign_own, local_rows_are, rows_in_group}
+pub use audits.RowsAfter.{uncounted}
+pub use audits.ScopesNow.{running_among, running_rises}
+pub use audits.Untouched.{entry_leaves}
+pub use audits.UpLinks.{agrees, and_false, done_now, none_taken}
+pub use audit.Listed.{is_from, listed}
 pub use specs.Sent.{bodies_of, came, delivered, frames_of, handed, out, out_in, owes, Owing, owing}
 pub use specs.Sent.{sent, source_at}
 pub use specs.Moments.{is_restarted_after, IsProvedLink, moment, moment_in, proved_at}
@@ -139,4 +132,4 @@ pub use specs.HeardMoment.{HearsMoment}
 pub use specs.Honest.{HasGiven, HeardIsSaid, IsGiven, IsHonest}
 pub use specs.Known.{known, message_at}
 pub use specs.MaySay.{AreFrom, AreStated, HasRoom, MaySay, MaySaySoFar}
-pub use Rattle.policy_audit.specs.Parted.{scope_of}
+pub use audit.Parted.{scope_of}
