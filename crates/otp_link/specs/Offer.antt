@@ -3,6 +3,8 @@ use Rattle.std.specs.Prelude.{◌≡◌, ◌≢◌, ◌<◌, ◌^◌, ◌==◌, 
 use Rattle.std.specs.Prelude.{List, [], ◌∷◌, ◌++◌, bit_and, not}
 use Rattle.std.specs.Int.{w64, to_be_bytes}
 use Rattle.dist_types.specs.Flags.{has_bit}
+use Rattle.handshake_frames.specs.Frame.{Challenge, Name}
+use Rattle.handshake_frames.specs.Spelling.{SpellsChallenge, SpellsName}
 
 -- the flags that are offered; bit 0 of a visible link alone
 abbrev pub offered_flags : Bool → ℕ
@@ -12,6 +14,11 @@ offered_flags false = 0x407070FBC
 -- the eleven flags that each stock node has, or bit 26, which stands for them
 abbrev pub has_stock : ℕ → Bool
 has_stock flags = (bit_and flags 0x1070F94 == 0x1070F94) || not (bit_and flags 0x4000000 == 0)
+
+-- these are the flags in the frame in which an end says its name: a Challenge, or a Name
+abbrev pub SaysFlags : Bool → List ℕ → ℕ → Type 0
+SaysFlags true body flags = (c : Challenge) × SpellsChallenge body c × (c.flags ≡ flags)
+SaysFlags false body flags = (n : Name) × SpellsName body n × (n.flags ≡ flags)
 
 -- a Name or a Challenge with these flags, and these bytes behind them
 abbrev pub named : ℕ → List ℕ → List ℕ

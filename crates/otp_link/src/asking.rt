@@ -34,10 +34,10 @@ impl Healing {
         }
     }
 
-    /// Rows of the peer lack here: it is asked again after a second, and where that doesn't help
-    /// after two, four, up to thirty.
-    pub fn note_lack(&mut self, now: Duration) {
-        if self.due.is_some() {
+    /// Notes whether rows of the peer lack here: then it is asked again after a second, and where
+    /// that doesn't help after two, four, up to thirty.
+    pub fn note(&mut self, lacks: bool, now: Duration) {
+        if !lacks || self.due.is_some() {
             return;
         }
         self.pause = self.next_pause(now);

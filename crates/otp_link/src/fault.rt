@@ -1,4 +1,8 @@
 //! Why a link with a stock node has to end.
+ghost use Rattle.std.specs.Prelude.{◌≡◌};
+ghost use Rattle.otp_link.specs.Fault.{fault_of};
+ghost use Rattle.otp_link.specs.declared.fault.LinkFault.TheVariants as faults;
+
 use dist_types::OutOfMemory;
 use otp_edge::HearFault;
 use std::alloc::{AllocError, AllocFailed};
@@ -24,6 +28,8 @@ pub enum LinkFault {
 }
 
 impl From<HearFault> for LinkFault {
+    ghost from_gives = { λ heard fault. fault ≡ fault_of heard };
+
     fn from(fault: HearFault) -> LinkFault {
         match fault {
             HearFault::NoMessage => LinkFault::NoMessage,
@@ -34,18 +40,24 @@ impl From<HearFault> for LinkFault {
 }
 
 impl From<OutOfMemory> for LinkFault {
+    ghost from_gives = { λ _ fault. fault ≡ faults.OutOfMemory };
+
     fn from(_error: OutOfMemory) -> LinkFault {
         LinkFault::OutOfMemory
     }
 }
 
 impl From<AllocError> for LinkFault {
+    ghost from_gives = { λ _ fault. fault ≡ faults.OutOfMemory };
+
     fn from(_error: AllocError) -> LinkFault {
         LinkFault::OutOfMemory
     }
 }
 
 impl<T: Drop> From<AllocFailed<T>> for LinkFault {
+    ghost from_gives = { λ _ fault. fault ≡ faults.OutOfMemory };
+
     fn from(_error: AllocFailed<T>) -> LinkFault {
         LinkFault::OutOfMemory
     }

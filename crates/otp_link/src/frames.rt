@@ -1,7 +1,9 @@
 //! The frames of a handshake, as they pass between a stock node and the node here.
-ghost use Rattle.std.specs.Prelude.{◌≡◌, ◌++◌, ◌<◌, ◌^◌, ℕ, List, IfOk, IfSome, IsSomeAnd, OnOk};
+ghost use Rattle.std.specs.Prelude.{◌≡◌, ◌++◌, ◌<◌, ◌^◌, ℕ, List, IfErr, IfOk, IfSome};
+ghost use Rattle.std.specs.Prelude.{IsSomeAnd, OnOk};
 ghost use Rattle.std.specs.Int.{w16};
 ghost use Rattle.handshake_frames.specs.Spelling.{counted};
+ghost use Rattle.otp_link.specs.Fault.{IsUnput};
 ghost use Rattle.otp_link.specs.Offer.{IsOwnFrame, IsPeerFrame, named};
 
 use crate::fault::LinkFault;
@@ -62,7 +64,8 @@ pub fn peer_frame(alloc: Global, body: &[u8], in_parts: bool) -> Result<Vec<u8>,
 
 /// Appends a frame behind its length.
 pub(crate) fn put_frame(frame: &[u8], out: &mut Vec<u8>) -> Result<(), LinkFault>
-    ensures { OnOk result (out.new.items ≡ out.old.items ++ counted w16 frame.now) }
+    ensures put { OnOk result (out.new.items ≡ out.old.items ++ counted w16 frame.now) }
+    ensures refused { IfErr result (IsUnput frame.now) }
 {
     if frame.len() > LONGEST_FRAME {
         return Err(LinkFault::TooLong);

@@ -1,7 +1,10 @@
 //! What is handed in of a body of a stock node.
-ghost use Rattle.std.specs.Prelude.{◌≡◌, IfOk, None};
+ghost use Rattle.std.specs.Prelude.{◌≡◌, ℕ, List, IfErr, IfOk, None};
+ghost use Rattle.otp_edge.specs.Bodies.{IsBody};
 ghost use Rattle.otp_edge.specs.declared.heard.Heard.{Heard};
-ghost use Rattle.otp_edge.specs.Edges.{IsHeard};
+ghost use Rattle.otp_edge.specs.Edges.{Hears};
+ghost use Rattle.otp_edge.specs.Signals.{SaysTooMany};
+ghost use Rattle.otp_edge.specs.declared.fault.HearFault.TheVariants as faults;
 ghost use Rattle.otp_link.specs.Counted.{AreCountsOf, Follows, IsCutAs, IsCutBy};
 
 use crate::table::Table;
@@ -18,8 +21,12 @@ pub fn hear_body<T: Table>(
     body: &[u8],
     table: &T,
 ) -> Result<Heard, HearFault>
-    ensures { IfOk result (λ heard. (first : Heard) × IsHeard edge.old body.now first ×
+    ensures heard { IfOk result (λ heard. (first : Heard) × Hears edge.old edge.new body.now first ×
         Follows (IsCutAs (T.lists table.now)) first heard) }
+    ensures refused { IfErr result (λ fault. fault ≡ faults.NoMessage →
+        (control behind : List ℕ) → IsBody control behind body.now → ⊥) }
+    ensures too_many { IfErr result (λ fault. fault ≡ faults.TooManyRows →
+        SaysTooMany body.now) }
 {
     let heard = edge.hear(alloc, body)?;
     let counts = counts_of(alloc, &heard, table)?;

@@ -1,4 +1,7 @@
 //! Whose frames of a handshake come.
+ghost use Rattle.std.specs.Prelude.{◌≡◌, ℕ, IfSome, IsSomeAnd};
+ghost use Rattle.otp_link.specs.Offer.{SaysFlags};
+
 use dist_types::{Flags, NodeName, OutOfMemory, TextFault};
 use handshake_frames::{decode_challenge, decode_name};
 use otp_edge::Run;
@@ -20,9 +23,15 @@ pub(crate) struct Said<'a> {
 }
 
 /// Reads the frame in which an end says its name: a Challenge, or a Name.
-pub(crate) fn said_in(body: &[u8], is_challenge: bool) -> Option<Said<'_>> {
+pub(crate) fn said_in(body: &[u8], is_challenge: bool) -> Option<Said<'_>>
+    ensures found { IfSome result (λ said. SaysFlags is_challenge body.now said.flags.0) }
+    ensures only { (flags : ℕ) → SaysFlags is_challenge body.now flags →
+        IsSomeAnd result (λ said. said.flags.0 ≡ flags) }
+{
     if is_challenge {
-        let frame = decode_challenge(body).ok()?;
+        let Ok(frame) = decode_challenge(body) else {
+            return None;
+        };
         return Some(Said {
             flags: frame.flags,
             creation: frame.creation,
@@ -30,7 +39,9 @@ pub(crate) fn said_in(body: &[u8], is_challenge: bool) -> Option<Said<'_>> {
             is_bare: frame.name.len().saturating_add(CHALLENGE_HEAD) == body.len(),
         });
     }
-    let frame = decode_name(body).ok()?;
+    let Ok(frame) = decode_name(body) else {
+        return None;
+    };
     Some(Said {
         flags: frame.flags,
         creation: frame.creation,

@@ -1,7 +1,14 @@
 //! What comes of the bytes of a stock node.
-ghost use Rattle.std.specs.Prelude.{◌≡◌};
-ghost use Rattle.otp_link.specs.Pieces.{is_last_of};
-ghost use Rattle.otp_link.specs.Sent.{IsNarrowed};
+ghost use Rattle.std.specs.Prelude.{◌≡◌, ◌++◌, ◌<◌, ◌^◌, ℕ, List, true, length, IfErr, IfOk};
+ghost use Rattle.std.specs.Prelude.{MatchOption};
+ghost use Rattle.std.specs.Int.{w16, w32};
+ghost use Rattle.handshake_frames.specs.Spelling.{counted};
+ghost use Rattle.otp_edge.specs.Said.{KnowsTheSame};
+ghost use Rattle.otp_link.specs.Pieces.{IsShort, is_last_of};
+ghost use Rattle.otp_link.specs.Sent.{IsBegun, IsNarrowed};
+ghost use Rattle.otp_link.specs.Taking.{Ends, EndsByBody, EndsByFrame, IsOfStock, IsPassedOver};
+ghost use Rattle.otp_link.specs.Taking.{Takes, TakesFrame, TakesBody, TakesLong};
+ghost use Rattle.otp_link.specs.declared.fault.LinkFault.TheVariants as faults;
 
 use crate::fault::LinkFault;
 use crate::flags::is_stock;
@@ -43,17 +50,26 @@ impl OtpLink {
         now: Duration,
     ) -> Result<Option<Taken>, LinkFault>
         ensures kind { IsNarrowed self.old.kind self.new.kind }
+        ensures taken { IfOk result (λ read. MatchOption read
+            ((self.new ≡ self.old) × IsShort self.old.takes_bodies front.now)
+            (Takes (T.lists table.now) self.old self.new front.now)) }
+        ensures refused { IfErr result (Ends self.old front.now) }
     {
         match cut(front, self.takes_bodies) {
             Piece::More => Ok(None),
-            Piece::Frame(body, rest) => self.take_frame(body, len_before(front, rest)),
-            Piece::Body(body, rest) => self.take_body(body, len_before(front, rest), table, now),
+            Piece::Frame(body, rest) => Ok(Some(self.take_frame(body, len_before(front, rest))?)),
+            Piece::Body(body, rest) => {
+                let used = len_before(front, rest);
+                Ok(Some(self.take_body(body, used, table, now)?))
+            }
             Piece::Tick(rest) => Ok(Some(self.only_used(len_before(front, rest)))),
-            Piece::Long(begin, len) => self.take_long(begin, len),
+            Piece::Long(begin, len) => Ok(Some(self.take_long(begin, len)?)),
         }
     }
 
-    fn only_used(&self, used: usize) -> Taken {
+    fn only_used(&self, used: usize) -> Taken
+        ensures { IsPassedOver used result }
+    {
         Taken {
             used,
             handed: Vec::new(self.alloc),
@@ -63,24 +79,40 @@ impl OtpLink {
 
     /// A frame of the handshake, of which that with the peer's name is looked at. Behind a Reply
     /// and an Ack come bodies.
-    fn take_frame(&mut self, body: &[u8], used: usize) -> Result<Option<Taken>, LinkFault>
+    fn take_frame(&mut self, body: &[u8], used: usize) -> Result<Taken, LinkFault>
+        requires { used ≡ length (counted w16 body.now) }
         ensures kind { IsNarrowed self.old.kind self.new.kind }
+        ensures taken { IfOk result (TakesFrame self.old self.new body.now) }
+        ensures refused { IfErr result (EndsByFrame self.old body.now) }
     {
-        let mut is_bare = false;
-        if let Some(said) = said_in(body, self.kind.is_dialled) {
-            if !is_stock(said.flags) {
-                return Err(LinkFault::NotStock);
-            }
-            is_bare = said.is_bare;
-            self.kind.in_parts &= is_bare;
-            self.peer = run_of(self.alloc, &said)?;
-            self.meet();
-        }
+        let in_parts = self.hear_name(body)?;
         self.takes_bodies = is_last(body);
         let mut taken = self.only_used(used);
-        let frame = peer_frame(self.alloc, body, is_bare && self.kind.in_parts)?;
+        let frame = peer_frame(self.alloc, body, in_parts)?;
         put_frame(&frame, &mut taken.handed)?;
-        Ok(Some(taken))
+        Ok(taken)
+    }
+
+    /// A frame with the peer's name: from then on the edge may begin. Whether it is told here that
+    /// the peer takes messages in parts.
+    fn hear_name(&mut self, body: &[u8]) -> Result<bool, LinkFault>
+        ensures kind { IsNarrowed self.old.kind self.new.kind }
+        ensures edge { IsBegun self.new.kind self.old.edge self.new.edge }
+        ensures stock { IfOk result (λ _. IsOfStock self.old body.now) }
+        ensures agreed { IfOk result (λ in_parts.
+            in_parts ≡ true → self.new.kind.in_parts ≡ true) }
+        ensures refused { IfErr result (EndsByFrame self.old body.now) }
+    {
+        let Some(said) = said_in(body, self.kind.is_dialled) else {
+            return Ok(false);
+        };
+        if !is_stock(said.flags) {
+            return Err(LinkFault::NotStock);
+        }
+        self.kind.in_parts &= said.is_bare;
+        self.peer = run_of(self.alloc, &said)?;
+        self.meet();
+        Ok(self.kind.in_parts)
     }
 
     fn take_body<T: Table>(
@@ -89,28 +121,34 @@ impl OtpLink {
         used: usize,
         table: &T,
         now: Duration,
-    ) -> Result<Option<Taken>, LinkFault>
+    ) -> Result<Taken, LinkFault>
+        requires { used ≡ length (counted w32 body.now) }
         ensures kind { self.new.kind ≡ self.old.kind }
+        ensures up { self.new.takes_bodies ≡ self.old.takes_bodies }
+        ensures taken { IfOk result
+            (TakesBody (T.lists table.now) self.old self.new body.now) }
+        ensures refused { IfErr result (EndsByBody self.old body.now) }
     {
         let Some(edge) = &mut self.edge else {
             return Err(LinkFault::NoMessage);
         };
         let dropped = edge.drops.of(Dropped::TooManyRows);
         let heard = hear_body(edge, self.alloc, body, table)?;
-        let were_too_many = edge.drops.of(Dropped::TooManyRows) != dropped;
-        if were_too_many || lacks(edge, &heard, table) {
-            self.healing.note_lack(now);
-        }
-        Ok(Some(Taken {
+        self.healing.note(lacks(edge, dropped, &heard, table), now);
+        Ok(Taken {
             used,
             handed: heard.link_bytes(self.alloc, self.kind.in_parts)?,
             owed: heard.owed,
-        }))
+        })
     }
 
     /// A body that isn't kept: it is skipped, where nothing is to be heard of it.
-    fn take_long(&mut self, begin: &[u8], len: usize) -> Result<Option<Taken>, LinkFault>
+    fn take_long(&mut self, begin: &[u8], len: usize) -> Result<Taken, LinkFault>
+        requires { len < 2 ^ 32 }
         ensures kind { self.new.kind ≡ self.old.kind }
+        ensures up { self.new.takes_bodies ≡ self.old.takes_bodies }
+        ensures taken { IfOk result (TakesLong self.old self.new len) }
+        ensures refused { IfErr result (λ fault. fault ≡ faults.TooLong) }
     {
         let Some(edge) = &mut self.edge else {
             return Err(LinkFault::TooLong);
@@ -118,13 +156,22 @@ impl OtpLink {
         if !may_skip(edge, self.alloc, begin) {
             return Err(LinkFault::TooLong);
         }
-        edge.drops.add(Dropped::ForMember);
-        Ok(Some(self.only_used(len.saturating_add(LENGTH))))
+        note_skipped(edge);
+        Ok(self.only_used(len.saturating_add(LENGTH)))
     }
 }
 
+/// Counts a body that was skipped.
+fn note_skipped(edge: &mut Edge)
+    ensures { KnowsTheSame edge.old edge.new }
+{
+    edge.drops.add(Dropped::ForMember);
+}
+
 /// How many bytes stand before the rest of them.
-fn len_before(front: &[u8], rest: &[u8]) -> usize {
+fn len_before(front: &[u8], rest: &[u8]) -> usize
+    ensures { (piece : List ℕ) → front.now ≡ piece ++ rest.now → result ≡ length piece }
+{
     front.len().saturating_sub(rest.len())
 }
 
@@ -135,8 +182,14 @@ pub(crate) fn is_last(body: &[u8]) -> bool
     matches!(body.first(), Some(b'r' | b'a'))
 }
 
+/// Whether rows of what was heard lack here: they were too many, which was so `dropped` times
+/// before, or are refused.
+fn lacks<T: Table>(edge: &Edge, dropped: u64, heard: &Heard, table: &T) -> bool {
+    edge.drops.of(Dropped::TooManyRows) != dropped || are_refused(edge, heard, table)
+}
+
 /// Whether the node here refuses the rows that are handed in: they are of other nodes, or too many.
-fn lacks<T: Table>(edge: &Edge, heard: &Heard, table: &T) -> bool {
+fn are_refused<T: Table>(edge: &Edge, heard: &Heard, table: &T) -> bool {
     match &heard.message {
         Some(Message::Sync(_, rows)) => are_foreign(edge, rows.as_slice()),
         Some(Message::Join(scope, rows)) => {
