@@ -54,7 +54,7 @@ module _ (o : Opening) (s : List ℕ) where
             → is_visible (past o (but e (Event.Frame k body) (Accepted r) ∷ es)) l ≡ true
         by true w = shown_after k body r (k == l) refl w
             (framed k body r q so_far (k == l) refl said w)
-        by false un = lie (sym (heard_whole o es legal l s (grind (arith, un, said))) ∙ un)
+        by false un = grind (arith, heard_whole)
     by_event ev w q so_far said = grind arith
 
   heard_visible : (es : List Entry) → IsPlayedIn o es → (l : ℕ) → has_sync s (talk o l es) ≡ true
@@ -152,8 +152,7 @@ module _ (h : History) (legal : IsPlayed h) (l : ℕ) (s : List ℕ)
   peer_length : (gs : List (List ℕ)) → length (filter of_peer (rows_in_groups gs)) ≡ length (filter
       (λ p. is_peer p.node l es) (flat_map (members h s) gs))
   peer_length [] = refl
-  peer_length (g ∷ gs) =
-      simp (filter-append, length-append, group_length g (members h s g), peer_length gs)
+  peer_length (g ∷ gs) = grind (arith, filter-append, length-append, group_length, peer_length gs)
 
   stated_most : (r : Row) (b : Bool) → of_peer r ≡ b → (c : Bool) → is_from l es r.pid ≡ c
       → cond (of_peer r) (listed h s r.group r.pid) 0 ≤ stated h.opening l s r.group r.pid es
@@ -174,13 +173,7 @@ module _ (h : History) (legal : IsPlayed h) (l : ℕ) (s : List ℕ)
     where
       within : (r : Row) → occurrences same_row r (filter of_peer (rows_in_groups (groups h s))
           ++ rows) ≤ occurrences same_row r it.all
-      within r =
-          let both = how_many_append (λ x. same_row x r)
-          (filter of_peer (rows_in_groups (groups h s))) rows in
-          let counted = peer_counts r (rows_in_groups (groups h s)) ∙ ap (λ n. cond (of_peer r) n 0)
-          (IsListing.counts rows_listed r) in
-          let most = stated_most r (of_peer r) refl (is_from l es r.pid) refl in
-          omega arith
+      within r = grind (arith, how_many_append, peer_counts, rows_listed, stated_most)
 
 -- ---- what it may say breaks no rule
 
@@ -219,12 +212,12 @@ module _ (h : History) (legal : IsPlayed h) (l : ℕ) where
         has_room h legal l s hears (so_far h l PartKind.Join s number rows) may.2,
       )
   heard_met (Message2.Part PartKind.Leave s number last rows) hears may =
-      let all = so_far h l PartKind.Leave s number rows in
       grind (
         arith,
         shows h legal l s hears,
         scope_runs h legal l s hears,
-        are_listed h legal l s hears all may.2 all (so_far_from PartKind.Leave s number rows may.1),
+        are_listed h legal l s hears,
+        so_far_from PartKind.Leave s number rows may.1,
       )
 
   -- what meets the rules of messages is accepted on a link that is up

@@ -54,13 +54,7 @@ module _ (v : ℕ) (o : Opening) (es : List Entry) (e : Entry) (legal : IsPlayed
         → is_next (begun o l es) kind s number ≡ true
         → AcceptsAlike (Some (Message2.Part kind s number last rows))
         (Some (Message2.Part kind s number last rows))
-    part_alike kind number last rows next = record {
-      views = λ g p w. ap (λ b. seen_by s g p (option_to_list (cond last
-          (Some (message_of kind s (b ++ rows))) None)) w) (same_before kind number next);
-      begins = λ q. ap (λ b. cond last None (Some (record
-          { kind = kind; scope = s; number = number; rows = b ++ rows })))
-          (same_before kind number next);
-    }
+    part_alike kind number last rows next = grind (arith, same_before)
 
   other_views : (kind : PartKind) (t : List ℕ) (last : Bool) (xs : List Row) → same t s ≡ false
       → (g : List ℕ) (p : Pid) (w : Option ℕ)
@@ -78,22 +72,13 @@ module _ (v : ℕ) (o : Opening) (es : List Entry) (e : Entry) (legal : IsPlayed
       → same t s ≡ false
       → AcceptsAlike (Some (Message2.Part kind t number last rows))
       (Some (Message2.Part kind t number last rows))
-  other_alike kind t number last rows other = record {
-    views = λ g p w. other_views kind t last _ other g p w
-        ∙ sym (other_views kind t last _ other g p w);
-    begins = λ q. lie (sym q ∙ (λ i. other_kept kind t number last
-        (rows_before (begun o l es) kind t number ++ rows) other i
-        || other_kept kind t number last
-        (rows_before (begun_of v bodies) kind t number ++ rows) other i));
-  }
+  other_alike kind t number last rows other = grind (arith, other_views, other_kept)
 
   next_of : (kind : PartKind) (t : List ℕ) (number : ℕ) (last : Bool) (rows : List Row)
       → first_broken (message_checks h l (Message2.Part kind t number last rows)) ≡ None
       → is_next (begun o l es) kind t number ≡ true
   next_of PartKind.Sync t number last rows met = grind arith
-  next_of PartKind.Join t number last rows met =
-      unbroken (is_next (begun o l es) PartKind.Join t number)
-      (all_hold (message_checks h l (Message2.Part PartKind.Join t number last rows)) met).1.1.1.0
+  next_of PartKind.Join t number last rows met = grind (arith, unbroken, all_hold)
   next_of PartKind.Leave t number last rows met =
       unbroken (is_next (begun o l es) PartKind.Leave t number)
       (all_hold (message_checks h l (Message2.Part PartKind.Leave t number last rows)) met).1.1.1.0
@@ -113,16 +98,12 @@ module _ (v : ℕ) (o : Opening) (es : List Entry) (e : Entry) (legal : IsPlayed
       → is_whole l es ≡ true → Alike v o l s es
       → AcceptsAlike (frame_taken o l es body) (message_taken v body)
   accepts_alike k body r next is whole alike =
-      subst (AcceptsAlike (frame_taken o l es body)) (taken_same body whole)
-      (taken_alike (λ kept. alike (λ i. found.0 i && whole i)
-      (ap (λ b. b || (heard o l s es && kept_of s (begun_of v bodies))) kept))
-      (frame_taken o l es body) (rules_met o l es e legal body r judged_here whole))
-    where
-      judged_here : Accepted r ≡ judgement h e.seat (Event.Frame l body)
-      judged_here = subst (λ j. Accepted r ≡ judgement h e.seat (Event.Frame j body))
-          (eqb-true k l is) next.judged
-
-      found : (is_open l es ≡ true)
-          × (first_broken (frame_checks h l body (awaits l es)) ≡ None)
-      found = open_first (is_open l es) (frame_checks h l body (awaits l es))
-          (accepted h e.seat (Event.Frame l body) r judged_here).0
+      grind (
+        arith,
+        taken_same body whole,
+        taken_alike,
+        rules_met o l es e legal body r,
+        eqb-true k l is,
+        open_first (is_open l es) (frame_checks h l body (awaits l es)),
+        accepted h e.seat (Event.Frame l body) r,
+      )

@@ -29,26 +29,10 @@ module _ (v : ℕ) where
   cut_both xs ys first later = record { ends = behind ys ∙ later.ends; each = each }
     where
       behind : (zs : List (List ℕ)) → begun_of v (xs ++ zs) ≡ begun_of v zs
-      behind zs = ap (begun_by None) (said_apart v xs zs)
-          ∙ begun_apart None (frames_said v xs) (frames_said v zs)
-          ∙ ap (λ b. begun_by b (frames_said v zs)) first.ends
+      behind zs = grind (arith, said_apart, begun_apart)
 
       in_first : (n : ℕ) (k : Begun) → IsBegun v xs n k → IsBegun v (xs ++ ys) n k
-      in_first n k it = record {
-        message = it.message;
-        place = it.place;
-        fits = omega (arith, length-append xs ys);
-        parts_are = λ j le.
-            let fits = it.fits in
-            let long = length-drop it.place xs in
-            ap (λ bs. frames_said v (take j bs))
-            (drop-append-le it.place xs ys (omega (arith, fits)))
-            ∙ ap (frames_said v) (take-append-le j (drop it.place xs) ys
-            (omega (arith, fits, long, le))) ∙ it.parts_are j le;
-        few = it.few;
-        kept = it.kept;
-        behind = it.behind;
-      }
+      in_first n k it = grind (arith, length-append, length-drop, drop-append-le, take-append-le)
 
       in_second : (n m : ℕ) (k : Begun) → n ≡ length xs + m → IsBegun v ys m k
           → IsBegun v (xs ++ ys) n k
@@ -68,8 +52,7 @@ module _ (v : ℕ) where
       each n k q = by (nat_le n (length xs)) refl
         where
           by : (b : Bool) → nat_le n (length xs) ≡ b → IsBegun v (xs ++ ys) n k
-          by true le = in_first n k (first.each n k
-              (sym (ap (begun_of v) (take-append-le n xs ys (leb-true n (length xs) le))) ∙ q))
+          by true le = grind (arith, in_first, take-append-le, leb-true)
           by false more =
               let above = leb-false n (length xs) more in
               let at : n ≡ length xs + (n - length xs) = omega (arith, above) in
@@ -89,22 +72,17 @@ module _ (v : ℕ) where
       more rows))) refl
     where
       ended : length (parts_from kind s 1 more rows) ≤ suc j → true ≡ false
-      ended short = none_some k (sym (ap (begun_by None)
-          (take_past (suc j) (parts_from kind s 1 more rows) short)
-          ∙ last_ends kind s 1 more rows None) ∙ q)
+      ended short = grind (arith, none_some, take_past, last_ends)
 
       here : (f : Message2)
           → (it : IsPiece None kind s [] rows 0 (parts_from kind s 1 more rows) j f) → (b : Bool)
           → it.last ≡ b → k.number ≡ suc j
       here f it true is = lie (ended (omega arith))
-      here f it false is =
-          (let same = ap (λ x. Begun.number x) (value_of (sym q ∙ it.begins is)) in
-          omega arith)
+      here f it false is = grind (arith, value_of)
 
       by : (b : Bool) → nat_le (suc (suc j)) (length (parts_from kind s 1 more rows)) ≡ b
           → (k.number ≡ suc j) × (suc j < length (parts_from kind s 1 more rows))
-      by false more_than = lie (ended (let low = leb-false (suc (suc j))
-          (length (parts_from kind s 1 more rows)) more_than in omega (arith, low)))
+      by false more_than = grind (arith, ended, leb-false)
       by true le =
           let less = leb-true (suc (suc j)) (length (parts_from kind s 1 more rows)) le in
           let f = element (parts_from kind s 1 more rows) j (omega (arith, less)) in
@@ -143,30 +121,12 @@ module _ (v : ℕ) where
     where
       said_so : (n : ℕ) → frames_said v (take n (map (λ f. f.body) (said_frames v m)))
           ≡ take n (pieces v m)
-      said_so n = ap (frames_said v) (take-map (λ f. OutFrame.body f) n (said_frames v m))
-          ∙ said_take v (said_frames v m) (pieces v m) (reads v m can) n
+      said_so n = grind (arith, take-map, said_take, reads)
 
       each : (n : ℕ) (k : Begun)
           → begun_of v (take n (map (λ f. f.body) (said_frames v m))) ≡ Some k
           → IsBegun v (map (λ f. f.body) (said_frames v m)) n k
-      each n k q =
-          let it = begun_of_message m n k (sym (ap (begun_by None) (said_so n)) ∙ q) in
-          let long = length-map (said_frames v m) (λ f. OutFrame.body f) in
-          let many = reads_length v (said_frames v m) (pieces v m) (reads v m can)
-          ∙ ap length it.0 in
-          let number = it.1 in
-          let less = it.2 in
-          record {
-            message = m;
-            place = 0;
-            fits = omega (arith, long, many);
-            parts_are = λ j le. said_so j ∙ ap (take j) it.0;
-            few = omega (arith, number, less);
-            kept = ap (λ j. begun_by None (take j (parts m))) number
-                ∙ ap (λ ps. begun_by None (take n ps)) (sym it.0)
-                ∙ sym (ap (begun_by None) (said_so n)) ∙ q;
-            behind = omega (arith, number);
-          }
+      each n k q = grind (arith, begun_of_message, said_so, length-map, reads_length, reads)
 
   cut_hello : (body : List ℕ) → begins_message (first_byte body) ≡ false
       → Cut (narrow body ∷ [])

@@ -107,33 +107,24 @@ unseen s g p m x q = grind arith
 
 module _ (v : ℕ) (s : List ℕ) where
   pub calm_closed : IsClosed (AllCalm v s)
-  calm_closed = record {
-    nothing = record { ends = refl; no_rows = tt; stays = λ g p x. refl };
-    both = λ xs ys first later. record {
-      ends = whole_both v xs ys first.ends later.ends;
-      no_rows = grind (arith, all_append);
-      stays = λ g p x. frames_seen v s g p xs ys x first.ends
-          ∙ ap (seen_frames v s g p ys) (first.stays g p x) ∙ later.stays g p x;
-    };
-  }
+  calm_closed = grind (arith, whole_both, all_append, frames_seen)
 
   pub calm_message : (m : Message) → IsSayable v m → is_about_rows s (Some m) ≡ false
       → AllCalm v s (said_frames v m)
-  calm_message m can other = record {
-    ends = message_ends v m can;
-    no_rows = reads_hold v (λ f. is_part s (message_taken v f.body) ≡ false)
-        (λ p. is_part s (Some p) ≡ false) (λ f p wide says apart. ap (is_part s) says ∙ apart)
-        (said_frames v m) (pieces v m) (reads v m can) (pieces_other v s m other);
-    stays = λ g p x. message_seen v m can s g p x ∙ unseen s g p m x other;
-  }
+  calm_message m can other =
+      grind (
+        arith,
+        message_ends v m can,
+        reads_hold v,
+        reads v m can,
+        pieces_other v s m other,
+        message_seen v m can s,
+        unseen s,
+      )
 
   pub calm_hello : (body : List ℕ) → begins_message (first_byte body) ≡ false
       → AllCalm v s (narrow body ∷ [])
-  calm_hello body q = (let none = no_message v body q in record {
-    ends = ap (λ y. begun_by None (option_to_list y ++ [])) none;
-    no_rows = (ap (is_part s) none, tt);
-    stays = λ g p x. ap (λ y. seen_by s g p (completed_by None (option_to_list y ++ [])) x) none;
-  })
+  calm_hello body q = grind (arith, no_message)
 
   pub calm_asks : (t : List ℕ) → IsText t → AllCalm v s (wide (Message.Discover t) ∷ [])
   calm_asks t text = subst (AllCalm v s) (asks_alike v t)

@@ -45,24 +45,16 @@ rows_own o (e ∷ es) node l v speaks n x q m says = by (λ r. rows_own o es (no
         → is_of o.name (creation (moment l (past o (e ∷ es)))) m ≡ true
     by so_far (InFirst r less) = subst (λ c. is_of o.name c m ≡ true)
         (earlier (low_of r (nat_le l (entered es)) refl)) (so_far r)
-    by so_far (InSecond j at r) = now (is_open l es) refl (is_opened_by l e) refl
-      where
-        it : slice_get (owed (past o es) l e.number e.event e.verdict) j ≡ Some x.frame
-        it = (owed_here e.number (owed (past o es) l e.number e.event e.verdict) j x r).frame
-
-        said : is_of o.name (creation (past o es)) m ≡ true
-        said = IsSpoken.own
-            (all_at (IsSpoken v (past o es)) (owed (past o es) l e.number e.event e.verdict)
-            (entry_says o e es node l v speaks.1) j x.frame it) m says
-
-        now : (b : Bool) → is_open l es ≡ b → (c : Bool) → is_opened_by l e ≡ c
-            → is_of o.name (creation (moment l (past o (e ∷ es)))) m ≡ true
-        now true opens c here = subst (λ c. is_of o.name c m ≡ true)
-            (same_creation o es node.legal.1 l opens ∙ earlier (open_low o es node.legal.1 l opens))
-            said
-        now false shut true here =
-            lie (sym (ap is_some (sym (opened_silent o es e l v e.event e.verdict here j x.frame it)
-            ∙ says)))
-        now false shut false other =
-            lie (ap is_some (sym it ∙ ap (λ fs. slice_get fs j)
-            (unowed o es l shut e e.event e.verdict node.legal.0.judged other)))
+    by so_far (InSecond j at r) =
+        grind (
+          arith,
+          owed_here e.number (owed (past o es) l e.number e.event e.verdict) j x r,
+          all_at (IsSpoken v (past o es)) (owed (past o es) l e.number e.event e.verdict)
+              (entry_says o e es node l v speaks.1) j x.frame,
+          entry_says o e es node l v speaks.1,
+          same_creation o es node.legal.1 l,
+          earlier,
+          open_low o es node.legal.1 l,
+          opened_silent o es e l v e.event e.verdict,
+          unowed o es l,
+        )

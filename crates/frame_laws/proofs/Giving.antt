@@ -133,25 +133,20 @@ module _ (o : Opening) (l : ℕ) where
   more_came : (bodies more : List (List ℕ)) (ts : List Taken) → AllByRecursion (IsCame bodies) ts
       → AllByRecursion (IsCame (bodies ++ more)) ts
   more_came bodies more [] all = tt
-  more_came bodies more (t ∷ ts) all =
-      ((all.0.0, stands_first bodies more all.0.0 t.body all.0.1), more_came bodies more ts all.1)
+  more_came bodies more (t ∷ ts) all = grind (arith, stands_first, more_came bodies more ts all.1)
 
   taken_came : (es : List Entry) → AllByRecursion (IsCame (delivered l es)) (taken l es)
   taken_came [] = tt
-  taken_came (e ∷ es) = by_event e.event e.verdict (taken_came es)
-    where
-      framed : (k : ℕ) (body : List ℕ) (b : Bool)
-          → AllByRecursion (IsCame (delivered l es)) (taken l es)
-          → AllByRecursion (IsCame (delivered l es ++ cond b (body ∷ []) []))
-          (and_frame (taken l es) (cond b (Some (record { body = body; before = es })) None))
-      framed k body false all = more_came (delivered l es) [] (taken l es) all
-      framed k body true all = all_append (IsCame (delivered l es ++ body ∷ [])) (taken l es)
-          (record { body = body; before = es } ∷ []) (more_came (delivered l es) (body ∷ [])
-          (taken l es) all) ((length (delivered l es), stands_last (delivered l es) body), tt)
-
-      by_event : (ev : Event) (v : Verdict) → AllByRecursion (IsCame (delivered l es)) (taken l es)
-          → AllByRecursion (IsCame (delivered l (but e ev v ∷ es))) (taken l (but e ev v ∷ es))
-      by_event ev w all = grind (arith, framed, more_came)
+  taken_came (e ∷ es) =
+      grind (
+        arith,
+        taken_came es,
+        more_came (delivered l es) [] (taken l es),
+        all_append,
+        more_came (delivered l es),
+        stands_last (delivered l es),
+        more_came,
+      )
 
   pub asked_once : (es : List Entry) → IsPlayedIn o es → (n : List ℕ) (c : ℕ) (bo : List Entry)
       → opened l es ≡ Some (record { start = ByDial n c; before = bo }) → is_whole l es ≡ true

@@ -170,32 +170,25 @@ asked_own o (e ∷ es) node l c opens n x q g says = by (is_opened_by l e) refl 
         → hello_in g ≡ own_hello (moment l (past o es)))
         → Parted (out_in o l es) (owes (past o es) l e) n x
         → hello_in g ≡ own_hello (moment l (past o (e ∷ es)))
-    by true here q so_far (InFirst r less) =
-        let next = opens_next o es e l e.event e.verdict node.legal.0 here in
-        let nothing = unborn_out o es node.legal.1 l (omega (arith, next)) in
-        cc
+    by true here q so_far (InFirst r less) = grind (arith, opens_next, unborn_out)
     by true here q so_far (InSecond m at r) =
         grind arith
-    by false other q so_far (InFirst r less) = so_far q r ∙ earlier_hello o e es l
-        (opening_low o es node.legal.1 l (ByPeer c) q)
-    by false other q so_far (InSecond m at r) = now (is_open l es) refl
-      where
-        low : l ≤ entered es
-        low = opening_low o es node.legal.1 l (ByPeer c) q
-
-        it : slice_get (owed (past o es) l e.number e.event e.verdict) m ≡ Some x.frame
-        it = (owed_here e.number (owed (past o es) l e.number e.event e.verdict) m x r).frame
-
-        now : (b : Bool) → is_open l es ≡ b → hello_in g ≡ own_hello (moment l (past o (e ∷ es)))
-        now true open_link =
-            all_at (IsOwn (past o es) (node_before o e es node) l)
-            (owed (past o es) l e.number e.event e.verdict)
-            (owed_own (past o es) (node_before o e es node) l e.number e.seat (apart o e es l
-            (owed_number o es e node.legal.0 l m x.frame it) low) e.event e.verdict
-            node.legal.0.judged node.written.0) m x.frame it g says
-            ∙ now_hello o e es l node.legal.1 open_link ∙ earlier_hello o e es l low
-        now false shut =
-            grind (arith, unowed o es l shut e e.event e.verdict node.legal.0.judged other)
+    by false other q so_far (InFirst r less) = grind (arith, earlier_hello, opening_low)
+    by false other q so_far (InSecond m at r) =
+        grind (
+          arith,
+          opening_low o es node.legal.1 l (ByPeer c) q,
+          owed_here e.number (owed (past o es) l e.number e.event e.verdict) m x r,
+          all_at (IsOwn (past o es) (node_before o e es node) l) (owed (past o es) l e.number
+              e.event e.verdict),
+          node_before o e es node,
+          owed_own (past o es) (node_before o e es node) l e.number e.seat,
+          apart o e es l,
+          owed_number o es e node.legal.0 l m x.frame,
+          now_hello o e es l node.legal.1,
+          earlier_hello o e es l,
+          unowed o es l,
+        )
 
 -- the first frame on a link that was dialled
 pub record IsNamed (o : Opening) (es : List Entry) (l : ℕ) : Type 0 where

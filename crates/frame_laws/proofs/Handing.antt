@@ -50,51 +50,33 @@ module _ (o : Opening) (es : List Entry) (e : Entry) (l : ℕ) (legal : IsPlayed
 
       stays : drops l es v ev ≡ false → IsHanded o l es → IsHanded o l (but e ev v ∷ es)
       stays d before =
-          record {
-            rest = before.rest ++ now ev v;
-            all = total_of before.rest before.all;
-            is_rest = by before.is_rest;
-          }
-        where
-          by : Rest o l es before.rest → Rest o l (but e ev v ∷ es) (before.rest ++ now ev v)
-          by (Waits w) = Waits (grind (arith, w, d))
-          by (Dropped w shut le) =
-              Dropped (grind (
-                arith,
-                w,
-                d,
-                unowed o es l shut e ev v made.judged
-                    (unopened o es e l ev v made le),
-              ))
-              (grind (arith, unopened o es e l ev v made le, shut))
-              (omega (arith, entered_more (but e ev v) es))
+          grind (
+            arith,
+            total_of before.rest before.all,
+            Waits,
+            Dropped,
+            unowed o es l,
+            unopened o es e l ev v made,
+            entered_more (but e ev v) es,
+          )
 
       -- one that ends the link
       drop_now : drops l es v ev ≡ true → ends l es v ev ≡ true
           → is_opened_by l (but e ev v) ≡ false
           → IsHanded o l es → IsHanded o l (but e ev v ∷ es)
       drop_now d ended other before =
-          record {
-            rest = before.rest ++ now ev v;
-            all = total_of before.rest before.all;
-            is_rest = by before.is_rest (nat_le l (entered es)) refl;
-          }
-        where
-          by : Rest o l es before.rest → (b : Bool) → nat_le l (entered es) ≡ b
-              → Rest o l (but e ev v ∷ es) (before.rest ++ now ev v)
-          by r true le = (let low = leb-true l (entered es) le in Dropped (grind (arith, d))
-              (grind (arith, other, ended))
-              (omega (arith, entered_more (but e ev v) es)))
-          by (Waits w) false le =
-              let above = leb-false l (entered es) le in
-              Waits (grind (
-                arith,
-                d,
-                w,
-                unborn_waiting (past o es) legal l above,
-                unowed o es l (unborn_open o es legal l above) e ev v made.judged other,
-              ))
-          by (Dropped w shut low) false le = grind (arith, leb-false l (entered es) le, low)
+          grind (
+            arith,
+            total_of before.rest before.all,
+            leb-true,
+            Dropped,
+            entered_more,
+            Waits,
+            leb-false l (entered es),
+            unborn_waiting (past o es) legal l,
+            unowed o es l,
+            unborn_open o es legal l,
+          )
 
     -- ---- a Take of the link
 
@@ -121,8 +103,7 @@ module _ (o : Opening) (es : List Entry) (e : Entry) (l : ℕ) (legal : IsPlayed
     by_test ev v made none d other before = by (ends l es v ev && is_open l es) refl
       where
         by : (b : Bool) → (ends l es v ev && is_open l es) ≡ b → IsHanded o l (but e ev v ∷ es)
-        by true m = drop_now ev v made none (d ∙ m)
-            ((and_parts (ends l es v ev) (is_open l es) m).0) other before
+        by true m = grind (arith, drop_now, and_parts)
         by false m = stays ev v made none (d ∙ m) before
 
     lost_by : (k : ℕ) (r : Reply) → IsStep (past o es) (but e (Event.Lost k) (Accepted r))

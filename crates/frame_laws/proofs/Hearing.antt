@@ -168,8 +168,7 @@ module _ (v : ℕ) (o : Opening) (es : List Entry) (e : Entry) (legal : IsPlayed
                   (stated o l s g p (x ∷ es))
               by g p true was =
                   grind (arith, now_known g p)
-              by g p false un = anew s g p (said_at o l es body) (stated o l s g p (x ∷ es))
-                  (grind arith) (view_of v s g p bodies)
+              by g p false un = grind (arith, anew)
 
           without : option_map_or (says_rows s) (said_at o l es body) false ≡ false
               → Said ev (Accepted r)
@@ -266,10 +265,7 @@ module _ (v : ℕ) (o : Opening) (es : List Entry) (e : Entry) (legal : IsPlayed
       where
         by : (b : Bool) → (k == l) ≡ b → (c : Bool) → is_whole l es ≡ c
             → Alike v o l s (but e (Event.Frame k body) (Accepted r) ∷ es)
-        by false other c whole = same_alike (Event.Frame k body) (Accepted r) next
-            (ap (λ b. cond b (body ∷ []) []) other)
-            (ap (λ b. cond (b && is_whole l es) (kept_after (begun o l es)
-            (frame_taken o l es body)) (begun o l es)) other)
+        by false other c whole = grind (arith, same_alike (Event.Frame k body) (Accepted r) next)
         by true is true whole = λ up kept.
             let begun_is = ap (λ b. cond b (kept_after (begun o l es) (frame_taken o l es body))
             (begun o l es)) (λ i. is i && whole i) in

@@ -149,10 +149,7 @@ module _ (o : Opening) (l : ℕ) where
             (sym (eqb-true j l is))
             (framed_stand body r (subst (λ n. Accepted r ≡ judgement (past o es) e.seat
             (Event.Frame n body)) (eqb-true j l is) q) whole)
-        by true is false un = λ up k got.
-            lie (sym (ap is_some (sym (ap (λ b. cond b (kept_after (begun o l es)
-            (frame_taken o l es body)) (begun o l es)) (λ i. is i && un i)
-            ∙ none_begun o es legal l un) ∙ got)))
+        by true is false un = grind (arith, none_begun)
         by false other c whole =
             let it = entry_link es (but e (Event.Frame j body) (Accepted r)) j l body refl other in
             still made (Event.Frame j body) (Accepted r)

@@ -8,10 +8,7 @@ use proofs.Words.{message_heard, None, not, open_first, Opening, opening_heard, 
 use proofs.Words.{past, Pid, proved_heard, refl, Refused, Reply, Said, said_at, seen, seen_by}
 use proofs.Words.{Some, stated_in, sym, Talk, talk, true, unwrap_or, Verdict, whole_is_message, ℕ}
 use proofs.Words.{[], ◌&&◌, ◌==◌, ◌∙◌, ◌∷◌, ◌≡◌}
-
-was_heard : (ended opens whole said : Bool) → (((not ended && opens) && whole) && said) ≡ true
-    → ((opens && whole) && said) ≡ true
-was_heard ended opens whole said q = grind arith
+use proofs.Refusals.{was_so, within_hello}
 
 module _ (s g : List ℕ) (p : Pid) where
   -- what a message makes of what was stated, where the peer is heard afterwards
@@ -60,36 +57,17 @@ module _ (o : Opening) (es : List Entry) (e : Entry) (legal : IsPlayedIn o es) (
     other_known : (k == l) ≡ false → heard o l s (fr ∷ es) ≡ true
         → known o l s g p (fr ∷ es) ≡ known o l s g p es
     other_known other now =
-        grind (arith, was_heard)
+        grind (arith, was_so)
 
     module _ (same_link : k ≡ l) where
-      found : (is_open l es ≡ true) × (first_broken (frame_checks h l body (awaits l es)) ≡ None)
-      found = grind (
-        arith,
-        open_first (is_open k es) (frame_checks h k body (awaits k es))
-            (accepted h e.seat (Event.Frame k body) r next.judged).0,
-      )
-
       its : Event.Frame k body ≡ Event.Frame l body
       its = grind arith
-
-      hello_heard : is_message (awaits l es) ≡ false → (b : Bool) → is_last (awaits l es) ≡ b
-          → heard o l s (fr ∷ es) ≡ true → heard o l s es ≡ true
-      hello_heard unlike false inner t =
-          grind (arith, framed_heard h legal fr made refl l body its unlike inner l s)
-      hello_heard unlike true last t =
-          let done = done_now o es legal [] fr (fresh o es legal fr next) l body found.0 last in
-          grind (
-            arith,
-            (proved_heard h legal fr made refl l body its done.peer last done.was_of l s).heard_is,
-            t,
-          )
 
       -- within a handshake nobody is heard
       unheard : is_message (awaits l es) ≡ false → heard o l s (fr ∷ es) ≡ true
           → Shown
       unheard unlike now =
-          grind (arith, hello_heard unlike (is_last (awaits l es)) refl now)
+          grind (arith, (within_hello h e k body r next l same_link legal unlike s).heard_so now)
 
       module _ (a : awaits l es ≡ AwaitMessage) (m : Message)
           (says : said_at o l es body ≡ Some m) where

@@ -1,6 +1,6 @@
 -- What each other event says of a scope to a link, and so what every entry says.
 use Rattle.frame_laws.proofs
-use proofs.Refusals.{refused_told}
+use proofs.Refusals.{found, was_so, within_hello}
 use proofs.Words.{Accepted, accepted, all_hold, always, ap, arith, Awaited, AwaitMessage, awaits}
 use proofs.Words.{Begun, begun, Bool, but, ByDial, ByPeer, completed, cond, done_now, Entry}
 use proofs.Words.{eqb-true, Event, false, first_broken, frame_checks, frame_owes, frame_taken}
@@ -57,8 +57,11 @@ module _ (o : Opening) (es : List Entry) (e : Entry) (node : IsNode (past o es))
       by false = quiet
   refused_calm ev r = quiet
 
+  refused_told : (ev : Event) (r : Rule) → told o l s (but e ev (Refused r) ∷ es) ≡ told o l s es
+  refused_told ev r = grind arith
+
   refused_tells : (ev : Event) (r : Rule) → IsStep h (but e ev (Refused r)) → TellsOf ev (Refused r)
-  refused_tells ev r next = grind (arith, refused_calm ev r, refused_told o e es ev r l s)
+  refused_tells ev r next = grind (arith, refused_calm ev r, refused_told ev r)
 
   -- ---- scopes
 
@@ -104,10 +107,6 @@ module _ (o : Opening) (es : List Entry) (e : Entry) (node : IsNode (past o es))
             s,
       )
 
-  was_told : (ended opens whole said : Bool) → (((not ended && opens) && whole) && said) ≡ true
-      → ((opens && whole) && said) ≡ true
-  was_told ended opens whole said q = grind arith
-
   -- ---- frames
 
   module _ (k : ℕ) (body : List ℕ) (r : Reply)
@@ -123,44 +122,26 @@ module _ (o : Opening) (es : List Entry) (e : Entry) (node : IsNode (past o es))
 
     -- of another link
     other_told : (k == l) ≡ false → told o l s (fr ∷ es) ≡ true → told o l s es ≡ true
-    other_told other t = grind (arith, was_told)
+    other_told other t = grind (arith, was_so)
 
     -- its own link: open, and no rule is broken
     module _ (same_link : k ≡ l) where
-      found : (is_open l es ≡ true) × (first_broken (frame_checks h l body (awaits l es)) ≡ None)
-      found = grind (
-        arith,
-        open_first (is_open k es) (frame_checks h k body (awaits k es))
-            (accepted h e.seat (Event.Frame k body) r next.judged).0,
-      )
-
       its : Event.Frame k body ≡ Event.Frame l body
       its = grind arith
-
-      hello_told : is_message (awaits l es) ≡ false → (b : Bool) → is_last (awaits l es) ≡ b
-          → told o l s (fr ∷ es) ≡ true → told o l s es ≡ true
-      hello_told unlike false inner t =
-          grind (arith, framed_heard h node.legal fr made refl l body its unlike inner l s)
-      hello_told unlike true last t =
-          let done =
-          done_now o es node.legal [] fr (fresh o es node.legal fr next) l body found.0 last in
-          grind (
-            arith,
-            (proved_heard h node.legal fr made refl l body its done.peer last done.was_of l
-                s).told_is,
-            t,
-          )
 
       handshake : (a : Awaited) → awaits l es ≡ a → is_message a ≡ false
           → Now (frame_owes h l body a)
       handshake a is unlike =
           Silent (frame_all h node l (AllCalm v s) (calm_closed v s) hellos_calm (calm_asks v s)
           body a (λ q m says. cc))
-          (λ t. (hello_told (grind arith) (is_last (awaits l es)) refl t, λ g p. refl))
+          (λ t. (
+            (within_hello h e k body r next l same_link node.legal (grind arith) s).told_so t,
+            λ g p. refl,
+          ))
 
       module _ (a : awaits l es ≡ AwaitMessage) where
         whole_now : is_whole l es ≡ true
-        whole_now = (whole_is_message l es found.0).1 a
+        whole_now = grind (arith, whole_is_message)
 
         -- what a message makes of who is told
         now_told : (m : Message) → said_at o l es body ≡ Some m → told o l s (fr ∷ es)
@@ -190,8 +171,7 @@ module _ (o : Opening) (es : List Entry) (e : Entry) (node : IsNode (past o es))
                 (all_hold (message_checks h l (Message2.Discover t)) met).1.0)
 
             can : (link_version o l es == 2 || nat_le (length (local_rows h t)) max_rows) ≡ true
-            can = unbroken (link_version o l es == 2 || nat_le (length (local_rows h t)) max_rows)
-                (all_hold (message_checks h l (Message2.Discover t)) met).1.1.0
+            can = grind (arith, unbroken, all_hold)
 
             told_now : same t s ≡ false → told o l s (fr ∷ es) ≡ true → told o l s es ≡ true
             told_now other q =
@@ -271,7 +251,8 @@ module _ (o : Opening) (es : List Entry) (e : Entry) (node : IsNode (past o es))
 
       own_frame : (a : Awaited) → awaits l es ≡ a → Now (frame_owes h l body a)
       own_frame AwaitMessage is =
-          message is (subst (λ x. first_broken (frame_checks h l body x) ≡ None) is found.1)
+          message is (subst (λ x. first_broken (frame_checks h l body x) ≡ None) is
+          (found h e k body r next l same_link).1)
       own_frame a is = handshake a is refl
 
     frame_tells : TellsOf (Event.Frame k body) (Accepted r)

@@ -30,10 +30,7 @@ module _ (o : Opening) (es : List Entry) (l : ℕ) (name : List ℕ) (creation :
   all_from : (rows : List Row) → list_all (λ r. same r.pid.node name && r.pid.creation == creation)
       rows ≡ true → AreFrom (past o es) l rows
   all_from [] q = refl
-  all_from (r ∷ rows) q =
-      let both = and_parts (same r.pid.node name && r.pid.creation == creation)
-      (list_all (λ x. same x.pid.node name && x.pid.creation == creation) rows) q in
-      (λ i. one_from r.pid both.0 i && all_from rows both.1 i)
+  all_from (r ∷ rows) q = grind (arith, and_parts, one_from, all_from rows)
 
 -- what is kept is of s
 abbrev pub kept_of : List ℕ → Option Begun → Bool

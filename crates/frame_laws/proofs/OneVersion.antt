@@ -18,10 +18,7 @@ module _ (o : Opening) (l : ℕ) where
       → Speaks o l v es
   never_whole v [] legal above = tt
   never_whole v (e ∷ es) legal above =
-      let more = entered_more e es in (
-        (λ whole. lie (sym whole ∙ unopened_so (e ∷ es) (unborn o (e ∷ es) legal l above))),
-        never_whole v es legal.1 (omega (arith, above, more)),
-      )
+      grind (arith, entered_more, unopened_so, unborn, never_whole v es legal.1)
 
   -- where a link was whole and no restart came, it is whole, and its peer has given what it had
   pub record StaysWhole (e : Entry) (es : List Entry) : Type 0 where
@@ -52,9 +49,7 @@ module _ (o : Opening) (l : ℕ) where
               (and_frame (taken l es) (cond x (Some moment) None))) is
               ∙ given_kept moment (opened l es) (taken l es) was;
         }
-        by false apart =
-            let it = entry_link es (but e (Event.Frame k body) (Accepted r)) k l body refl apart in
-            record { whole = it.whole ∙ was; given_is = it.given }
+        by false apart = grind (arith, entry_link)
     stays_whole (Event.Opened c) (Accepted r) made was on =
         grind (
           arith,
@@ -98,8 +93,7 @@ module _ (o : Opening) (l : ℕ) where
           never_whole v (d ∷ es) legal (omega arith)
       by true o_is false was so_far = ((λ whole. cc), so_far o_is was)
       by true o_is true was so_far =
-          lie (sym (stays_whole d es legal.1 d.event d.verdict legal.0 was (grind arith)).whole
-          ∙ un)
+          grind (arith, stays_whole d es legal.1 d.event d.verdict legal.0 was (grind arith))
 
   abbrev version_by : Option Name → ℕ
   version_by g = cond (o.links == 2 && option_map_or (λ f. Name.version f) g 1 == 2) 2 1
@@ -127,17 +121,13 @@ module _ (o : Opening) (l : ℕ) where
       -- whole as it was
       on : (v : ℕ) → Speaks o l v es → is_whole l es ≡ true → given l (e ∷ es) ≡ given l es
           → (u : ℕ) × Speaks o l u (e ∷ es)
-      on v speaks was same_given =
-          (v, ((λ whole. ap version_by same_given ∙ speaks_now o l v es speaks was), speaks))
+      on v speaks was same_given = grind (arith, speaks_now)
 
       by : (a : Bool) → is_whole l (e ∷ es) ≡ a → (b : Bool) → is_open l (e ∷ es) ≡ b → (c : Bool)
           → is_whole l es ≡ c → (v : ℕ) × Speaks o l v es → (u : ℕ) × Speaks o l u (e ∷ es)
       by false un b opens c was it = (it.0, ((λ whole. cc), it.1))
       by true whole b opens true was it = on it.0 it.1 was (StaysWhole.given_is
           (stays_whole e es legal.1 e.event e.verdict legal.0 was (grind arith)))
-      by true whole true opens false un it = (
-        link_version o l (e ∷ es),
-        ((λ w. refl), newly_whole (link_version o l (e ∷ es)) e es legal.1 legal.0 opens un),
-      )
-      by true whole false shut false un it =
-          lie (sym (was_whole e es legal.1 e.event e.verdict legal.0 whole shut) ∙ un)
+      by true whole true opens false un it =
+          grind (arith, newly_whole (link_version o l (e ∷ es)) e es legal.1 legal.0 opens un)
+      by true whole false shut false un it = grind (arith, was_whole, whole)

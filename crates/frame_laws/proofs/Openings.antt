@@ -26,13 +26,7 @@ module _ (o : Opening) where
       → out_in o l es ≡ []
   unborn_out [] legal l above = refl
   unborn_out (e ∷ es) legal l above =
-      let more = entered_more e es in
-      let before = unborn_out es legal.1 l (omega (arith, above, more)) in
-      let other = unborn_yet o es e l e.event e.verdict legal.0 above in
-      let nothing =
-      unowed o es l (unborn_open o es legal.1 l (omega (arith, above, more))) e e.event
-      e.verdict legal.0.judged other in
-      (λ i. before i ++ map (owing e.number) (nothing i))
+      grind (arith, entered_more, unborn_out es legal.1 l, unborn_yet, unowed, unborn_open)
 
   -- an open link was opened by an entry
   pub open_low : (es : List Entry) → IsPlayedIn o es → (l : ℕ) → is_open l es ≡ true
@@ -43,25 +37,15 @@ module _ (o : Opening) where
   pub same_creation : (es : List Entry) → IsPlayedIn o es → (l : ℕ) → is_open l es ≡ true
       → creation (past o es) ≡ creation (moment l (past o es))
   same_creation [] legal l opens = cc
-  same_creation (e ∷ es) legal l opens = by (is_opened_by l e) refl opens
-      (same_creation es legal.1 l)
-    where
-      stays : ends l es e.verdict e.event ≡ false
-          → creation (past o (e ∷ es)) ≡ creation (past o es)
-      stays q = grind arith
-
-      by : (b : Bool) → is_opened_by l e ≡ b
-          → (b || (not (ends l es e.verdict e.event) && is_open l es)) ≡ true
-          → (is_open l es ≡ true → creation (past o es) ≡ creation (moment l (past o es)))
-          → creation (past o (e ∷ es)) ≡ creation (moment l (past o (e ∷ es)))
-      by true here q so_far =
-          grind (arith, this_moment o e es l (opens_next o es e l e.event e.verdict legal.0 here))
-      by false other q so_far =
-          grind (
-            arith,
-            stays (grind (arith, q)),
-            earlier_moment o e es l (open_low es legal.1 l (grind (arith, q))),
-          )
+  same_creation (e ∷ es) legal l opens =
+      grind (
+        arith,
+        same_creation es legal.1 l,
+        this_moment o e es l,
+        opens_next o es e l e.event e.verdict legal.0,
+        earlier_moment o e es l,
+        open_low es legal.1 l,
+      )
 
 -- how a link was opened is how it is said to be opened since the last restart
 pub opening_is : (es : List Entry) (l : ℕ) (x : Opened) → opened l es ≡ Some x

@@ -17,28 +17,17 @@ pub record IsOrderly (v : ℕ) (fs : List OutFrame) : Type 0 where
 
 module _ (v : ℕ) where
   orderly_both : (xs ys : List OutFrame) → IsOrderly v xs → IsOrderly v ys → IsOrderly v (xs ++ ys)
-  orderly_both xs ys first later = record {
-    ends = whole_both v xs ys first.ends later.ends;
-    order = subst (AreInOrder None) (sym (frames_apart v xs ys))
-        (order_apart None (said v xs) (said v ys) first.order
-        (subst (λ b. AreInOrder b (said v ys)) (sym first.ends) later.order));
-  }
+  orderly_both xs ys first later = grind (arith, whole_both, frames_apart, order_apart)
 
   orderly_closed : IsClosed (IsOrderly v)
   orderly_closed = record { nothing = record { ends = refl; order = tt }; both = orderly_both }
 
   orderly_message : (m : Message) → IsSayable v m → IsOrderly v (said_frames v m)
-  orderly_message m can = record {
-    ends = message_ends v m can;
-    order = subst (AreInOrder None) (sym (message_says v m can)) (pieces_in_order v m);
-  }
+  orderly_message m can = grind (arith, message_ends, message_says, pieces_in_order)
 
   orderly_hello : (body : List ℕ) → begins_message (first_byte body) ≡ false
       → IsOrderly v (narrow body ∷ [])
-  orderly_hello body q = (let none = no_message v body q in record {
-    ends = ap (λ y. begun_by None (option_to_list y ++ [])) none;
-    order = subst (λ y. AreInOrder None (option_to_list y ++ [])) (sym none) tt;
-  })
+  orderly_hello body q = grind (arith, no_message)
 
   pub each_orderly : (h : History) (node : IsNode h) (l : ℕ) → Holds h node l v (IsOrderly v)
   each_orderly h node l = holds_of h node l v (IsOrderly v) orderly_closed orderly_hello

@@ -15,19 +15,13 @@ use proofs.Words.{◌<◌, ◌^◌, ◌∷◌, ◌≡◌, ◌≤◌}
 pub all_counted : (P : Row → Type 0) (rows : List Row)
     → ((r : Row) → 0 < occurrences same_row r rows → P r) → AllByRecursion P rows
 all_counted P [] each = tt
-all_counted P (r ∷ rows) each = (
-  each r (grind (arith, same_row_decides r r)),
-  all_counted P rows (λ x some. each x (grind (arith, some))),
-)
+all_counted P (r ∷ rows) each = grind (arith, same_row_decides, all_counted P rows)
 
 -- what holds of each scope that is among these
 pub all_among : (P : List ℕ → Type 0) (ss : List (List ℕ))
     → ((s : List ℕ) → is_among s ss ≡ true → P s) → AllByRecursion P ss
 all_among P [] each = tt
-all_among P (s ∷ ss) each = (
-  each s (grind (arith, same_decides s s)),
-  all_among P ss (λ t some. each t (grind (arith, some))),
-)
+all_among P (s ∷ ss) each = grind (arith, same_decides, all_among P ss)
 
 -- ---- along a history
 
@@ -125,15 +119,13 @@ module _ (h : History) (node : IsNode h) where
       (leb-true p.number (spawned h) (grind (arith, alive)))
 
   pub own_row : (s g : List ℕ) (p : Pid) → 0 < own h s g p → IsRow (row g p)
-  own_row s g p some = by (is_local h p) refl
-    where
-      joins : 0 < joined s g p (events h.entries)
-      joins = grind arith
-
-      by : (b : Bool) → is_local h p ≡ b → IsRow (row g p)
-      by true local = (let it = joined_text h.opening h.entries node.legal node.written s g p
-          joins in local_row g p it.text local it.number)
-      by false foreign = absurd (omega (arith, foreign_own h node.legal s g p foreign))
+  own_row s g p some =
+      grind (
+        arith,
+        joined_text h.opening h.entries node.legal node.written s g p,
+        local_row g p,
+        foreign_own h node.legal s g p,
+      )
 
   -- all own rows of a scope
   pub own_rows : (s : List ℕ) → AllByRecursion IsRow (local_rows h s)

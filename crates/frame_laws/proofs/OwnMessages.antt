@@ -79,17 +79,8 @@ module _ (h : History) (node : IsNode h) where
   join_each g ps text alive = all_counted IsRow (join_rows g ps) each
     where
       each : (r : Row) → 0 < occurrences same_row r (join_rows g ps) → IsRow r
-      each r some = by (same r.group g) refl (lives h r.pid) refl
-          (omega (arith, IsListing.counts (join_listing g ps) r))
-        where
-          by : (b : Bool) → same r.group g ≡ b → (c : Bool) → lives h r.pid ≡ c
-              → 0 < cond (same r.group g) (mentions r.pid ps) 0 → IsRow r
-          by true here true lived some = living_row h node r.group r.pid
-              (subst IsText (sym ((same_decides r.group g).0 here)) text) lived
-          by true here false dead some =
-              absurd (let none = uncounted same_pid (λ y x. (same_pid_decides y x).0) (lives h)
-              r.pid ps alive dead in grind (arith, here, none, some))
-          by false other c lived some = absurd (grind (arith, other, some))
+      each r some =
+          grind (arith, join_listing, living_row, same_decides, uncounted, same_pid_decides, alive)
 
   leave_within : (s g : List ℕ) (ps : List Pid) (r : Row)
       → occurrences same_row r (leave_rows s g ps) ≤ own h s r.group r.pid
@@ -169,9 +160,7 @@ module _ (h : History) (node : IsNode h) where
   all_own : (rows : List Row) → ((r : Row) → 0 < occurrences same_row r rows
       → is_local h r.pid ≡ true) → AreLocal rows
   all_own [] each = refl
-  all_own (r ∷ rows) each =
-      (λ i. each r (grind (arith, same_row_decides r r)) i
-      && all_own rows (λ x some. each x (grind arith)) i)
+  all_own (r ∷ rows) each = grind (arith, same_row_decides, all_own rows)
 
   own_is_local : (s g : List ℕ) (p : Pid) → 0 < own h s g p → is_local h p ≡ true
   own_is_local s g p some = grind (arith, foreign_own)

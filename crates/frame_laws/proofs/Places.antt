@@ -85,24 +85,12 @@ module _ (o : Opening) (l : ℕ) (P : History → OutFrame → Type 0) where
     where
       by : (slice_get (out_in o l es) n ≡ Some x → HoldsThen es x)
           → Parted (out_in o l es) (owes (past o es) l e) n x → HoldsThen (e ∷ es) x
-      by so_far (InFirst r less) =
-          let before = so_far r in
-          let low = before.within in
-          let more = entered_more e es in
-          record {
-            some = before.some;
-            within = omega (arith, low, more);
-            holds = subst (λ h. P h x.frame) (sym (earlier_moment o e es x.source low))
-                before.holds;
-          }
+      by so_far (InFirst r less) = grind (arith, entered_more, earlier_moment)
       by so_far (InSecond m is r) =
-          let here = owed_here e.number (owed (past o es) l e.number e.event e.verdict) m x r in
-          let number = owed_number o es e legal.0 l m x.frame here.frame in
-          let source : x.source ≡ entered es + 1 = here.source ∙ number in
-          let next = entered_next e es number in
-          record {
-            some = omega (arith, source);
-            within = omega (arith, source, next);
-            holds = subst (λ h. P h x.frame) (sym (this_moment o e es x.source source))
-                (all.0 m x.frame here.frame);
-          }
+          grind (
+            arith,
+            owed_here e.number (owed (past o es) l e.number e.event e.verdict) m x r,
+            owed_number o es e legal.0 l m x.frame,
+            entered_next e es,
+            this_moment o e es x.source,
+          )

@@ -1,14 +1,47 @@
--- A refused step leaves who is heard and told.
+-- A frame that was accepted: its link is open, and within a handshake nobody becomes heard or told.
 use Rattle.frame_laws.proofs
-use proofs.Words.{arith, but, Entry, Event, heard, is_up, List, Opening, Refused, Rule, told, ℕ}
-use proofs.Words.{◌∷◌, ◌≡◌}
+use proofs.Words.{Accepted, accepted, ap, arith, awaits, Bool, but, done_now, Entry, Event, false}
+use proofs.Words.{first_broken, frame_checks, framed_heard, fresh, heard, History, is_last}
+use proofs.Words.{is_message, is_open, IsPlayed, IsStep, List, None, not, open_first, proved_heard}
+use proofs.Words.{refl, Reply, told, true, ℕ, [], ◌&&◌, ◌∷◌, ◌≡◌}
 
-module _ (o : Opening) (e : Entry) (es : List Entry) (ev : Event) (r : Rule) (l : ℕ) where
-  refused_up : is_up l (but e ev (Refused r) ∷ es) ≡ is_up l es
-  refused_up = grind arith
+-- who is heard or told after an entry that says nothing was so before
+pub was_so : (ended opens whole said : Bool) → (((not ended && opens) && whole) && said) ≡ true
+    → ((opens && whole) && said) ≡ true
+was_so ended opens whole said q = grind arith
 
-  pub refused_heard : (s : List ℕ) → heard o l s (but e ev (Refused r) ∷ es) ≡ heard o l s es
-  refused_heard s = grind arith
+module _ (h : History) (e : Entry) (k : ℕ) (body : List ℕ) (r : Reply)
+    (made : IsStep h (but e (Event.Frame k body) (Accepted r))) (l : ℕ) (same_link : k ≡ l) where
+  abbrev fr : Entry
+  fr = but e (Event.Frame k body) (Accepted r)
 
-  pub refused_told : (s : List ℕ) → told o l s (but e ev (Refused r) ∷ es) ≡ told o l s es
-  refused_told s = grind arith
+  -- no rule is broken
+  pub found : (is_open l h.entries ≡ true)
+      × (first_broken (frame_checks h l body (awaits l h.entries)) ≡ None)
+  found = grind (
+    arith,
+    open_first (is_open k h.entries) (frame_checks h k body (awaits k h.entries))
+        (accepted h e.seat (Event.Frame k body) r made.judged).0,
+  )
+
+  pub record WasSo (s : List ℕ) : Type 0 where
+    pub heard_so : heard h.opening l s (fr ∷ h.entries) ≡ true
+        → heard h.opening l s h.entries ≡ true
+    pub told_so : told h.opening l s (fr ∷ h.entries) ≡ true → told h.opening l s h.entries ≡ true
+
+  pub within_hello : IsPlayed h → is_message (awaits l h.entries) ≡ false → (s : List ℕ) → WasSo s
+  within_hello legal unlike s = by (is_last (awaits l h.entries)) refl
+    where
+      its : Event.Frame k body ≡ Event.Frame l body
+      its = ap (λ j. Event.Frame j body) same_link
+
+      by : (b : Bool) → is_last (awaits l h.entries) ≡ b → WasSo s
+      by false inner =
+          grind (arith, framed_heard h legal fr made refl l body its unlike inner l s)
+      by true last =
+          let done = done_now h.opening h.entries legal [] fr
+          (fresh h.opening h.entries legal fr made) l body found.0 last in
+          grind (
+            arith,
+            proved_heard h legal fr made refl l body its done.peer last done.was_of l s,
+          )

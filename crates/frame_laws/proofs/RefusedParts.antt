@@ -135,7 +135,7 @@ module _ (v : ℕ) (o : Opening) (es : List Entry) (e : Entry) (legal : IsPlayed
         whole = (and_parts (is_open l es) (is_whole l es) up).1
 
         same_kept : begun o l es ≡ begun_of v bodies
-        same_kept = alike up (ap (λ b. b || (heard o l s es && kept_of s (begun_of v bodies))) kept)
+        same_kept = grind (arith, up)
 
         next_is : (k : Begun) → begun o l es ≡ Some k → comes_next (Some k) f ≡ true
         next_is k is = ap (λ x. comes_next x f) (sym (sym same_kept ∙ is))
@@ -185,7 +185,7 @@ module _ (v : ℕ) (o : Opening) (es : List Entry) (e : Entry) (legal : IsPlayed
       x = but e (Event.Frame k body) (Refused r)
 
       here : IsStep h (but e (Event.Frame l body) (Refused r))
-      here = subst (λ j. IsStep h (but e (Event.Frame j body) (Refused r))) (eqb-true k l is) next
+      here = grind (arith, eqb-true)
 
       came_is : begun_of v (bodies ++ cond (k == l) (body ∷ []) [])
           ≡ kept_after (begun_of v bodies) (message_taken v body)
@@ -193,15 +193,10 @@ module _ (v : ℕ) (o : Opening) (es : List Entry) (e : Entry) (legal : IsPlayed
 
       heard_was : heard o l s (but e (Event.Frame k body) (Refused r) ∷ es) ≡ true
           → heard o l s es ≡ true
-      heard_was hears = heard_before (Event.Frame k body) (Refused r) hears
-          (λ g p. known_after o es e legal l s g p (Event.Frame k body) (Refused r) next hears)
+      heard_was hears = grind (arith, heard_before, known_after)
 
       up_was : is_up l es ≡ true
-      up_was = from_or (kept_of s (begun o l es)) _ (is_up l es ≡ true) kept
-          (λ mine. up_back o l es e legal (fresh o es legal x next) (Event.Frame k body) (Refused
-          r) up
-          (some_whole v o es e legal l agrees s mine))
-          (λ both. is_up_there h legal l s (heard_was (and_parts _ _ both).0))
+      up_was = grind (arith, from_or, up_back, fresh, some_whole, is_up_there, heard_was, and_parts)
 
       of : (m : Option Message2) → message_taken v body ≡ m → (f : Message2) → m ≡ Some f
           → begun o l es ≡ begun_of v (bodies ++ cond (k == l) (body ∷ []) [])

@@ -46,13 +46,11 @@ module _ (h : History) (node : IsNode h) (l v : ℕ)
         by is_told refl (is_empty rows) refl
       where
         none : if_told h l s say rows ≡ [] → AllCalm v s fs
-        none empty = subst (AllCalm v s) (sym (whole ∙ ap (λ x. front ++ (x ++ back)) empty))
-            ((calm_closed v s).both front back early late)
+        none empty = grind (arith, calm_closed v s)
 
         one : is_told ≡ true → is_empty rows ≡ false
             → if_told h l s say rows ≡ said_frames v (say rows)
-        one tells q = (λ i. cond (q i || not (tells i)) [] (frames_to h l (say rows)))
-            ∙ told_frames (say rows) tells
+        one tells q = grind (arith, told_frames)
 
         by : (b : Bool) → is_told ≡ b → (c : Bool) → is_empty rows ≡ c
             → Tells v s is_told is_told was now fs
@@ -76,15 +74,7 @@ part_calm : (h : History) (node : IsNode h) (l v : ℕ)
     → (told h.opening l t h.entries ≡ true → is_empty rows ≡ false → IsSayable v (say rows))
     → is_about_rows s (Some (say rows)) ≡ false → AllCalm v s (if_told h l t say rows)
 part_calm h node l v agrees s t say rows is other =
-    by (is_empty rows) refl (told h.opening l t h.entries) refl
-  where
-    by : (b : Bool) → is_empty rows ≡ b → (c : Bool) → told h.opening l t h.entries ≡ c
-        → AllCalm v s (cond (b || not c) [] (frames_to h l (say rows)))
-    by true q c tells = (calm_closed v s).nothing
-    by false q false tells = (calm_closed v s).nothing
-    by false q true tells =
-        subst (AllCalm v s) (sym (told_frames h node l v agrees t (say rows) tells))
-        (calm_message v s (say rows) (is tells q) other)
+    grind (arith, calm_closed v s, calm_message v s (say rows))
 
 nothing_of : (g : List ℕ) (p : Pid) (rows : List Row) → is_empty rows ≡ true → rows_of g p rows ≡ 0
 nothing_of g p [] q = refl
@@ -143,11 +133,12 @@ module _ (o : Opening) (es : List Entry) (e : Entry) (node : IsNode (past o es))
             → IsWritten (Event.Join u g ps) → TellsOf (Event.Join u g ps) (Accepted r))
             (sym ((same_decides t s).0 is)) join_here next text
         by false other =
-            let met = join_met h node e.seat t g ps r next.judged in
-            Silent (part_calm h node l v agrees s t (Message.Join t) (join_rows h node g ps)
-            (λ tells some. join_is h node l v agrees t g ps text.0 text.1
-            met.alive met.room tells some) other)
-            (λ tells. (tells, λ f p. grind (arith, other)))
+            grind (
+              arith,
+              join_met h node e.seat t g ps r next.judged,
+              part_calm h node l v agrees s t (Message.Join t) (join_rows h node g ps),
+              join_is h node l v agrees t g ps text.0 text.1,
+            )
 
   -- ---- a Leave
 
@@ -187,9 +178,11 @@ module _ (o : Opening) (es : List Entry) (e : Entry) (node : IsNode (past o es))
         by true is = subst (λ u. IsWritten (Event.Leave u g ps) → TellsOf (Event.Leave u g ps)
             (Accepted r)) (sym ((same_decides t s).0 is)) leave_here text
         by false other =
-            Silent (part_calm h node l v agrees s t (Message.Leave t) (leave_rows h node t g ps)
-            (λ tells some. leave_is h node l v agrees t g ps text.0 tells some) other) (λ tells.
-            (tells, λ f p. grind (arith, other)))
+            grind (
+              arith,
+              part_calm h node l v agrees s t (Message.Leave t) (leave_rows h node t g ps),
+              leave_is h node l v agrees t g ps text.0,
+            )
 
   -- ---- an Exit
 
@@ -224,10 +217,14 @@ module _ (o : Opening) (es : List Entry) (e : Entry) (node : IsNode (past o es))
     others : (ss : List (List ℕ)) → is_among s ss ≡ false → AllByRecursion IsText ss
         → AllCalm v s (parts ss)
     others [] out texts = (calm_closed v s).nothing
-    others (t ∷ ss) out texts = (calm_closed v s).both (part_of t) (parts ss)
-        (part_calm h node l v agrees s t (Message.Leave t) (exit_rows h node t x)
-        (λ tells some. exit_is h node l v agrees t x texts.0 tells some)
-        (grind (arith, out))) (others ss (grind (arith, out)) texts.1)
+    others (t ∷ ss) out texts =
+        grind (
+          arith,
+          calm_closed v s,
+          part_calm h node l v agrees s t (Message.Leave t) (exit_rows h node t x),
+          exit_is h node l v agrees t x texts.0,
+          others ss (grind (arith, out)) texts.1,
+        )
 
     -- the part of s stands once
     record IsParted (ss : List (List ℕ)) : Type 0 where

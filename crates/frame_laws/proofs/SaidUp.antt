@@ -17,15 +17,7 @@ module _ (o : Opening) where
   unrestarted : (es : List Entry) → IsPlayedIn o es → (k : ℕ) → entered es ≤ k
       → is_restarted_after k es ≡ false
   unrestarted [] legal k le = refl
-  unrestarted (e ∷ es) legal k le = by e.event e.verdict legal.0.number
-      (unrestarted es legal.1 k (omega (arith, le, more)))
-    where
-      more : entered es ≤ entered (e ∷ es)
-      more = entered_more e es
-
-      by : (ev : Event) (v : Verdict) → IsNumbered (past o es) e.number ev
-          → is_restarted_after k es ≡ false → is_restarted_after k (but e ev v ∷ es) ≡ false
-      by ev w here was = grind arith
+  unrestarted (e ∷ es) legal k le = grind (arith, unrestarted es legal.1 k, entered_more)
 
   -- a restart leaves no link whole
   not_restart : (es : List Entry) (e : Entry) (l : ℕ) (ev : Event) (v : Verdict)

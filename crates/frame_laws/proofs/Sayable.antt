@@ -27,9 +27,7 @@ pub record IsSayable (v : ℕ) (m : Message) : Type 0 where
 
 are_few : (v : ℕ) (rows : List Row) → (v == 2) ≡ false → AllByRecursion IsRow rows
     → length rows ≤ limit v → AreRows rows
-are_few v rows old each few =
-    let is : limit v ≡ max_rows = ap (λ b. cond b 65536 max_rows) old in
-    record { count = omega (arith, few, is); each = All-from_recursion IsRow rows each }
+are_few v rows old each few = grind (arith, All-from_recursion)
 
 old_message : (v : ℕ) (m : Message) → (v == 2) ≡ false → IsSayable v m → IsMessage m
 old_message v m old it = grind arith
@@ -44,16 +42,13 @@ module _ (v : ℕ) (s : List ℕ) (text : IsText s) (rows : List Row)
   fits = omega (arith, limit_small v)
 
   pub sync_sayable : IsSayable v (Message.Sync s rows)
-  sync_sayable = record
-      { written = (text, All-from_recursion IsRow rows each); has = fits; few = few }
+  sync_sayable = grind (arith, All-from_recursion, fits, few)
 
   pub join_sayable : 0 < length rows → IsSayable v (Message.Join s rows)
-  join_sayable some = record
-      { written = (text, All-from_recursion IsRow rows each); has = (some, fits); few = few }
+  join_sayable some = grind (arith, All-from_recursion, fits, few)
 
   pub leave_sayable : 0 < length rows → IsSayable v (Message.Leave s rows)
-  leave_sayable some = record
-      { written = (text, All-from_recursion IsRow rows each); has = (some, fits); few = few }
+  leave_sayable some = grind (arith, All-from_recursion, fits, few)
 
 -- ---- frames that are read as these parts
 
@@ -98,11 +93,7 @@ pub record IsReadAt (v : ℕ) (f : OutFrame) (ps : List Message2) (k : ℕ) : Ty
 pub reads_at : (v : ℕ) (fs : List OutFrame) (ps : List Message2) → Reads v fs ps → (k : ℕ)
     (f : OutFrame) → slice_get fs k ≡ Some f → IsReadAt v f ps k
 reads_at v [] ps reads k f q = cc
-reads_at v (x ∷ fs) (p ∷ ps) reads zero f q = record {
-  part = p;
-  stands = refl;
-  says = ap (λ y. message_taken v (OutFrame.body y)) (sym (value_of q)) ∙ reads.0.1;
-}
+reads_at v (x ∷ fs) (p ∷ ps) reads zero f q = grind (arith, value_of)
 reads_at v (x ∷ fs) (p ∷ ps) reads (suc k) f q = grind (arith, reads_at v fs ps reads.1 k f q)
 reads_at v (x ∷ fs) [] reads k f q = absurd reads
 
@@ -112,10 +103,8 @@ pub reads_hold : (v : ℕ) (P : OutFrame → Type 0) (Q : Message2 → Type 0)
     → (fs : List OutFrame) (ps : List Message2) → Reads v fs ps → AllByRecursion Q ps
     → AllByRecursion P fs
 reads_hold v P Q each [] [] reads all = tt
-reads_hold v P Q each (f ∷ fs) (p ∷ ps) reads all = (
-  each f p reads.0.0 reads.0.1 all.0,
-  reads_hold v P Q each fs ps reads.1 all.1,
-)
+reads_hold v P Q each (f ∷ fs) (p ∷ ps) reads all =
+    grind (arith, reads_hold v P Q each fs ps reads.1 all.1)
 reads_hold v P Q each [] (p ∷ ps) reads all = absurd reads
 reads_hold v P Q each (f ∷ fs) [] reads all = absurd reads
 
@@ -133,22 +122,15 @@ new_reads v new (p ∷ ps) all = (
 )
 
 pub reads : (v : ℕ) (m : Message) → IsSayable v m → Reads v (said_frames v m) (pieces v m)
-reads v m it = by (v == 2) refl
-  where
-    by : (b : Bool) → (v == 2) ≡ b
-        → Reads v
-        (cond b (map (λ part. record { wide = true; body = message2_bytes part }) (parts m))
-        (wide m ∷ [])) (cond b (parts m) (whole m ∷ []))
-    by true new = new_reads v new (parts m)
-        (recursion_from_All IsMessage2 (parts m) (parts_within m it.written it.has))
-    by false old = (
-      (
-        refl,
-        taken_old v (message_bytes m) old
-            ∙ ap (option_map whole) (message-spelled (message_bytes m) m
-            (record { within = old_message v m old it; bytes = refl })),
-      ),
-      tt,
+reads v m it =
+    grind (
+      arith,
+      new_reads v,
+      recursion_from_All IsMessage2 (parts m) (parts_within m it.written it.has),
+      parts_within m it.written it.has,
+      taken_old v (message_bytes m),
+      message-spelled (message_bytes m) m,
+      old_message v m,
     )
 
 -- a message without rows is one frame, of the same bytes in both versions

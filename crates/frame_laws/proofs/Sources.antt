@@ -39,11 +39,11 @@ module _ (o : Opening) (l : ℕ) where
           → Parted (out_in o l es) (owes (past o es) l e) n y → x.source ≤ y.source
       by so_far (InFirst a less) (InFirst b few) = so_far a b
       by so_far (InFirst a less) (InSecond j is b) =
-          let it = owed_here e.number (owed (past o es) l e.number e.event e.verdict) j y b in
-          omega (
+          grind (
             arith,
-            (is_entry es legal.1 m x a).within,
-            owed_number o es e legal.0 l j y.frame it.frame,
+            owed_here e.number (owed (past o es) l e.number e.event e.verdict) j y b,
+            is_entry es legal.1 m x a,
+            owed_number o es e legal.0 l j y.frame,
           )
       by so_far (InSecond i is a) (InFirst b few) = grind arith
       by so_far (InSecond i is a) (InSecond j at b) =

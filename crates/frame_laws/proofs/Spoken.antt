@@ -30,8 +30,7 @@ pub record IsSpoken (v : ℕ) (h : History) (f : OutFrame) : Type 0 where
 
 hello : (v : ℕ) (h : History) (body : List ℕ) → begins_message (first_byte body) ≡ false
     → IsSpoken v h (narrow body)
-hello v h body q = (let none = no_message v body q in
-    record { says = Hello refl none; own = λ m says. cc })
+hello v h body q = grind (arith, no_message)
 
 means : (v : ℕ) (h : History) (f : OutFrame) (m : Message2) → f.wide ≡ true
     → message_taken v f.body ≡ Some m → is_of h.opening.name (creation h) m ≡ true → IsSpoken v h f
@@ -86,11 +85,13 @@ module _ (h : History) (node : IsNode h) where
         → L (flat_map (λ s. if_told h l s (Message.Leave s) (exit_rows h node s p)) ss)
     exits_hold p [] texts = it.closed.nothing
     exits_hold p (s ∷ ss) texts =
-        it.closed.both (if_told h l s (Message.Leave s) (exit_rows h node s p))
-        (flat_map (λ t. if_told h l t (Message.Leave t) (exit_rows h node t p)) ss)
-        (told_hold s (Message.Leave s) (exit_rows h node s p)
-        (λ t some. exit_is h node l v agrees s p texts.0 t some) (exit_own h node s p))
-        (exits_hold p ss texts.1)
+        grind (
+          arith,
+          told_hold s (Message.Leave s) (exit_rows h node s p),
+          exit_is h node l v agrees s p texts.0,
+          exit_own h node s p,
+          exits_hold p ss texts.1,
+        )
 
     message_hold : is_whole l h.entries ≡ true → (m : Message2)
         → first_broken (message_checks h l m) ≡ None → L (message_owes h l m)

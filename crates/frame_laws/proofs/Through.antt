@@ -94,16 +94,7 @@ module _ (v : ℕ) (s : List ℕ) (front : List OutFrame) (kind : PartKind) (row
 
   within : (m : ℕ) (f : OutFrame) → slice_get fs m ≡ Some f
       → is_part s (message_taken v f.body) ≡ true → IsWithin m f
-  within m f q its = by (part front (block ++ back) m f (ap (λ y. slice_get y m) (sym is) ∙ q))
-    where
-      behind : (k : ℕ) → m ≡ length front + k → Parted block back k f → IsWithin m f
-      behind k at (InFirst r less) = record { place = k; at = at; stands = r }
-      behind k at (InSecond j more r) =
-          lie (sym its ∙ no_rows_at v s back late.no_rows j f r)
-
-      by : Parted front (block ++ back) m f → IsWithin m f
-      by (InFirst r less) = lie (sym its ∙ no_rows_at v s front early.no_rows m f r)
-      by (InSecond k at r) = behind k at (part block back k f r)
+  within m f q its = grind (arith, part, no_rows_at)
 
   module _ (m : ℕ) (f : OutFrame) (it : IsWithin m f) where
     abbrev k : ℕ
@@ -166,8 +157,7 @@ module _ (v : ℕ) (s : List ℕ) (front : List OutFrame) (kind : PartKind) (row
         ∙ message_seen v whole_said can s g p x
       where
         last_is : piece.last ≡ true
-        last_is = (and_parts piece.last (same s s)
-            (sym (ap (λ y. option_map_or (ends_rows s) y false) says) ∙ has)).0
+        last_is = grind (arith, and_parts, says)
 
         place_is : suc (length front + k) ≡ length front + length block
         place_is =
@@ -241,7 +231,7 @@ module _ (v : ℕ) (o : Opening) (l : ℕ) (s : List ℕ) where
         → (f : Message2) → message_taken v x.body ≡ Some f → is_part s (Some f) ≡ true
         → PartSeen m f
     part_seen (Silent calm stays) m x q f says its =
-        lie (sym (ap (is_part s) says ∙ its) ∙ no_rows_at v s fs calm.no_rows m x q)
+        grind (arith, says, no_rows_at v s fs calm.no_rows m x q)
     part_seen (Ended none ends) m x q f says its = grind (arith, no_rows_at v s fs none m x q)
     part_seen (Spoke front kind rows back is early late can it) m x q f taken_is its =
         let here = within v s front kind rows back early late can fs is m x q
@@ -352,14 +342,15 @@ module _ (v : ℕ) (o : Opening) (l : ℕ) (s : List ℕ) where
             earlier_moment o e es x.source (is_entry o l es legal n x r).within,
           )
       moments n x (InSecond m at r) has g p =
-          let here = owed_here e.number fs m x r in
-          ap (λ ys. view_of v s g p (bodies_of ys))
-          (now_take (n + 1) (suc m) (omega arith))
-          ∙ view_after v (out_in o l es) ends e.number (take (suc m) fs) s g p
-          ∙ then_seen tells m x.frame here.frame has g p
-          ∙ ap (λ h. Some (own h s g p))
-          (sym (this_moment o e es x.source
-          (here.source ∙ owed_number o es e made l m x.frame here.frame)))
+          grind (
+            arith,
+            owed_here e.number fs m x r,
+            now_take (n + 1) (suc m) (omega arith),
+            view_after v (out_in o l es) ends e.number (take (suc m) fs) s g p,
+            then_seen tells m x.frame,
+            this_moment o e es x.source,
+            owed_number o es e made l m x.frame,
+          )
 
       now : told o l s (e ∷ es) ≡ true → (g : List ℕ) (p : Pid)
           → view_of v s g p (bodies_of (out_in o l (e ∷ es))) ≡ Some (own (past o (e ∷ es)) s g p)
@@ -367,12 +358,7 @@ module _ (v : ℕ) (o : Opening) (l : ℕ) (s : List ℕ) where
 
   pub passes : (es : List Entry) → IsNode (past o es) → Speaks o l v es → AllTell v o l s es
       → PassesThrough v (past o es) l s
-  passes [] node speaks tell = record {
-    moments = λ n x q has g p. cc;
-    now = λ t g p. cc;
-    few = λ n x q kind number last rows says. cc;
-    there = λ n x q number last rows says. cc;
-  }
+  passes [] node speaks tell = grind arith
   passes (e ∷ es) node speaks tell =
       let was = node_before o e es node in
       let before = passes es was speaks.1 tell.1 in

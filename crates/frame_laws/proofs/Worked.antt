@@ -36,64 +36,43 @@ script =
 abbrev after_it : History
 after_it = play node (calls script)
 
--- link 3 was opened by its peer, and proved by entry 6
-opened : opening_of 3 after_it.entries ≡ Some (ByPeer 123)
-unfolding md5 digest_bytes hash_after compress rounds block_words digits name_frame challenge_frame
-    reply_frame ack_frame status_of read_message read_message2
-opened = refl
-
-proved : proved_at 3 after_it.entries ≡ Some 6
-unfolding md5 digest_bytes hash_after compress rounds block_words digits name_frame challenge_frame
-    reply_frame ack_frame status_of read_message read_message2
-proved = refl
-
--- the status and the Challenge have one source, then come Ack and Discover, Sync and Discover, Join
--- and Leave
-sources : map (λ x. x.source) (out after_it 3) ≡ 4 ∷ 4 ∷ 6 ∷ 6 ∷ 8 ∷ 8 ∷ 9 ∷ 10 ∷ []
-unfolding md5 digest_bytes hash_after compress rounds block_words digits name_frame challenge_frame
-    reply_frame ack_frame status_of read_message read_message2
-sources = refl
-
--- the first four were handed out, two at a time
-handed_out : length (sent 3 after_it.entries) ≡ 4
-unfolding md5 digest_bytes hash_after compress rounds block_words digits name_frame challenge_frame
-    reply_frame ack_frame status_of read_message read_message2
-handed_out = refl
-
--- the peer is told, and sees each moment of the own rows: none, two, one
-told_now : told after_it.opening 3 (codes "pg") after_it.entries ≡ true
-unfolding md5 digest_bytes hash_after compress rounds block_words digits name_frame challenge_frame
-    reply_frame ack_frame status_of read_message read_message2
-told_now = refl
-
 abbrev view_at : ℕ → Option ℕ
 view_at place = view_of 1 (codes "pg") (codes "g") one (bodies_of (take place (out after_it 3)))
 
-views : view_at 4 ∷ view_at 5 ∷ view_at 7 ∷ view_at 8 ∷ [] ≡ None ∷ Some 0 ∷ Some 2 ∷ Some 1 ∷ []
-unfolding md5 digest_bytes hash_after compress rounds block_words digits name_frame challenge_frame
-    reply_frame ack_frame status_of read_message read_message2
-views = refl
+abbrev own_at : ℕ → ℕ
+own_at k = own (moment k after_it) (codes "pg") (codes "g") one
 
-moments : own (moment 8 after_it) (codes "pg") (codes "g") one ∷ own (moment 9 after_it)
-    (codes "pg") (codes "g") one ∷ own (moment 10 after_it) (codes "pg") (codes "g") one ∷ [] ≡ 0
-    ∷ 2 ∷ 1 ∷ []
-unfolding md5 digest_bytes hash_after compress rounds block_words digits name_frame challenge_frame
-    reply_frame ack_frame status_of read_message read_message2
-moments = refl
+record HasValues : Type 0 where
+  -- link 3 was opened by its peer, and proved by entry 6
+  opened : opening_of 3 after_it.entries ≡ Some (ByPeer 123)
+  proved : proved_at 3 after_it.entries ≡ Some 6
+  -- the status and the Challenge have one source, then come Ack and Discover, Sync and Discover,
+  -- Join and Leave
+  sources : map (λ x. x.source) (out after_it 3) ≡ 4 ∷ 4 ∷ 6 ∷ 6 ∷ 8 ∷ 8 ∷ 9 ∷ 10 ∷ []
+  -- the first four were handed out, two at a time
+  handed_out : length (sent 3 after_it.entries) ≡ 4
+  -- the peer is told, and sees each moment of the own rows: none, two, one
+  told_now : told after_it.opening 3 (codes "pg") after_it.entries ≡ true
+  views : view_at 4 ∷ view_at 5 ∷ view_at 7 ∷ view_at 8 ∷ [] ≡ None ∷ Some 0 ∷ Some 2 ∷ Some 1 ∷ []
+  moments : own_at 8 ∷ own_at 9 ∷ own_at 10 ∷ [] ≡ 0 ∷ 2 ∷ 1 ∷ []
+  -- of the five frames that came, the Sync and the Join are of the present hearing, and what is
+  -- known is what they say
+  heard_so : told_rows after_it.opening 3 (codes "pg") after_it.entries ≡ 4 ∷ 3 ∷ []
+  known_so : known after_it.opening 3 (codes "pg") (codes "g") theirs after_it.entries ≡ Some 1
+  said_so : view_of 1 (codes "pg") (codes "g") theirs (delivered 3 after_it.entries) ≡ Some 1
 
--- of the five frames that came, the Sync and the Join are of the present hearing, and what is known
--- is what they say
-heard_so : told_rows after_it.opening 3 (codes "pg") after_it.entries ≡ 4 ∷ 3 ∷ []
+values : HasValues
 unfolding md5 digest_bytes hash_after compress rounds block_words digits name_frame challenge_frame
     reply_frame ack_frame status_of read_message read_message2
-heard_so = refl
-
-known_so : known after_it.opening 3 (codes "pg") (codes "g") theirs after_it.entries ≡ Some 1
-unfolding md5 digest_bytes hash_after compress rounds block_words digits name_frame challenge_frame
-    reply_frame ack_frame status_of read_message read_message2
-known_so = refl
-
-said_so : view_of 1 (codes "pg") (codes "g") theirs (delivered 3 after_it.entries) ≡ Some 1
-unfolding md5 digest_bytes hash_after compress rounds block_words digits name_frame challenge_frame
-    reply_frame ack_frame status_of read_message read_message2
-said_so = refl
+values = record {
+  opened = refl;
+  proved = refl;
+  sources = refl;
+  handed_out = refl;
+  told_now = refl;
+  views = refl;
+  moments = refl;
+  heard_so = refl;
+  known_so = refl;
+  said_so = refl;
+}
