@@ -1,29 +1,23 @@
 -- Where a peer is heard, its scope runs, its link is up and visible; and what it may say is
 -- accepted.
 use Rattle.frame_laws.proofs
-use proofs.Words.{Accepted, agrees, and_parts, ap, AreFrom, AreStated, arith, Begun, Bool, but}
-use proofs.Words.{cond, Entry, eqb-true, Event, events, false, fewer_length, filter, filter-append}
-use proofs.Words.{first_broken, flat_map, frame_taken, fresh, group_named, groups, groups_are}
-use proofs.Words.{groups_named, has_sync, HasRoom, heard, heard_runs, heard_whole, History}
-use proofs.Words.{how_many_append, is_accepted, is_from, is_full, is_local, is_peer, is_running}
-use proofs.Words.{is_up, is_visible, is_whole, IsListing, IsPlayed, IsPlayedIn, IsRowListing}
-use proofs.Words.{judgement, kept_peers, le-leb, length, length-append, lie, List, list_all}
-use proofs.Words.{list_all-append, listed, listed_named, map, MaySay, members, members_are}
-use proofs.Words.{Message2, message_checks, nat_le, None, occurrences, opened, Opening, Option}
-use proofs.Words.{PartKind, past, peer_foreign, peer_limit, peer_of, peer_rows, Pid, pid_named}
-use proofs.Words.{pids_named, present_link, refl, Reply, Row, row, rows_are, rows_before}
-use proofs.Words.{rows_kept, rows_of, said_at, same, same_decides, same_pid, same_row}
-use proofs.Words.{same_row_decides, scope_in, so_far, Some, stands_in, stated, sym, taken, talk}
-use proofs.Words.{talk_of, true, Verdict, verdict, whole_awaits, ℕ, [], ◌&&◌, ◌++◌, ◌+◌, ◌<◌, ◌==◌}
-use proofs.Words.{◌∙◌, ◌∷◌, ◌≡◌, ◌≤◌}
+use proofs.Words.{Accepted, agrees, and_parts, AreFrom, AreStated, arith, Bool, but, cond, Entry}
+use proofs.Words.{eqb-true, Event, events, false, fewer_length, filter, filter-append, first_broken}
+use proofs.Words.{flat_map, frame_taken, fresh, group_named, groups, groups_are, groups_named}
+use proofs.Words.{has_sync, HasRoom, heard, heard_runs, heard_whole, History, how_many_append}
+use proofs.Words.{is_accepted, is_from, is_full, is_local, is_peer, is_running, is_up, is_visible}
+use proofs.Words.{is_whole, IsPlayed, IsPlayedIn, IsRowListing, judgement, kept_peers, le-leb}
+use proofs.Words.{length, length-append, List, list_all, list_all-append, listed, listed_named, map}
+use proofs.Words.{MaySay, members, members_are, Message2, message_checks, nat_le, None, occurrences}
+use proofs.Words.{opened, Opening, PartKind, past, peer_foreign, peer_limit, peer_of, peer_rows}
+use proofs.Words.{Pid, pid_named, pids_named, present_link, refl, Reply, Row, row, rows_are}
+use proofs.Words.{rows_of, said_at, same, same_decides, same_pid, same_row, same_row_decides}
+use proofs.Words.{scope_in, so_far, Some, stands_in, stated, taken, talk, talk_of, true, Verdict}
+use proofs.Words.{verdict, whole_awaits, ℕ, [], ◌&&◌, ◌++◌, ◌+◌, ◌<◌, ◌==◌, ◌∷◌, ◌≡◌, ◌≤◌}
 
 -- ---- a peer that is heard is visible
 
 module _ (o : Opening) (s : List ℕ) where
-  -- a message is accepted over a visible link alone
-  shown_by : (es : List Entry) (k : ℕ) (f : Message2)
-      → first_broken (message_checks (past o es) k f) ≡ None → is_visible (past o es) k ≡ true
-  shown_by es k f met = grind arith
 
   module _ (es : List Entry) (e : Entry) (legal : IsPlayedIn o es) (fresh_is : opened e.number es
       ≡ None)
@@ -178,11 +172,6 @@ module _ (h : History) (legal : IsPlayed h) (l : ℕ) (s : List ℕ)
 -- ---- what it may say breaks no rule
 
 module _ (h : History) (legal : IsPlayed h) (l : ℕ) where
-  -- the rows that were kept are from the peer
-  before_from : (b : Option Begun) (kind : PartKind) (s : List ℕ) (number : ℕ)
-      → list_all (λ r. is_from l h.entries r.pid) (rows_kept b) ≡ true
-      → list_all (λ r. is_from l h.entries r.pid) (rows_before b kind s number) ≡ true
-  before_from y kind s number q = grind arith
 
   so_far_from : (kind : PartKind) (s : List ℕ) (number : ℕ) (rows : List Row) → AreFrom h l rows
       → AreFrom h l (so_far h l kind s number rows)

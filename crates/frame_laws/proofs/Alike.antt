@@ -1,13 +1,12 @@
 -- What an accepted message makes of what is kept, and of what all that came makes.
 use Rattle.frame_laws.proofs
-use proofs.Words.{Accepted, accepted, all_hold, always, ap, arith, awaits, Begun, begun, begun_of}
-use proofs.Words.{Bool, but, completed, cond, delivered, Entry, eqb-true, Event, false}
-use proofs.Words.{first_broken, frame_checks, frame_taken, heard, History, is_next, is_open, is_up}
-use proofs.Words.{is_whole, IsPlayedIn, IsStep, judgement, kept_after, lie, link_version, List}
-use proofs.Words.{Message, Message2, message_checks, message_of, message_taken, None, none_begun}
-use proofs.Words.{open_first, Opening, Option, option_and_then, option_map_or, option_to_list}
-use proofs.Words.{PartKind, past, Pid, Reply, Row, rows_before, Rule, same, same_decides, seen_by}
-use proofs.Words.{Some, subst, sym, true, unbroken, ℕ, ◌&&◌, ◌++◌, ◌==◌, ◌||◌, ◌∙◌, ◌≡◌}
+use proofs.Words.{Accepted, accepted, all_hold, always, arith, awaits, begun, begun_of, Bool, but}
+use proofs.Words.{completed, delivered, Entry, eqb-true, Event, first_broken, frame_checks}
+use proofs.Words.{frame_taken, heard, History, is_next, is_open, is_up, is_whole, IsPlayedIn}
+use proofs.Words.{IsStep, kept_after, link_version, List, Message2, message_checks, message_taken}
+use proofs.Words.{None, none_begun, open_first, Opening, Option, option_and_then, option_map_or}
+use proofs.Words.{option_to_list, PartKind, past, Pid, Reply, Row, Rule, same_decides, seen_by}
+use proofs.Words.{Some, true, unbroken, ℕ, ◌&&◌, ◌==◌, ◌||◌, ◌≡◌}
 use proofs.KeptStands.{rules_met}
 use proofs.NotRefused.{kept_of}
 
@@ -43,36 +42,6 @@ module _ (v : ℕ) (o : Opening) (es : List Entry) (e : Entry) (legal : IsPlayed
     pub begins : (kept_of s (kept_after (begun o l es) x)
         || kept_of s (kept_after (begun_of v bodies) y)) ≡ true
         → kept_after (begun o l es) x ≡ kept_after (begun_of v bodies) y
-
-  module _ (same_kept : kept_of s (begun o l es) ≡ true → begun o l es ≡ begun_of v bodies) where
-    same_before : (kind : PartKind) (number : ℕ) → is_next (begun o l es) kind s number ≡ true
-        → rows_before (begun o l es) kind s number ≡ rows_before (begun_of v bodies) kind s number
-    same_before kind number next = grind arith
-
-    -- a part of s
-    part_alike : (kind : PartKind) (number : ℕ) (last : Bool) (rows : List Row)
-        → is_next (begun o l es) kind s number ≡ true
-        → AcceptsAlike (Some (Message2.Part kind s number last rows))
-        (Some (Message2.Part kind s number last rows))
-    part_alike kind number last rows next = grind (arith, same_before)
-
-  other_views : (kind : PartKind) (t : List ℕ) (last : Bool) (xs : List Row) → same t s ≡ false
-      → (g : List ℕ) (p : Pid) (w : Option ℕ)
-      → seen_by s g p (option_to_list (cond {A = Option Message} last
-      (Some (message_of kind t xs)) None)) w ≡ w
-  other_views kind t last xs other g p w = grind arith
-
-  other_kept : (kind : PartKind) (t : List ℕ) (number : ℕ) (last : Bool) (xs : List Row)
-      → same t s ≡ false → kept_of s (cond {A = Option Begun} last None
-      (Some (record { kind = kind; scope = t; number = number; rows = xs }))) ≡ false
-  other_kept kind t number last xs other = grind arith
-
-  -- of another scope
-  other_alike : (kind : PartKind) (t : List ℕ) (number : ℕ) (last : Bool) (rows : List Row)
-      → same t s ≡ false
-      → AcceptsAlike (Some (Message2.Part kind t number last rows))
-      (Some (Message2.Part kind t number last rows))
-  other_alike kind t number last rows other = grind (arith, other_views, other_kept)
 
   next_of : (kind : PartKind) (t : List ℕ) (number : ℕ) (last : Bool) (rows : List Row)
       → first_broken (message_checks h l (Message2.Part kind t number last rows)) ≡ None

@@ -1,6 +1,6 @@
 -- What is begun at a place in what a node owed is the first parts of one message.
 use Rattle.frame_laws.proofs
-use proofs.Words.{ap, arith, Begun, begun_after, begun_by, begun_of, bodies_of, Bool, cond, drop}
+use proofs.Words.{ap, arith, Begun, begun_after, begun_by, begun_of, bodies_of, Bool, cond}
 use proofs.Words.{drop-append-add, drop-append-le, Entry, false, frames_said, History, is_some}
 use proofs.Words.{IsBegun, IsNode, leb-false, leb-true, length, length-append, length-drop}
 use proofs.Words.{length-map, lie, List, map, map-append, Message, Message2, message_taken, narrow}
@@ -103,9 +103,6 @@ module _ (v : ℕ) where
           alone : (n : ℕ) → begun_by None (take (suc n) (f ∷ [])) ≡ begun_after None f
           alone zero = refl
           alone (suc n) = refl
-
-      whole_after : (m : Message) → begun_after None (whole m) ≡ None
-      whole_after m = grind arith
 
       by : (b : Bool) → (v == 2) ≡ b → (m : Message)
           → begun_by None (take n (cond b (parts m) (whole m ∷ []))) ≡ Some k

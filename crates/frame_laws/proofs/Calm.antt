@@ -1,11 +1,11 @@
 -- What frames make of a view, and which leave it.
 use Rattle.frame_laws.proofs
 use proofs.Words.{all_append, AllByRecursion, ap, AreThere, arith, begun_by, Bool, completed_by}
-use proofs.Words.{drop, false, flat_map-append, frames_said, has_rows, is_about_rows, IsFew}
-use proofs.Words.{IsText, List, map-append, max_rows, Message, Message2, message_taken, narrow}
-use proofs.Words.{None, Option, option_to_list, OutFrame, PartKind, parts_from, Pid, refl, Row}
-use proofs.Words.{said_frames, same, seen, seen_by, slice_get, so_far_behind, Some, subst, suc}
-use proofs.Words.{true, view_of, wide, zero, ℕ, [], ◌++◌, ◌∙◌, ◌∷◌, ◌≡◌}
+use proofs.Words.{drop, false, flat_map-append, frames_said, has_rows, is_about_rows, IsFew, IsText}
+use proofs.Words.{List, map-append, max_rows, Message, Message2, message_taken, narrow, None}
+use proofs.Words.{Option, OutFrame, PartKind, parts_from, Pid, refl, Row, said_frames, same, seen}
+use proofs.Words.{seen_by, slice_get, so_far_behind, Some, subst, suc, true, view_of, wide, zero, ℕ}
+use proofs.Words.{[], ◌++◌, ◌∙◌, ◌∷◌, ◌≡◌}
 use proofs.Handshakes.{begins_message, first_byte, IsClosed, no_message}
 use proofs.Pieces.{begun_apart, completed_apart, pieces, pieces_complete, pieces_end}
 use proofs.Sayable.{asks_alike, asks_sayable, downs_alike, downs_sayable, IsSayable, reads}

@@ -1,11 +1,10 @@
 -- The rows of each message are of the node's own name, and of its creation at the opening of the
 -- link.
 use Rattle.frame_laws.proofs
-use proofs.Words.{Accepted, ap, arith, Bool, but, creation, entered, Entry, Event, false, is_of}
-use proofs.Words.{is_open, is_opened_by, is_some, IsNode, lie, List, Message2, message_taken}
-use proofs.Words.{moment, nat_le, None, Opening, out_in, OutFrame, owed, owes, Owing}
-use proofs.Words.{own_name_frame, past, refl, slice_get, Some, Speaks, subst, sym, true, unowed}
-use proofs.Words.{Verdict, ℕ, [], ◌∙◌, ◌∷◌, ◌≡◌, ◌≤◌}
+use proofs.Words.{Accepted, arith, Bool, but, creation, entered, Entry, Event, is_of, is_opened_by}
+use proofs.Words.{IsNode, List, Message2, message_taken, moment, nat_le, None, Opening, out_in}
+use proofs.Words.{OutFrame, owed, owes, Owing, own_name_frame, past, refl, slice_get, Some, Speaks}
+use proofs.Words.{subst, true, unowed, Verdict, ℕ, [], ◌∷◌, ◌≡◌, ◌≤◌}
 use proofs.Handshakes.{no_message}
 use proofs.Openings.{open_low, same_creation, unborn_out}
 use proofs.Places.{all_at, earlier_moment, InFirst, InSecond, owed_here, part, Parted}

@@ -3,10 +3,9 @@ use Rattle.frame_laws.proofs
 use proofs.Words.{Accepted, accepted, all_append, AllByRecursion, and_frame, and_parts, ap, arith}
 use proofs.Words.{Bool, but, ByDial, ByPeer, came, cond, delivered, ends, Entry, eqb-true, Event}
 use proofs.Words.{false, Far, far, frame_fits, fresh, is_open, is_whole, IsAskedOnce, IsNamedFirst}
-use proofs.Words.{IsPlayedIn, judgement, length, List, nat_le, None, none_taken, not, Opened}
-use proofs.Words.{opened, Opening, Option, past, refl, Refused, Reply, Rule, slice_get, Some}
-use proofs.Words.{Start, subst, sym, Taken, taken, true, Verdict, ℕ, [], ◌&&◌, ◌++◌, ◌==◌, ◌||◌}
-use proofs.Words.{◌∙◌, ◌∷◌, ◌≡◌}
+use proofs.Words.{IsPlayedIn, judgement, List, None, none_taken, not, Opened, opened, Opening}
+use proofs.Words.{Option, past, refl, Refused, Reply, Rule, slice_get, Some, Start, subst, sym}
+use proofs.Words.{Taken, taken, true, Verdict, ℕ, [], ◌&&◌, ◌++◌, ◌==◌, ◌||◌, ◌∙◌, ◌∷◌, ◌≡◌}
 use proofs.Bodies.{stands_first, stands_last}
 
 -- ---- the first frame on a link that its peer opened
@@ -108,9 +107,6 @@ module _ (o : Opening) (l : ℕ) where
     where
       by : Began l es → IsNamedFirst l es
       by (Nothing no_taken no_body) = cc
-        where
-          unwhole : is_whole l es ≡ false
-          unwhole = grind (arith, opens, no_taken)
       by (First t rest first stands) =
           let walk = subst (λ x. Far o x (t ∷ rest)) opens
           (subst (Far o (opened l es)) first (far o es legal l)) in
@@ -153,8 +149,6 @@ module _ (o : Opening) (l : ℕ) where
       → IsAskedOnce l n es
   asked_once es legal n c bo opens whole = by (taken l es) refl
     where
-      long : (ts : List Taken) → taken l es ≡ ts → nat_le 3 (length ts) ≡ true
-      long ts is = grind arith
 
       by : (ts : List Taken) → taken l es ≡ ts → IsAskedOnce l n es
       by [] is = cc

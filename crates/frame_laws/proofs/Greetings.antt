@@ -10,9 +10,9 @@ use proofs.Words.{link_version, List, Message, Message2, message_taken, moment, 
 use proofs.Words.{name_frame, name_frame-spelled, narrow, Opening, opening_of, out_in, OutFrame}
 use proofs.Words.{owed, owes, Owing, owing, own_challenge, own_flags, own_hello, own_name_frame}
 use proofs.Words.{past, refl, said_frames, slice_get, Some, SpellsChallenge-read, start_of}
-use proofs.Words.{status_frame, StatusWord, sym, true, unowed, Verdict, version_bytes}
-use proofs.Words.{version_read, wide, ℕ, [], ◌+◌, ◌<◌, ◌==◌, ◌^◌, ◌∙◌, ◌∷◌, ◌≡◌, ◌≤◌}
-use proofs.Handshakes.{all_closed, begins_it, begins_message, first_byte, HoldsOfHellos}
+use proofs.Words.{status_frame, StatusWord, sym, true, unowed, Verdict, version_bytes, version_read}
+use proofs.Words.{wide, ℕ, [], ◌+◌, ◌<◌, ◌==◌, ◌^◌, ◌∙◌, ◌∷◌, ◌≡◌, ◌≤◌}
+use proofs.Handshakes.{all_closed, begins_it, first_byte, HoldsOfHellos}
 use proofs.Pieces.{pieces}
 use proofs.Openings.{opening_low, same_creation, unborn_out}
 use proofs.OwnLimits.{own_creation_fits}
@@ -27,10 +27,6 @@ use proofs.Sayable.{IsSayable, reads, reads_hold}
 not_asked : (body : List ℕ) → (first_byte body == 0x4E) ≡ false → (f : Challenge)
     → challenge_frame body ≡ Some f → ⊥
 not_asked body other f q = grind (arith, SpellsChallenge-read body f q, eqb-false, first_byte)
-
--- nor does one that begins as a message does
-begins_other : (byte : ℕ) → begins_message byte ≡ true → (byte == 0x4E) ≡ false
-begins_other byte q = grind arith
 
 flags_fit : (hidden : Bool) → own_flags hidden < 2 ^ 64
 flags_fit hidden = grind arith

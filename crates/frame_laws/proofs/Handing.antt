@@ -2,11 +2,11 @@
 use Rattle.frame_laws.proofs
 use proofs.Numbers.{entered_more, unopened}
 use proofs.Words.{Accepted, and_parts, append-nil, append_assoc, arith, Bool, but, drops, ends}
-use proofs.Words.{entered, Entry, eq-eqb, eqb-true, Event, false, frames_of, handed, is_open}
-use proofs.Words.{is_opened_by, IsPlayedIn, IsStep, leb-false, leb-true, List, map-append, nat_le}
-use proofs.Words.{open_opened, Opening, out_in, OutFrame, owed, past, refl, Refused, Reply, sent}
-use proofs.Words.{true, unborn, unborn_waiting, unowed, Verdict, waiting, waiting_in, ℕ, [], ◌&&◌}
-use proofs.Words.{◌++◌, ◌+◌, ◌<◌, ◌==◌, ◌∙◌, ◌∷◌, ◌≡◌, ◌≤◌}
+use proofs.Words.{entered, Entry, eq-eqb, Event, false, frames_of, handed, is_open, is_opened_by}
+use proofs.Words.{IsPlayedIn, IsStep, leb-false, leb-true, List, map-append, open_opened, Opening}
+use proofs.Words.{out_in, OutFrame, owed, past, refl, Refused, Reply, sent, true, unborn}
+use proofs.Words.{unborn_waiting, unowed, Verdict, waiting, waiting_in, ℕ, [], ◌&&◌, ◌++◌, ◌<◌}
+use proofs.Words.{◌==◌, ◌∙◌, ◌∷◌, ◌≡◌, ◌≤◌}
 use proofs.Places.{frames_owing}
 
 -- what was owed and not handed out: it waits, or it was dropped with the link
@@ -23,9 +23,6 @@ pub record IsHanded (o : Opening) (l : ℕ) (es : List Entry) : Type 0 where
 pub unborn_open : (o : Opening) (es : List Entry) → IsPlayedIn o es → (l : ℕ) → entered es < l
     → is_open l es ≡ false
 unborn_open o es legal l above = grind (arith, unborn o es legal l above, open_opened l es)
-
-apart : (a n l : ℕ) → a ≡ n + 1 → l ≤ n → (a == l) ≡ false
-apart a n l is le = grind (arith, eqb-true)
 
 module _ (o : Opening) (es : List Entry) (e : Entry) (l : ℕ) (legal : IsPlayedIn o es)
   where

@@ -1,16 +1,15 @@
 -- The frames of the handshake, whose bodies spell no message.
 use Rattle.frame_laws.proofs
-use proofs.Words.{ack_bytes, AckFrame, all_append, AllByRecursion, ap, arith, AwaitAck}
-use proofs.Words.{AwaitAnswer, AwaitChallenge, Awaited, AwaitMessage, AwaitName, AwaitReply}
-use proofs.Words.{AwaitStatus, Bool, Challenge, challenge_frame, cond, digest_for, discovers}
-use proofs.Words.{false, frame_owes, frame_taken, get_or, History, is_dialling, is_name_up, IsNode}
-use proofs.Words.{IsText, lie, List, map, Message, Message2, message2_bytes, message_bytes}
-use proofs.Words.{message_owes, message_taken, narrow, None, Option, option_map, option_map_or}
-use proofs.Words.{OutFrame, own_challenge, own_challenge_frame, own_name_frame, read_message}
-use proofs.Words.{read_message2, refl, refusal_owes, reply_bytes, reply_frame, ReplyFrame, Rule}
-use proofs.Words.{Some, SpellsMessage, SpellsMessage-read, SpellsMessage2, SpellsMessage2-read}
-use proofs.Words.{status_frame, status_of, StatusWord, sym, true, true_to, welcome, whole, wide, ℕ}
-use proofs.Words.{[], ◌++◌, ◌==◌, ◌||◌, ◌∙◌, ◌∷◌, ◌≡◌}
+use proofs.Words.{ack_bytes, AckFrame, all_append, AllByRecursion, ap, arith, AwaitAck, AwaitAnswer}
+use proofs.Words.{AwaitChallenge, Awaited, AwaitMessage, AwaitName, AwaitReply, AwaitStatus, Bool}
+use proofs.Words.{Challenge, challenge_frame, cond, digest_for, discovers, false, frame_owes}
+use proofs.Words.{frame_taken, get_or, History, is_dialling, is_name_up, IsNode, IsText, List, map}
+use proofs.Words.{Message, Message2, message2_bytes, message_bytes, message_owes, message_taken}
+use proofs.Words.{narrow, None, Option, option_map, option_map_or, OutFrame, own_challenge}
+use proofs.Words.{own_challenge_frame, own_name_frame, read_message, read_message2, refl}
+use proofs.Words.{refusal_owes, reply_bytes, reply_frame, ReplyFrame, Rule, Some}
+use proofs.Words.{SpellsMessage-read, SpellsMessage2-read, status_frame, status_of, StatusWord}
+use proofs.Words.{true, true_to, welcome, whole, wide, ℕ, [], ◌++◌, ◌==◌, ◌||◌, ◌∷◌, ◌≡◌}
 use proofs.OwnLimits.{scopes_text}
 
 -- ---- bodies

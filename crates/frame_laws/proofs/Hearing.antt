@@ -7,8 +7,8 @@ use proofs.Words.{is_whole, IsGiven, IsHonest, IsPlayedIn, IsStep, KeepsOrNot, k
 use proofs.Words.{length, lie, link_version, List, Message, message_taken, None, none_begun}
 use proofs.Words.{Opening, Option, option_map_or, option_to_list, past, Pid, refl, Refused, Reply}
 use proofs.Words.{Rule, said_at, same_decides, says_rows, seen_by, slice_get_within, Some, Speaks}
-use proofs.Words.{stated, subst, sym, take-append-le, tells_rows, told_rows, true, Verdict}
-use proofs.Words.{view_of, ℕ, [], ◌&&◌, ◌++◌, ◌+◌, ◌==◌, ◌||◌, ◌∙◌, ◌∷◌, ◌≡◌}
+use proofs.Words.{stated, subst, sym, take-append-le, tells_rows, told_rows, true, Verdict, view_of}
+use proofs.Words.{ℕ, [], ◌&&◌, ◌++◌, ◌+◌, ◌==◌, ◌||◌, ◌∙◌, ◌∷◌, ◌≡◌}
 use proofs.Accepting.{is_up_there}
 use proofs.Bodies.{anew, apart_so, begun_more, completes_there, honest_first, is_known, left_so}
 use proofs.Bodies.{says_ends, stands_first, stands_last, take_last, view_more}
@@ -41,10 +41,6 @@ module _ (v : ℕ) (o : Opening) (es : List Entry) (e : Entry) (legal : IsPlayed
       (before : Before v o l s es) where
     it : HeardIsSaid v h l s
     it = before (heard_before v o es e legal l agrees s ev w hears same_known)
-
-    same_stated : (g : List ℕ) (p : Pid)
-        → stated o l s g p (but e ev w ∷ es) ≡ stated o l s g p es
-    same_stated = grind arith
 
     same_told : told_rows o l s (but e ev w ∷ es) ≡ it.place ∷ it.earlier
     same_told = grind arith

@@ -3,12 +3,12 @@
 use Rattle.frame_laws.proofs
 use proofs.Words.{Accepted, all_hold, always, ap, arith, Begun, begun, Bool, but, completed, cond}
 use proofs.Words.{Entry, entry_link, eq-eqb, eqb-true, Event, false, first_broken, frame_taken}
-use proofs.Words.{fresh, given_kept, has_bit, heard, is_opened_by, is_running, is_some, is_up}
-use proofs.Words.{is_visible, is_whole, IsPlayedIn, IsStep, judgement, kept_after, lie, List}
-use proofs.Words.{Message2, message_checks, None, none_begun, not, opened, Opening, Option}
-use proofs.Words.{option_and_then, option_map_or, PartKind, past, refl, Refused, Reply, Row, Rule}
-use proofs.Words.{said_at, same, same_decides, Some, start_of, subst, sym, taken, talk, true}
-use proofs.Words.{unbroken, Verdict, ℕ, [], ◌&&◌, ◌==◌, ◌||◌, ◌∙◌, ◌∷◌, ◌≡◌}
+use proofs.Words.{fresh, given_kept, has_bit, heard, is_running, is_some, is_up, is_visible}
+use proofs.Words.{is_whole, IsPlayedIn, IsStep, judgement, kept_after, List, Message2}
+use proofs.Words.{message_checks, None, none_begun, not, opened, Opening, Option, option_and_then}
+use proofs.Words.{option_map_or, PartKind, past, refl, Refused, Reply, Rule, said_at, same}
+use proofs.Words.{same_decides, Some, start_of, subst, sym, taken, talk, true, unbroken, Verdict, ℕ}
+use proofs.Words.{[], ◌&&◌, ◌==◌, ◌||◌, ◌∙◌, ◌∷◌, ◌≡◌}
 use proofs.Pieces.{value_of}
 
 abbrev pub is_sync : PartKind → Bool
@@ -27,9 +27,6 @@ module _ (o : Opening) (l : ℕ) where
   module _ (es : List Entry) (e : Entry) (legal : IsPlayedIn o es) where
     -- ---- a link that was whole, and is up, was up
 
-    numbered : (x : Entry) → is_opened_by l x ≡ true → (x.number == l) ≡ true
-    numbered x q = grind arith
-
     pub up_back : opened e.number es ≡ None → (ev : Event) (w : Verdict)
         → is_up l (but e ev w ∷ es) ≡ true → is_whole l es ≡ true → is_up l es ≡ true
     up_back new ev w up whole = grind arith
@@ -37,9 +34,6 @@ module _ (o : Opening) (l : ℕ) where
     -- what is begun is begun on a whole link
     pub begun_whole : (k : Begun) → begun o l es ≡ Some k → is_whole l es ≡ true
     begun_whole k is = grind (arith, none_begun o es legal l)
-
-    or_heard : (b c d : Bool) → (b || c) ≡ true → (c ≡ true → d ≡ true) → (b || d) ≡ true
-    or_heard b c d q f = grind arith
 
     still : IsStep (past o es) e → (ev : Event) (w : Verdict)
         → begun o l (but e ev w ∷ es) ≡ begun o l es
@@ -77,12 +71,6 @@ module _ (o : Opening) (l : ℕ) where
       kept_talk : said_at o l es body ≡ None
           → talk o l (fr ∷ es) ≡ talk o l es
       kept_talk none = grind (arith, eq-eqb l l, whole, none)
-
-      heard_met : (kind : PartKind) (s : List ℕ) (number : ℕ) (last : Bool) (rows : List Row)
-          → first_broken (message_checks (past o es) l (Message2.Part kind s number last rows))
-          ≡ None → (is_sync kind || heard o l s es) ≡ true
-      heard_met PartKind.Sync s number last rows met = refl
-      heard_met kind s number last rows met = grind arith
 
       part_stands : (x : Option Message2) → frame_taken o l es body ≡ x
           → first_broken (option_map_or (message_checks (past o es) l) x (always Rule.BadFrame))

@@ -1,13 +1,12 @@
 -- What is known over a link after an entry: what its message makes of what was known before.
 use Rattle.frame_laws.proofs
-use proofs.Words.{Accepted, accepted, ap, arith, Awaited, AwaitMessage, awaits, Bool, but, ByDial}
-use proofs.Words.{ByPeer, cond, done_now, Entry, eq-eqb, eqb-true, Event, false, first_broken}
-use proofs.Words.{frame_checks, framed_heard, fresh, heard, hears, History, is_last, is_message}
-use proofs.Words.{is_open, is_whole, IsPlayedIn, IsStep, known, List, Message, message_at}
-use proofs.Words.{message_heard, None, not, open_first, Opening, opening_heard, option_to_list}
-use proofs.Words.{past, Pid, proved_heard, refl, Refused, Reply, Said, said_at, seen, seen_by}
-use proofs.Words.{Some, stated_in, sym, Talk, talk, true, unwrap_or, Verdict, whole_is_message, ℕ}
-use proofs.Words.{[], ◌&&◌, ◌==◌, ◌∙◌, ◌∷◌, ◌≡◌}
+use proofs.Words.{Accepted, ap, arith, Awaited, AwaitMessage, awaits, Bool, but, ByDial, ByPeer}
+use proofs.Words.{cond, Entry, eq-eqb, eqb-true, Event, false, first_broken, frame_checks, heard}
+use proofs.Words.{hears, History, is_message, is_whole, IsPlayedIn, IsStep, known, List, Message}
+use proofs.Words.{message_at, message_heard, None, Opening, opening_heard, option_to_list, past}
+use proofs.Words.{Pid, refl, Refused, Reply, Said, said_at, seen, seen_by, Some, stated_in, sym}
+use proofs.Words.{Talk, talk, true, unwrap_or, Verdict, whole_is_message, ℕ, [], ◌&&◌, ◌==◌, ◌∙◌}
+use proofs.Words.{◌∷◌, ◌≡◌}
 use proofs.Refusals.{was_so, within_hello}
 
 module _ (s g : List ℕ) (p : Pid) where

@@ -1,18 +1,17 @@
 -- What each other event says of a scope to a link, and so what every entry says.
 use Rattle.frame_laws.proofs
 use proofs.Refusals.{found, was_so, within_hello}
-use proofs.Words.{Accepted, accepted, all_hold, always, ap, arith, Awaited, AwaitMessage, awaits}
-use proofs.Words.{Begun, begun, Bool, but, ByDial, ByPeer, completed, cond, done_now, Entry}
-use proofs.Words.{eqb-true, Event, false, first_broken, frame_checks, frame_owes, frame_taken}
-use proofs.Words.{framed_heard, fresh, heard, History, if_visible, is_last, is_message, is_open}
-use proofs.Words.{is_running, is_whole, IsListing, IsNode, IsStep, IsText, IsWritten, length}
-use proofs.Words.{link_version, List, local_rows, local_rows_are, max_rows, Message, Message2}
-use proofs.Words.{message_checks, message_heard, message_owes, nat_le, None, not, open_first}
-use proofs.Words.{Opening, opening_heard, Option, option_and_then, option_map_or, OutFrame, owed}
-use proofs.Words.{own, PartKind, past, Pid, proved_heard, refl, refusal_owes, Refused, Reply, Row}
-use proofs.Words.{row, rows_of, Rule, Said, said_at, said_frames, same, same_decides, Some, Speaks}
-use proofs.Words.{subst, sym, tells, told, true, unbroken, unwrap_or, Verdict, whole}
-use proofs.Words.{whole_is_message, wide, ℕ, [], ◌&&◌, ◌++◌, ◌==◌, ◌||◌, ◌∙◌, ◌∷◌, ◌≡◌}
+use proofs.Words.{Accepted, all_hold, always, ap, arith, Awaited, AwaitMessage, awaits, Begun}
+use proofs.Words.{begun, Bool, but, ByDial, ByPeer, completed, cond, Entry, eqb-true, Event, false}
+use proofs.Words.{first_broken, frame_checks, frame_owes, frame_taken, heard, History, if_visible}
+use proofs.Words.{is_message, is_running, is_whole, IsListing, IsNode, IsStep, IsText, IsWritten}
+use proofs.Words.{length, link_version, List, local_rows, local_rows_are, max_rows, Message}
+use proofs.Words.{Message2, message_checks, message_heard, message_owes, nat_le, None, Opening}
+use proofs.Words.{opening_heard, Option, option_and_then, option_map_or, OutFrame, owed, own}
+use proofs.Words.{PartKind, past, Pid, refl, refusal_owes, Refused, Reply, Row, row, rows_of, Rule}
+use proofs.Words.{Said, said_at, said_frames, same, same_decides, Some, Speaks, subst, sym, tells}
+use proofs.Words.{told, true, unbroken, unwrap_or, Verdict, whole_is_message, wide, ℕ, [], ◌++◌}
+use proofs.Words.{◌==◌, ◌||◌, ◌∙◌, ◌∷◌, ◌≡◌}
 use proofs.Calm.{AllCalm, calm_asks, calm_closed, calm_down, calm_hello, calm_message, HasNoRows}
 use proofs.Handshakes.{dial_all, frame_all, HoldsOfHellos, of_hellos, refusal_all}
 use proofs.OwnLimits.{scope_text}

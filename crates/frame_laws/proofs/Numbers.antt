@@ -1,8 +1,8 @@
 -- The numbers of steps: what opens a link or owes a frame is an entry of the audit.
 use Rattle.frame_laws.proofs
-use proofs.Words.{arith, but, entered, Entry, eqb-true, Event, false, is_opened_by, IsNumbered}
-use proofs.Words.{IsStep, List, ltb-true, moment_in, Opening, OutFrame, owed, past, slice_get}
-use proofs.Words.{Some, true, Verdict, ℕ, [], ◌+◌, ◌<◌, ◌∷◌, ◌≡◌, ◌≤◌}
+use proofs.Words.{arith, but, entered, Entry, eqb-true, Event, false, is_opened_by, IsStep, List}
+use proofs.Words.{ltb-true, moment_in, Opening, OutFrame, owed, past, slice_get, Some, true}
+use proofs.Words.{Verdict, ℕ, [], ◌+◌, ◌<◌, ◌∷◌, ◌≡◌, ◌≤◌}
 
 pub entered_more : (e : Entry) (es : List Entry) → entered es ≤ entered (e ∷ es)
 entered_more e es = grind arith
@@ -17,10 +17,6 @@ moment_low k [] = omega arith
 moment_low k (e ∷ es) = grind (arith, moment_low k es, ltb-true (entered es) k)
 
 module _ (o : Opening) (es : List Entry) (e : Entry) where
-  -- what owes a frame
-  owed_by : (l m : ℕ) (f : OutFrame) (ev : Event) (v : Verdict) → IsNumbered (past o es) e.number ev
-      → slice_get (owed (past o es) l e.number ev v) m ≡ Some f → e.number ≡ entered es + 1
-  owed_by l m f ev v here q = grind arith
 
   pub owed_number : IsStep (past o es) e → (l m : ℕ) (f : OutFrame)
       → slice_get (owed (past o es) l e.number e.event e.verdict) m ≡ Some f

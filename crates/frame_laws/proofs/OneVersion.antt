@@ -3,10 +3,10 @@ use Rattle.frame_laws.proofs
 use proofs.Numbers.{entered_more, opens_next}
 use proofs.Words.{Accepted, and_frame, ap, arith, Bool, but, ByDial, ByPeer, cond, entered, Entry}
 use proofs.Words.{entry_link, Event, false, fresh, given, given_by, given_kept, is_open}
-use proofs.Words.{is_opened_by, is_whole, IsPlayedIn, IsStep, lie, link_version, List, Name, None}
+use proofs.Words.{is_opened_by, is_whole, IsPlayedIn, IsStep, link_version, List, Name, None}
 use proofs.Words.{opened, opened_apart, Opening, Option, option_map_or, past, refl, Refused, Some}
-use proofs.Words.{Speaks, sym, Taken, taken, true, unborn, Verdict, whole_by, whole_kept, ℕ, []}
-use proofs.Words.{◌&&◌, ◌<◌, ◌==◌, ◌||◌, ◌∙◌, ◌∷◌, ◌≡◌}
+use proofs.Words.{Speaks, Taken, taken, true, unborn, Verdict, whole_by, whole_kept, ℕ, [], ◌&&◌}
+use proofs.Words.{◌<◌, ◌==◌, ◌||◌, ◌∙◌, ◌∷◌, ◌≡◌}
 use proofs.Spoken.{speaks_now}
 
 module _ (o : Opening) (l : ℕ) where

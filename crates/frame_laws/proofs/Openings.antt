@@ -2,11 +2,9 @@
 -- it is open the creation stays.
 use Rattle.frame_laws.proofs
 use proofs.Numbers.{entered_more, opens_next, unborn_yet}
-use proofs.Words.{Accepted, arith, Bool, but, cond, creation, ends, entered, Entry, eqb-true}
-use proofs.Words.{Event, false, is_open, is_opened_by, IsPlayedIn, leb-true, List, map, moment}
-use proofs.Words.{None, not, Opened, opened, Opening, opening_of, Option, out_in, owing, past}
-use proofs.Words.{refl, Reply, Some, Start, suc, true, unowed, Verdict, zero, ℕ, [], ◌&&◌, ◌++◌}
-use proofs.Words.{◌+◌, ◌<◌, ◌==◌, ◌||◌, ◌∷◌, ◌≡◌, ◌≤◌}
+use proofs.Words.{arith, creation, entered, Entry, eqb-true, is_open, is_opened_by, IsPlayedIn}
+use proofs.Words.{leb-true, List, moment, Opened, opened, Opening, opening_of, out_in, past, refl}
+use proofs.Words.{Some, Start, suc, true, unowed, zero, ℕ, [], ◌<◌, ◌∷◌, ◌≡◌, ◌≤◌}
 use proofs.Handing.{unborn_open}
 use proofs.Places.{earlier_moment, this_moment}
 
@@ -65,22 +63,6 @@ moment_then o (e ∷ es) a k low le =
 pub record IsSinceOpening (o : Opening) (es : List Entry) (l : ℕ) : Type 0 where
   pub same : creation (past o es) ≡ creation (moment l (past o es))
   pub low : l ≤ entered es
-
-module _ (o : Opening) (es : List Entry) (e : Entry) (l : ℕ) (x : Opened) where
-  abbrev Before : Type 0
-  Before = opened l es ≡ Some x → IsSinceOpening o es l
-
-  stays_since : (ev : Event) (v : Verdict) → creation (past o (but e ev v ∷ es)) ≡ creation (past o
-      es) → IsSinceOpening o es l → IsSinceOpening o (but e ev v ∷ es) l
-  stays_since ev v same before = grind arith
-
-  begun_since : (ev : Event) (r : Reply) (st : Start) → e.number ≡ entered es + 1
-      → creation (past o (but e ev (Accepted r) ∷ es)) ≡ creation (past o es) → (b : Bool)
-      → (e.number == l) ≡ b → Before
-      → elim (cond {A = Option Opened} b (Some (record { start = st; before = es })) None) as (λ _.
-      Option Opened) [ Some y ↦ Some y | None ↦ opened l es ] ≡ Some x
-      → IsSinceOpening o (but e ev (Accepted r) ∷ es) l
-  begun_since ev r st number same b here so_far q = grind arith
 
 pub since_opening : (o : Opening) (es : List Entry) → IsPlayedIn o es → (l : ℕ) (x : Opened)
     → opened l es ≡ Some x → IsSinceOpening o es l

@@ -1,9 +1,8 @@
 -- What a node owes to a link is whole messages, one behind the other, each in its parts.
 use Rattle.frame_laws.proofs
-use proofs.Words.{ap, AreInOrder, arith, begun_by, bodies_of, Entry, false, frames_said, History}
-use proofs.Words.{IsNode, List, map, Message, narrow, None, Opening, option_to_list, out_in}
-use proofs.Words.{OutFrame, owed, Owing, owing, past, refl, said_frames, Speaks, subst, sym, ℕ, []}
-use proofs.Words.{◌++◌, ◌∷◌, ◌≡◌}
+use proofs.Words.{AreInOrder, arith, begun_by, bodies_of, Entry, false, frames_said, History}
+use proofs.Words.{IsNode, List, map, Message, narrow, None, Opening, out_in, OutFrame, owed, Owing}
+use proofs.Words.{owing, past, refl, said_frames, Speaks, ℕ, [], ◌++◌, ◌∷◌, ◌≡◌}
 use proofs.Calm.{AreWhole, frames_apart, message_ends, message_says, said_apart, whole_both}
 use proofs.Handshakes.{begins_message, first_byte, IsClosed, no_message}
 use proofs.Pieces.{begun_apart, order_apart, pieces_in_order}

@@ -1,10 +1,10 @@
 -- Own rows and running scopes are within the limits of messages.
 use Rattle.frame_laws.proofs
 use proofs.Words.{Accepted, accepted, all_hold, AllByRecursion, and_parts, arith, Bool, but, cond}
-use proofs.Words.{creation, entered, Entry, Event, events, false, foreign_own, History, is_among}
-use proofs.Words.{is_local, is_running, IsNode, IsPlayedIn, IsRow, IsText, IsWritten, join_checks}
-use proofs.Words.{joined, judgement, leb-true, List, list_all, lives, local_rows, local_rows_are}
-use proofs.Words.{mentions, occurrences, Opening, own, past, Pid, refl, Refused, Reply, Row, row}
+use proofs.Words.{creation, entered, Entry, Event, events, foreign_own, History, is_among, is_local}
+use proofs.Words.{is_running, IsNode, IsPlayedIn, IsRow, IsText, IsWritten, join_checks, joined}
+use proofs.Words.{judgement, leb-true, List, list_all, lives, local_rows, local_rows_are, mentions}
+use proofs.Words.{occurrences, Opening, own, past, Pid, refl, Refused, Reply, Row, row}
 use proofs.Words.{running_among, running_scopes, same, same_decides, same_pid_decides, same_row}
 use proofs.Words.{same_row_decides, spawned, true, unbroken, uncounted, Verdict, ℕ, [], ◌&&◌, ◌+◌}
 use proofs.Words.{◌<◌, ◌^◌, ◌∷◌, ◌≡◌, ◌≤◌}

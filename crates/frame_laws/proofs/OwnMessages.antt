@@ -8,8 +8,7 @@ use proofs.Words.{listing, listing_counts, lives, local_rows, local_rows_are, ma
 use proofs.Words.{mentions, Message, min, nat_le, occurrences, occurs_stands, old_limit, own}
 use proofs.Words.{own_limit, Pid, pid_cmp, pids_total, refl, Reply, Row, row, rows_in_group, same}
 use proofs.Words.{same_decides, same_pid, same_pid_decides, same_row, same_row_decides, same_sym}
-use proofs.Words.{subst, sym, told, true, uncounted, ℕ, [], ◌&&◌, ◌+◌, ◌<◌, ◌==◌, ◌||◌, ◌∷◌, ◌≡◌}
-use proofs.Words.{◌≤◌}
+use proofs.Words.{told, true, uncounted, ℕ, [], ◌+◌, ◌<◌, ◌==◌, ◌||◌, ◌∷◌, ◌≡◌, ◌≤◌}
 use proofs.OwnLimits.{all_counted, living_row, own_row, own_rows}
 use proofs.Sayable.{IsSayable, join_sayable, leave_sayable, sync_sayable}
 
@@ -102,14 +101,8 @@ module _ (h : History) (node : IsNode h) where
 
   -- ---- messages
 
-  limit_most : (s : List ℕ) → own_limit h s ≤ 65536
-  limit_most s = grind arith
-
   module _ (l v : ℕ)
       (agrees : is_whole l h.entries ≡ true → link_version h.opening l h.entries ≡ v) where
-    pub told_whole : (s : List ℕ) → told h.opening l s h.entries ≡ true
-        → is_whole l h.entries ≡ true
-    told_whole s tells = grind arith
 
     -- to a peer that is told all own rows can be said
     pub told_room : (s : List ℕ) → told h.opening l s h.entries ≡ true → own_limit h s ≤ limit v

@@ -57,27 +57,6 @@ last_ends kind s number zero rows b = refl
 last_ends kind s number (suc more) rows b = last_ends kind s (suc number) more (drop max_rows rows)
     _
 
--- what holds of a message without rows alone, and of the parts of each with rows, holds of all
-pub pieces_by : (v : ℕ) (P : Message → List Message2 → Type 0)
-    → ((s : List ℕ) → P (Message.Discover s) (Message2.Discover s ∷ []))
-    → ((s : List ℕ) → P (Message.Down s) (Message2.Down s ∷ []))
-    → ((kind : PartKind) (s : List ℕ) (more : ℕ) (rows : List Row)
-    → P (message_of kind s rows) (parts_from kind s 1 more rows))
-    → (m : Message) → P m (pieces v m)
-pieces_by v P asks downs says m = by (v == 2) m
-  where
-    by : (b : Bool) (m : Message) → P m (cond b (parts m) (whole m ∷ []))
-    by true (Message.Discover s) = asks s
-    by false (Message.Discover s) = asks s
-    by true (Message.Down s) = downs s
-    by false (Message.Down s) = downs s
-    by true (Message.Sync s rows) = says PartKind.Sync s (before_last rows) rows
-    by false (Message.Sync s rows) = says PartKind.Sync s 0 rows
-    by true (Message.Join s rows) = says PartKind.Join s (before_last rows) rows
-    by false (Message.Join s rows) = says PartKind.Join s 0 rows
-    by true (Message.Leave s rows) = says PartKind.Leave s (before_last rows) rows
-    by false (Message.Leave s rows) = says PartKind.Leave s 0 rows
-
 pub pieces_end : (v : ℕ) (m : Message) → begun_by None (pieces v m) ≡ None
 pieces_end v = grind (arith, last_ends)
 

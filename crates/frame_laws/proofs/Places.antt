@@ -2,8 +2,7 @@
 use Rattle.frame_laws.proofs
 use proofs.Words.{AllByRecursion, arith, entered, Entry, frames_of, History, IsPlayedIn, length}
 use proofs.Words.{List, map, moment, Opening, out_in, OutFrame, owed, owes, Owing, owing, past}
-use proofs.Words.{refl, slice_get, Some, subst, suc, sym, zero, ℕ, [], ◌++◌, ◌+◌, ◌<◌, ◌∙◌, ◌∷◌}
-use proofs.Words.{◌≡◌, ◌≤◌}
+use proofs.Words.{refl, slice_get, Some, suc, zero, ℕ, [], ◌++◌, ◌+◌, ◌<◌, ◌∷◌, ◌≡◌, ◌≤◌}
 use proofs.Numbers.{entered_more, entered_next, owed_number}
 
 module _ {A : Type 0} where

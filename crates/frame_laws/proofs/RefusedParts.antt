@@ -4,10 +4,10 @@ use proofs.Words.{Accepted, and_parts, ap, append-nil, arith, Begun, begun, begu
 use proofs.Words.{Bool, but, came, comes_next, cond, delivered, Entry, eqb-true, Event, false}
 use proofs.Words.{first_broken, fresh, heard, HeardIsSaid, History, is_about_rows, is_open}
 use proofs.Words.{is_running, is_up, is_whole, IsGiven, IsHonest, IsPlayedIn, IsStep, kept_after}
-use proofs.Words.{kind_byte, known, lie, link_version, List, Message, Message2, message_checks}
-use proofs.Words.{message_of, message_taken, None, Opening, Option, option_to_list, PartKind, past}
-use proofs.Words.{Pid, refl, Refused, Reply, Row, Rule, said_at, same, same_decides, seen_by, Some}
-use proofs.Words.{stated, subst, sym, true, Verdict, ℕ, [], ◌&&◌, ◌++◌, ◌==◌, ◌||◌, ◌∙◌, ◌∷◌, ◌≡◌}
+use proofs.Words.{kind_byte, known, lie, link_version, List, Message2, message_checks}
+use proofs.Words.{message_taken, None, Opening, Option, option_to_list, PartKind, past, Pid, refl}
+use proofs.Words.{Refused, Reply, Row, Rule, said_at, same, same_decides, seen_by, Some, stated}
+use proofs.Words.{sym, true, Verdict, ℕ, [], ◌&&◌, ◌++◌, ◌==◌, ◌||◌, ◌∙◌, ◌∷◌, ◌≡◌}
 use proofs.Accepting.{heard_met, is_up_there}
 use proofs.Bodies.{begun_more, completes_there, is_known, known_heard}
 use proofs.KeptStands.{all_stand, is_sync, Stands, up_back}
@@ -48,17 +48,6 @@ module _ (v : ℕ) (o : Opening) (es : List Entry) (e : Entry) (legal : IsPlayed
     heard_before = known_heard o l s [] nobody es (stated o l s [] nobody (but e ev w ∷ es))
         (sym (same_known [] nobody) ∙ is_known o l s [] nobody (but e ev w ∷ es) hears)
 
-    pub stated_before : (g : List ℕ) (p : Pid)
-        → stated o l s g p (but e ev w ∷ es) ≡ stated o l s g p es
-    stated_before g p =
-        grind (
-          arith,
-          but e ev w ∷ es,
-          is_known o l s g p (but e ev w ∷ es) hears,
-          same_known g p,
-          is_known o l s g p es heard_before,
-        )
-
   -- where nothing comes on the link nobody becomes heard
   pub quiet_heard : (ev : Event) (w : Verdict) → IsStep h (but e ev w) → came l ev ≡ []
       → heard o l s (but e ev w ∷ es) ≡ true → heard o l s es ≡ true
@@ -98,11 +87,6 @@ module _ (v : ℕ) (o : Opening) (es : List Entry) (e : Entry) (legal : IsPlayed
       where
         up : is_up l es ≡ true
         up = is_up_there h legal l s hears
-
-        none_of : (kind : PartKind) (t : List ℕ) (last : Bool) (xs : List Row) → same t s ≡ false
-            → is_about_rows s (cond {A = Option Message} last (Some (message_of kind t xs)) None)
-            ≡ false
-        none_of kind t last xs other = grind arith
 
         down_met : (t : List ℕ) → same t s ≡ true
             → first_broken (message_checks h l (Message2.Down t)) ≡ None

@@ -4,12 +4,12 @@ use proofs.Words.{Accepted, AllByRecursion, ap, apart, append-nil, append_assoc,
 use proofs.Words.{cond, Entry, Event, false, filter, flat_map, frames_to, History, if_told}
 use proofs.Words.{is_about_rows, is_among, is_empty, is_running, is_whole, IsListing, IsNode}
 use proofs.Words.{IsStep, IsText, IsWritten, Less, lie, link_version, List, local_rows}
-use proofs.Words.{local_rows_are, Message, message_of, not, occurrences, Opening, OutFrame, own}
+use proofs.Words.{local_rows_are, Message, message_of, occurrences, Opening, OutFrame, own}
 use proofs.Words.{PartKind, past, Pid, refl, Reply, Rises, Row, row, rows_of, running_among}
 use proofs.Words.{running_rises, running_scopes, said_frames, same, same_decides, same_pid}
 use proofs.Words.{same_pid_decides, same_row, same_row_decides, same_sym, Some, subst, sym}
-use proofs.Words.{text_cmp, told, told_runs, true, Verdict, ℕ, [], ◌++◌, ◌+◌, ◌-◌, ◌||◌, ◌∙◌, ◌∷◌}
-use proofs.Words.{◌≡◌, ◌≤◌}
+use proofs.Words.{text_cmp, told, told_runs, true, Verdict, ℕ, [], ◌++◌, ◌+◌, ◌-◌, ◌∙◌, ◌∷◌, ◌≡◌}
+use proofs.Words.{◌≤◌}
 use proofs.Calm.{AllCalm, calm_closed, calm_message}
 use proofs.OwnLimits.{scope_text, scopes_text}
 use proofs.Telling.{EntryTells, IsTold, Silent, Spoke, Tells, told_join, told_leave}

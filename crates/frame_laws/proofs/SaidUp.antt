@@ -3,11 +3,11 @@ use Rattle.frame_laws.proofs
 use proofs.Numbers.{entered_more}
 use proofs.Words.{Accepted, ack_taken, ap, arith, AwaitAck, Awaited, AwaitMessage, AwaitReply}
 use proofs.Words.{awaits, Bool, but, entered, Entry, eqb-true, Event, false, filter, flat_map}
-use proofs.Words.{frame_owes, History, if_told, is_accepted, is_restart, is_restarted_after}
-use proofs.Words.{is_whole, IsNumbered, IsPlayedIn, IsProvedLink, IsStep, IsTrue, List, list_all}
-use proofs.Words.{local_rows, Message, message_taken_on, not, Opening, OutFrame, owed, past, refl}
-use proofs.Words.{Refused, Reply, reply_taken, Row, running_scopes, same_pid, slice_get, Some, suc}
-use proofs.Words.{true, Verdict, zero, ℕ, [], ◌&&◌, ◌+◌, ◌==◌, ◌∷◌, ◌≡◌, ◌≤◌}
+use proofs.Words.{frame_owes, History, if_told, is_restarted_after, is_whole, IsNumbered}
+use proofs.Words.{IsPlayedIn, IsProvedLink, IsStep, IsTrue, List, list_all, local_rows, Message}
+use proofs.Words.{message_taken_on, not, Opening, OutFrame, owed, past, refl, Refused, Reply}
+use proofs.Words.{reply_taken, Row, running_scopes, same_pid, slice_get, Some, suc, true, Verdict}
+use proofs.Words.{zero, ℕ, [], ◌+◌, ◌==◌, ◌∷◌, ◌≡◌, ◌≤◌}
 use proofs.Places.{AllOwed}
 
 -- ---- a link that is whole was proved
@@ -18,11 +18,6 @@ module _ (o : Opening) where
       → is_restarted_after k es ≡ false
   unrestarted [] legal k le = refl
   unrestarted (e ∷ es) legal k le = grind (arith, unrestarted es legal.1 k, entered_more)
-
-  -- a restart leaves no link whole
-  not_restart : (es : List Entry) (e : Entry) (l : ℕ) (ev : Event) (v : Verdict)
-      → is_whole l (but e ev v ∷ es) ≡ true → (is_accepted v && is_restart ev) ≡ false
-  not_restart es e l ev v w = grind arith
 
   -- what makes a link whole is an entry
   whole_number : (es : List Entry) (e : Entry) (l : ℕ) (ev : Event) (v : Verdict)
@@ -54,13 +49,6 @@ narrow_at : (fs : List OutFrame) (m : ℕ) (f : OutFrame) → are_narrow fs ≡ 
 narrow_at [] m f all q = grind arith
 narrow_at (x ∷ fs) zero f all q = grind arith
 narrow_at (x ∷ fs) (suc m) f all q = narrow_at fs m f (grind arith) q
-
--- a frame within a handshake, but for its last
-abbrev is_early : Awaited → Bool
-is_early AwaitReply = false
-is_early AwaitAck = false
-is_early AwaitMessage = false
-is_early a = true
 
 module _ (o : Opening) (es : List Entry) (e : Entry) (l : ℕ) where
   all_untold : is_whole l es ≡ false → (say : List ℕ → List Row → Message) (rows : List ℕ → List

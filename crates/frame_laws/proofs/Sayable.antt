@@ -1,13 +1,13 @@
 -- What may be said on a link, and the frames of a message, which are read as its parts.
 use Rattle.frame_laws.proofs
-use proofs.Words.{All-from_recursion, AllByRecursion, and_parts, ap, AreRows, AreWritten, arith}
-use proofs.Words.{Bool, cond, drop, false, frames_said, HasParts, IsMessage, IsMessage2, IsRow}
-use proofs.Words.{IsText, length, limit, List, list_all, list_all-append, map, max_rows, Message}
-use proofs.Words.{message-spelled, Message2, message2-spelled, message2_bytes, message_bytes}
-use proofs.Words.{message_taken, option_map, option_to_list, OutFrame, PartKind, parts, parts_from}
-use proofs.Words.{parts_within, recursion_from_All, refl, Row, rows_in, said_frames, slice_get}
-use proofs.Words.{Some, suc, sym, take, take-append-drop, true, whole, wide, zero, ℕ, [], ◌++◌}
-use proofs.Words.{◌<◌, ◌==◌, ◌^◌, ◌∙◌, ◌∷◌, ◌≡◌, ◌≤◌}
+use proofs.Words.{All-from_recursion, AllByRecursion, and_parts, ap, AreWritten, arith, Bool, drop}
+use proofs.Words.{false, frames_said, HasParts, IsMessage, IsMessage2, IsRow, IsText, length, limit}
+use proofs.Words.{List, list_all, list_all-append, map, max_rows, Message, message-spelled}
+use proofs.Words.{Message2, message2-spelled, message2_bytes, message_bytes, message_taken}
+use proofs.Words.{option_to_list, OutFrame, PartKind, parts, parts_from, parts_within}
+use proofs.Words.{recursion_from_All, refl, Row, rows_in, said_frames, slice_get, Some, suc, sym}
+use proofs.Words.{take, take-append-drop, true, wide, zero, ℕ, [], ◌++◌, ◌<◌, ◌==◌, ◌^◌, ◌∙◌, ◌∷◌}
+use proofs.Words.{◌≡◌, ◌≤◌}
 use proofs.Handshakes.{taken_new, taken_old}
 use proofs.Pieces.{pieces, value_of}
 
@@ -24,10 +24,6 @@ pub record IsSayable (v : ℕ) (m : Message) : Type 0 where
   pub written : AreWritten m
   pub has : HasParts m
   pub few : length (rows_said m) ≤ limit v
-
-are_few : (v : ℕ) (rows : List Row) → (v == 2) ≡ false → AllByRecursion IsRow rows
-    → length rows ≤ limit v → AreRows rows
-are_few v rows old each few = grind (arith, All-from_recursion)
 
 old_message : (v : ℕ) (m : Message) → (v == 2) ≡ false → IsSayable v m → IsMessage m
 old_message v m old it = grind arith

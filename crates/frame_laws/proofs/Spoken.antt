@@ -2,14 +2,14 @@
 use Rattle.frame_laws.proofs
 use proofs.Words.{Accepted, accepted, all_hold, AllByRecursion, arith, Awaited, AwaitMessage}
 use proofs.Words.{awaits, Bool, cond, creation, Entry, eqb-true, Event, false, first_broken}
-use proofs.Words.{flat_map, frame_checks, frame_owes, frame_taken, frames_to, heard, Hello}
-use proofs.Words.{History, if_told, if_visible, is_empty, is_local, is_of, is_open, is_running}
-use proofs.Words.{is_whole, IsNode, IsText, IsWritten, judgement, length, link_version, List}
-use proofs.Words.{list_all, local_rows, max_rows, Means, Message, Message2, message_checks}
-use proofs.Words.{message_owes, message_taken, narrow, nat_le, None, open_first, Opening, OutFrame}
-use proofs.Words.{owed, own, own_name_frame, past, Pid, refl, Refused, Row, running_scopes}
-use proofs.Words.{said_frames, SaysOne, Some, Speaks, subst, sym, told, true, unbroken, Verdict}
-use proofs.Words.{whole_is_message, wide, ℕ, [], ◌==◌, ◌||◌, ◌∙◌, ◌∷◌, ◌≡◌}
+use proofs.Words.{flat_map, frame_checks, frame_owes, frame_taken, frames_to, heard, History}
+use proofs.Words.{if_told, is_empty, is_local, is_of, is_open, is_running, is_whole, IsNode, IsText}
+use proofs.Words.{IsWritten, judgement, length, link_version, List, list_all, local_rows, max_rows}
+use proofs.Words.{Means, Message, Message2, message_checks, message_owes, message_taken, narrow}
+use proofs.Words.{nat_le, None, open_first, Opening, OutFrame, owed, own, own_name_frame, past, Pid}
+use proofs.Words.{refl, Refused, Row, running_scopes, said_frames, SaysOne, Some, Speaks, subst}
+use proofs.Words.{sym, told, true, unbroken, Verdict, whole_is_message, wide, ℕ, [], ◌==◌, ◌||◌}
+use proofs.Words.{◌∙◌, ◌∷◌, ◌≡◌}
 use proofs.OwnLimits.{scope_text, scopes_text}
 use proofs.Handshakes.{all_closed, begins_message, first_byte, frame_all, HoldsOfHellos, IsClosed}
 use proofs.Handshakes.{no_message, of_hellos, refusal_all}
@@ -77,9 +77,6 @@ module _ (h : History) (node : IsNode h) where
         → (told h.opening l s h.entries ≡ true → is_empty rows ≡ false → IsSayable v (say rows))
         → AreOwn (say rows) → L (if_told h l s say rows)
     told_hold s say rows is from = grind arith
-
-    visible_hold : (m : Message) → L (wide m ∷ []) → L (if_visible h l m)
-    visible_hold m holds = grind arith
 
     exits_hold : (p : Pid) (ss : List (List ℕ)) → AllByRecursion IsText ss
         → L (flat_map (λ s. if_told h l s (Message.Leave s) (exit_rows h node s p)) ss)
