@@ -309,10 +309,8 @@ given_here l name creation (e ∷ es) gives whole = gives.0 whole
 
 -- who is heard is heard so, and what is kept is so
 pub record Follows (v : ℕ) (o : Opening) (l : ℕ) (s : List ℕ) (es : List Entry) : Type 0 where
-  pub hears : heard o l s es ≡ true → HeardIsSaid v (past o es) l s
-  pub keeps : is_up l es ≡ true → (kept_of s (begun o l es)
-      || (heard o l s es && kept_of s (begun_of v (delivered l es)))) ≡ true
-      → begun o l es ≡ begun_of v (delivered l es)
+  pub hears : Before v o l s es
+  pub keeps : Alike v o l s es
 
 pub follows_all : (v : ℕ) (o : Opening) (es : List Entry) → IsPlayedIn o es → (l : ℕ)
     → Speaks o l v es → (s name : List ℕ) (creation : ℕ)

@@ -1,25 +1,23 @@
 -- What each other event says of a scope to a link, and so what every entry says.
 use Rattle.frame_laws.proofs
 use proofs.Refusals.{found, was_so, within_hello}
-use proofs.Words.{Accepted, all_hold, always, ap, arith, Awaited, AwaitMessage, awaits, Begun}
-use proofs.Words.{begun, Bool, but, ByDial, ByPeer, completed, cond, Entry, eqb-true, Event, false}
-use proofs.Words.{first_broken, frame_checks, frame_owes, frame_taken, heard, History, if_visible}
-use proofs.Words.{is_message, is_running, is_whole, IsListing, IsNode, IsStep, IsText, IsWritten}
-use proofs.Words.{length, link_version, List, local_rows, local_rows_are, max_rows, Message}
-use proofs.Words.{Message2, message_checks, message_heard, message_owes, nat_le, None, Opening}
-use proofs.Words.{opening_heard, Option, option_and_then, option_map_or, OutFrame, owed, own}
-use proofs.Words.{PartKind, past, Pid, refl, refusal_owes, Refused, Reply, Row, row, rows_of, Rule}
-use proofs.Words.{Said, said_at, said_frames, same, same_decides, Some, Speaks, subst, sym, tells}
-use proofs.Words.{told, true, unbroken, unwrap_or, Verdict, whole_is_message, wide, ℕ, [], ◌++◌}
-use proofs.Words.{◌==◌, ◌||◌, ◌∙◌, ◌∷◌, ◌≡◌}
+use proofs.Words.{Accepted, always, ap, arith, Awaited, AwaitMessage, awaits, Begun, begun, Bool}
+use proofs.Words.{but, ByDial, ByPeer, completed, cond, Entry, eqb-true, Event, false, first_broken}
+use proofs.Words.{frame_checks, frame_owes, frame_taken, heard, History, if_visible, is_message}
+use proofs.Words.{is_whole, IsListing, IsNode, IsStep, IsText, IsWritten, link_version, List}
+use proofs.Words.{local_rows, local_rows_are, Message, Message2, message_checks, message_heard}
+use proofs.Words.{message_owes, None, Opening, opening_heard, Option, option_and_then}
+use proofs.Words.{option_map_or, OutFrame, owed, own, PartKind, past, Pid, refl, refusal_owes}
+use proofs.Words.{Refused, Reply, Row, row, rows_of, Rule, Said, said_at, said_frames, same}
+use proofs.Words.{same_decides, Some, Speaks, subst, sym, tells, told, true, unwrap_or, Verdict}
+use proofs.Words.{whole_is_message, wide, ℕ, [], ◌++◌, ◌==◌, ◌∙◌, ◌∷◌, ◌≡◌}
 use proofs.Calm.{AllCalm, calm_asks, calm_closed, calm_down, calm_hello, calm_message, HasNoRows}
 use proofs.Handshakes.{dial_all, frame_all, HoldsOfHellos, of_hellos, refusal_all}
-use proofs.OwnLimits.{scope_text}
 use proofs.RowsTell.{exit_tells, join_tells, leave_tells}
 use proofs.Spoken.{node_before, speaks_now}
 use proofs.Telling.{AllTell, Ended, EntryTells, Silent, Spoke, Tells, told_sync}
 use proofs.Sayable.{downs_sayable, IsSayable, reads}
-use proofs.OwnMessages.{asked_room, sync_is}
+use proofs.OwnMessages.{asked_text, asked_room, sync_is}
 
 -- a message with rows tells nobody anew
 rows_tell_none : (s : List ℕ) (b : Option Begun) (kind : PartKind) (t : List ℕ) (number : ℕ)
@@ -166,11 +164,7 @@ module _ (o : Opening) (es : List Entry) (e : Entry) (node : IsNode (past o es))
             rest = cond (heard o l t es) [] (wide (Message.Discover t) ∷ [])
 
             text : IsText t
-            text = scope_text h node t (unbroken (is_running h t)
-                (all_hold (message_checks h l (Message2.Discover t)) met).1.0)
-
-            can : (link_version o l es == 2 || nat_le (length (local_rows h t)) max_rows) ≡ true
-            can = grind (arith, unbroken, all_hold)
+            text = asked_text h node l t met
 
             told_now : same t s ≡ false → told o l s (fr ∷ es) ≡ true → told o l s es ≡ true
             told_now other q =
@@ -196,7 +190,7 @@ module _ (o : Opening) (es : List Entry) (e : Entry) (node : IsNode (past o es))
                 )
 
             sayable : IsSayable v sync
-            sayable = sync_is h node l v agrees whole_now t text can
+            sayable = sync_is h node l v agrees whole_now t met
 
             by : (c : Bool) → same t s ≡ c → Now (said_frames v sync ++ rest)
             by true is =
@@ -205,8 +199,7 @@ module _ (o : Opening) (es : List Entry) (e : Entry) (node : IsNode (past o es))
                 (ap (λ u. said_frames v (Message.Sync u (local_rows h t)) ++ rest) here)
                 quiet (back (heard o l t es))
                 (subst (λ u. IsSayable v (Message.Sync u (local_rows h t))) here sayable)
-                (told_sync v s (told o l s es) (own h s) (own (past o (fr ∷ es)) s)
-                (local_rows h t) (asked_room h node l v agrees whole_now t can) (all_rows is))
+                (told_sync (asked_room h node l v agrees whole_now t met) (all_rows is))
             by false other = Silent ((calm_closed v s).both (said_frames v sync) rest
                 (calm_message v s sync sayable other) (back (heard o l t es)))
                 (λ q. (told_now other q, λ g p. refl))

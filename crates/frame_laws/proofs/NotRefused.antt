@@ -2,13 +2,13 @@
 use Rattle.frame_laws.proofs
 use proofs.Words.{and_parts, ap, AreFrom, AreThere, arith, Begun, begun, begun_of, Bool, but}
 use proofs.Words.{comes_next, delivered, Entry, Event, false, fewer_length, frame_taken, heard}
-use proofs.Words.{History, is_accepted, is_from, is_next, is_running, is_up, is_visible, IsFew}
-use proofs.Words.{IsGiven, IsHonest, IsPlayedIn, IsStep, judgement, last_in_order, length, limit}
-use proofs.Words.{link_version, List, list_all, MaySay, MaySaySoFar, Message, Message2}
-use proofs.Words.{message_taken, Opening, Option, option_map_or, PartKind, past, peer_limit, Pid}
-use proofs.Words.{refl, Refused, Row, rows_before, rows_of, Rule, same, same_decides, same_row}
-use proofs.Words.{same_row_decides, same_sym, seen, slice_get, so_far, so_far_behind, Some, stated}
-use proofs.Words.{subst, sym, true, view_of, ℕ, [], ◌&&◌, ◌++◌, ◌+◌, ◌==◌, ◌∙◌, ◌∷◌, ◌≡◌}
+use proofs.Words.{History, is_from, is_next, is_running, is_up, is_visible, IsFew, IsGiven}
+use proofs.Words.{IsHonest, IsPlayedIn, IsStep, last_in_order, length, limit, link_version, List}
+use proofs.Words.{list_all, MaySay, MaySaySoFar, Message, Message2, message_taken, Opening, Option}
+use proofs.Words.{option_map_or, PartKind, past, peer_limit, Pid, refl, Refused, Row, rows_before}
+use proofs.Words.{rows_of, Rule, same, same_decides, same_row, same_row_decides, same_sym, seen}
+use proofs.Words.{slice_get, so_far, so_far_behind, Some, stated, subst, sym, true, view_of, ℕ, []}
+use proofs.Words.{◌&&◌, ◌++◌, ◌+◌, ◌==◌, ◌∙◌, ◌∷◌, ◌≡◌, first_broken, message_checks, None}
 use proofs.Accepting.{admits, heard_met, sync_met}
 use proofs.Bodies.{frames_more, stands_last, take_all}
 use proofs.Calm.{FewBehind, ThereBehind}
@@ -154,9 +154,12 @@ module _ (v : ℕ) (o : Opening) (es : List Entry) (e : Entry) (legal : IsPlayed
     taken_there : (f : Message2) → message_taken v body ≡ Some f → frame_taken o l es body ≡ Some f
     taken_there f says = grind arith
 
-    never : (r : Rule) → IsStep h (but e (Event.Frame l body) (Refused r))
-        → is_accepted (judgement h e.seat (Event.Frame l body)) ≡ true → true ≡ false
-    never r next accepts = grind arith
+    -- what meets the rules isn't refused
+    never : (f : Message2) → message_taken v body ≡ Some f
+        → first_broken (message_checks h l f) ≡ None → (r : Rule)
+        → IsStep h (but e (Event.Frame l body) (Refused r)) → true ≡ false
+    never f says met r next =
+        grind (arith, admits h legal l up e.seat body f (taken_there f says) met)
 
     -- so a part of s is not refused while it is heard
     pub heard_never : ((g : List ℕ) (p : Pid) → view_of v s g p bodies ≡ Some (stated o l s g p es))
@@ -169,8 +172,7 @@ module _ (v : ℕ) (o : Opening) (es : List Entry) (e : Entry) (legal : IsPlayed
         let f = Message2.Part kind s number last rows in
         let step = in_step (begun o l es) (begun_of v bodies) kind s number last rows
         (comes f says) alike in
-        never r next (admits h legal l up e.seat body f (taken_there f says)
-        (heard_met h legal l f hears (may_say now kind number last rows says step)))
+        never f says (heard_met h legal l f hears (may_say now kind number last rows says step)) r next
 
     -- nor is a part of a Sync that goes on
     pub sync_never : is_visible h l ≡ true → is_running h s ≡ true
@@ -182,8 +184,7 @@ module _ (v : ℕ) (o : Opening) (es : List Entry) (e : Entry) (legal : IsPlayed
         let f = Message2.Part PartKind.Sync s number last rows in
         let step = in_step (begun o l es) (begun_of v bodies) PartKind.Sync s number last rows
         (comes f says) alike in
-        never r next (admits h legal l up e.seat body f (taken_there f says)
-        (sync_met h legal l s shown runs number last rows
+        never f says (sync_met h legal l s shown runs number last rows
         (may_if PartKind.Sync number last rows says step
         (may_sync (so_far h l PartKind.Sync s number rows)
-        (room PartKind.Sync number last rows says step)))))
+        (room PartKind.Sync number last rows says step)))) r next

@@ -8,8 +8,9 @@ use proofs.Words.{listing, listing_counts, lives, local_rows, local_rows_are, ma
 use proofs.Words.{mentions, Message, min, nat_le, occurrences, occurs_stands, old_limit, own}
 use proofs.Words.{own_limit, Pid, pid_cmp, pids_total, refl, Reply, Row, row, rows_in_group, same}
 use proofs.Words.{same_decides, same_pid, same_pid_decides, same_row, same_row_decides, same_sym}
-use proofs.Words.{told, true, uncounted, ℕ, [], ◌+◌, ◌<◌, ◌==◌, ◌||◌, ◌∷◌, ◌≡◌, ◌≤◌}
-use proofs.OwnLimits.{all_counted, living_row, own_row, own_rows}
+use proofs.Words.{told, true, uncounted, ℕ, [], ◌+◌, ◌<◌, ◌==◌, ◌||◌, ◌∷◌, ◌≡◌, ◌≤◌, all_hold}
+use proofs.Words.{first_broken, message_checks, Message2, None, unbroken}
+use proofs.OwnLimits.{scope_text, all_counted, living_row, own_row, own_rows}
 use proofs.Sayable.{IsSayable, join_sayable, leave_sayable, sync_sayable}
 
 -- ---- rows that join and leave
@@ -101,6 +102,12 @@ module _ (h : History) (node : IsNode h) where
 
   -- ---- messages
 
+  -- a scope for whose rows a peer may ask
+  pub asked_text : (l : ℕ) (s : List ℕ)
+      → first_broken (message_checks h l (Message2.Discover s)) ≡ None → IsText s
+  asked_text l s met = scope_text h node s (unbroken (is_running h s)
+      (all_hold (message_checks h l (Message2.Discover s)) met).1.0)
+
   module _ (l v : ℕ)
       (agrees : is_whole l h.entries ≡ true → link_version h.opening l h.entries ≡ v) where
 
@@ -115,10 +122,16 @@ module _ (h : History) (node : IsNode h) where
 
     -- and so can they to one that asks
     pub asked_room : is_whole l h.entries ≡ true → (s : List ℕ)
-        → (link_version h.opening l h.entries == 2 || nat_le (length (local_rows h s)) max_rows)
-        ≡ true → length (local_rows h s) ≤ limit v
-    asked_room whole s can =
-        grind (arith, few_local h node.legal s)
+        → first_broken (message_checks h l (Message2.Discover s)) ≡ None
+        → length (local_rows h s) ≤ limit v
+    asked_room whole s met =
+        grind (
+          arith,
+          few_local h node.legal s,
+          unbroken (link_version h.opening l h.entries == 2
+              || nat_le (length (local_rows h s)) max_rows)
+              (all_hold (message_checks h l (Message2.Discover s)) met).1.1.0,
+        )
 
     pub join_is : (s g : List ℕ) (ps : List Pid) → IsText s → IsText g
         → list_all (lives h) ps ≡ true → length (local_rows h s) + length ps ≤ own_limit h s
@@ -142,11 +155,11 @@ module _ (h : History) (node : IsNode h) where
         (omega (arith, exit_few s p, own_room s tells))
         (some_rows (exit_rows s p) some)
 
-    pub sync_is : is_whole l h.entries ≡ true → (s : List ℕ) → IsText s
-        → (link_version h.opening l h.entries == 2 || nat_le (length (local_rows h s)) max_rows)
-        ≡ true → IsSayable v (Message.Sync s (local_rows h s))
-    sync_is whole s scope can =
-        sync_sayable v s scope (local_rows h s) (own_rows h node s) (asked_room whole s can)
+    pub sync_is : is_whole l h.entries ≡ true → (s : List ℕ)
+        → first_broken (message_checks h l (Message2.Discover s)) ≡ None
+        → IsSayable v (Message.Sync s (local_rows h s))
+    sync_is whole s met = sync_sayable v s (asked_text l s met) (local_rows h s)
+        (own_rows h node s) (asked_room whole s met)
 
   -- ---- their rows are own
 

@@ -118,9 +118,7 @@ module _ (o : Opening) (es : List Entry) (e : Entry) (node : IsNode (past o es))
         met.alive met.room tells some)
         (λ q f p. (let none = nothing_of f p (join_rows h node g ps) q in let is =
         joined_now met.runs f p in omega arith))
-        (λ tells. told_join v s (told o l s es) (own h s)
-        (own (past o (joins ∷ es)) s) (join_rows h node g ps)
-        tells (local_rows h s) (own_within h s)
+        (λ tells. told_join tells (local_rows h s) (own_within h s)
         (omega (arith, join_few h node g ps, told_room h node l v agrees s tells))
         (joined_now met.runs))
 
@@ -163,9 +161,7 @@ module _ (o : Opening) (es : List Entry) (e : Entry) (node : IsNode (past o es))
         PartKind.Leave (leave_rows h node s g ps)
         (λ tells some. leave_is h node l v agrees s g ps text.0 tells some)
         (λ q f p. omega (arith, nothing_of f p (leave_rows h node s g ps) q, left_now f p))
-        (λ tells. told_leave v s (told o l s es) (own h s)
-        (own (past o (leaves ∷ es)) s) (leave_rows h node s g ps)
-        tells (local_rows h s) (own_within h s) (own_room h node l v agrees s tells)
+        (λ tells. told_leave tells (local_rows h s) (own_within h s) (own_room h node l v agrees s tells)
         (λ f p. grind
         (arith, same_decides f g, IsListing.counts (leave_listing h node s g ps) (row f p)))
         left_now)
@@ -279,9 +275,7 @@ module _ (o : Opening) (es : List Entry) (e : Entry) (node : IsNode (past o es))
             PartKind.Leave (exit_rows h node s x)
             (λ tells some. exit_is h node l v agrees s x (scope_text h node s runs) tells some)
             (λ q f p. omega (arith, nothing_of f p (exit_rows h node s x) q, exited_now f p))
-            (λ tells. told_leave v s (told o l s es) (own h s)
-            (own (past o (exits ∷ es)) s) (exit_rows h node s x)
-            tells (local_rows h s) (own_within h s) (own_room h node l v agrees s tells)
+            (λ tells. told_leave tells (local_rows h s) (own_within h s) (own_room h node l v agrees s tells)
             (λ f p. grind (
               arith,
               exit_counts (row f p) (local_rows h s),

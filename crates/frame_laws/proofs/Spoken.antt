@@ -1,24 +1,23 @@
 -- Each frame that is owed is one of the handshake, or a message within the grammar, in its parts.
 use Rattle.frame_laws.proofs
-use proofs.Words.{Accepted, accepted, all_hold, AllByRecursion, arith, Awaited, AwaitMessage}
-use proofs.Words.{awaits, Bool, cond, creation, Entry, eqb-true, Event, false, first_broken}
-use proofs.Words.{flat_map, frame_checks, frame_owes, frame_taken, frames_to, heard, History}
-use proofs.Words.{if_told, is_empty, is_local, is_of, is_open, is_running, is_whole, IsNode, IsText}
-use proofs.Words.{IsWritten, judgement, length, link_version, List, list_all, local_rows, max_rows}
-use proofs.Words.{Means, Message, Message2, message_checks, message_owes, message_taken, narrow}
-use proofs.Words.{nat_le, None, open_first, Opening, OutFrame, owed, own, own_name_frame, past, Pid}
-use proofs.Words.{refl, Refused, Row, running_scopes, said_frames, SaysOne, Some, Speaks, subst}
-use proofs.Words.{sym, told, true, unbroken, Verdict, whole_is_message, wide, ℕ, [], ◌==◌, ◌||◌}
-use proofs.Words.{◌∙◌, ◌∷◌, ◌≡◌}
-use proofs.OwnLimits.{scope_text, scopes_text}
+use proofs.Words.{Accepted, accepted, AllByRecursion, arith, Awaited, AwaitMessage, awaits, Bool}
+use proofs.Words.{cond, creation, Entry, eqb-true, Event, false, first_broken, flat_map}
+use proofs.Words.{frame_checks, frame_owes, frame_taken, frames_to, heard, History, if_told}
+use proofs.Words.{is_empty, is_local, is_of, is_open, is_whole, IsNode, IsText, IsWritten}
+use proofs.Words.{judgement, link_version, List, list_all, local_rows, Means, Message, Message2}
+use proofs.Words.{message_checks, message_owes, message_taken, narrow, None, open_first, Opening}
+use proofs.Words.{OutFrame, owed, own, own_name_frame, past, Pid, refl, Refused, Row}
+use proofs.Words.{running_scopes, said_frames, SaysOne, Some, Speaks, subst, sym, told, true}
+use proofs.Words.{Verdict, whole_is_message, wide, ℕ, [], ◌==◌, ◌∙◌, ◌∷◌, ◌≡◌}
+use proofs.OwnLimits.{scopes_text}
 use proofs.Handshakes.{all_closed, begins_message, first_byte, frame_all, HoldsOfHellos, IsClosed}
 use proofs.Handshakes.{no_message, of_hellos, refusal_all}
 use proofs.Pieces.{pieces, value_of}
 use proofs.Places.{all_at, AllOwed}
 use proofs.Sayable.{asks_alike, asks_sayable, downs_alike, downs_sayable, IsSayable, pieces_meet}
 use proofs.Sayable.{reads, reads_hold, rows_said}
-use proofs.OwnMessages.{exit_is, exit_own, exit_rows, join_is, join_met, join_own, join_rows}
-use proofs.OwnMessages.{leave_is, leave_own, leave_rows, sync_is, sync_own}
+use proofs.OwnMessages.{asked_text, exit_is, exit_own, exit_rows, join_is, join_met, join_own}
+use proofs.OwnMessages.{join_rows, leave_is, leave_own, leave_rows, sync_is, sync_own}
 
 -- ---- what a frame says
 
@@ -97,18 +96,12 @@ module _ (h : History) (node : IsNode h) where
         (cond (heard h.opening l s h.entries) [] (wide (Message.Discover s) ∷ []))
         (subst (λ n. L (said_frames n (Message.Sync s (local_rows h s)))) (sym (agrees whole))
         (it.said (Message.Sync s (local_rows h s))
-        (sync_is h node l v agrees whole s text (unbroken (link_version h.opening l h.entries == 2
-        || nat_le (length (local_rows h s)) max_rows)
-        (all_hold (message_checks h l (Message2.Discover s)) q).1.1.0)) (sync_own h node s)))
+        (sync_is h node l v agrees whole s q) (sync_own h node s)))
         (by (heard h.opening l s h.entries))
       where
-        text : IsText s
-        text = scope_text h node s (unbroken (is_running h s)
-            (all_hold (message_checks h l (Message2.Discover s)) q).1.0)
-
         by : (b : Bool) → L (cond b [] (wide (Message.Discover s) ∷ []))
         by true = it.closed.nothing
-        by false = it.asks s text
+        by false = it.asks s (asked_text h node l s q)
     message_hold whole m q = it.closed.nothing
 
     -- an accepted message met its rules

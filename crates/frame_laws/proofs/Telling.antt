@@ -63,8 +63,8 @@ taken_off : (s g : List ℕ) (p : Pid) (rows : List Row) (n : ℕ)
     → seen s g p (Message.Leave s rows) (Some n) ≡ Some (n - rows_of g p rows)
 taken_off s g p rows n = grind (arith, same_decides s s)
 
-module _ (v : ℕ) (s : List ℕ) (told_before : Bool) (was now : List ℕ → Pid → ℕ)
-    (rows : List Row) where
+module _ {v : ℕ} {s : List ℕ} {told_before : Bool} {was now : List ℕ → Pid → ℕ}
+    {rows : List Row} where
   pub told_sync : length rows ≤ limit v → ((g : List ℕ) (p : Pid) → rows_of g p rows ≡ now g p)
       → IsTold v s told_before was now PartKind.Sync rows
   told_sync few all = record {

@@ -59,10 +59,9 @@ ThereAt s x b (Message2.Part PartKind.Leave t number last rows) =
 ThereAt s x b m = Unit {0}
 
 -- where one message says rows and the frames around it are calm
-module _ (v : ℕ) (s : List ℕ) (front : List OutFrame) (kind : PartKind) (rows : List Row)
-    (back : List OutFrame) (early : AllCalm v s front) (late : AllCalm v s back)
-    (can : IsSayable v (message_of kind s rows)) (fs : List OutFrame)
-    (is : fs ≡ front ++ (said_frames v (message_of kind s rows) ++ back)) where
+module _ {v : ℕ} {s : List ℕ} {front back fs : List OutFrame} (kind : PartKind) (rows : List Row)
+    (early : AllCalm v s front) (late : AllCalm v s back)
+    (can : IsSayable v (message_of kind s rows)) (is : fs ≡ front ++ (said_frames v (message_of kind s rows) ++ back)) where
   abbrev whole_said : Message
   whole_said = message_of kind s rows
 
@@ -95,7 +94,7 @@ module _ (v : ℕ) (s : List ℕ) (front : List OutFrame) (kind : PartKind) (row
       → is_part s (message_taken v f.body) ≡ true → IsWithin m f
   within m f q its = grind (arith, part, no_rows_at)
 
-  module _ (m : ℕ) (f : OutFrame) (it : IsWithin m f) where
+  module _ {m : ℕ} {f : OutFrame} (it : IsWithin m f) where
     abbrev k : ℕ
     k = it.place
 
@@ -165,7 +164,7 @@ module _ (v : ℕ) (s : List ℕ) (front : List OutFrame) (kind : PartKind) (row
             ∙ ap length cut_is in
             omega (arith, end, long)
 
-    module _ (told_before : Bool) (was now : List ℕ → Pid → ℕ)
+    module _ {told_before : Bool} {was now : List ℕ → Pid → ℕ}
         (told_so : IsTold v s told_before was now kind rows) (x : List ℕ → Pid → Option ℕ)
         (before : WasSeen told_before was x) where
       few_at : FewAt v s x (begun_by None (take k cut))
@@ -202,7 +201,7 @@ module _ (v : ℕ) (o : Opening) (l : ℕ) (s : List ℕ) where
         → seen_frames v s g p fs (view g p) ≡ Some (own (past o (e ∷ es)) s g p)
     now_seen (Silent calm stays) t g p = grind arith
     now_seen (Spoke front kind rows back is early late can it) t g p =
-        in_all v s front kind rows back early late can fs is g p (view g p)
+        in_all kind rows early late can is g p (view g p)
         ∙ it.says view seen_before g p
     now_seen (Ended none ends) t g p = cc
 
@@ -212,8 +211,8 @@ module _ (v : ℕ) (o : Opening) (l : ℕ) (s : List ℕ) where
     then_seen (Silent calm stays) m x q has g p =
         lie (sym (rows_part v s x.body has) ∙ no_rows_at v s fs calm.no_rows m x q)
     then_seen (Spoke front kind rows back is early late can it) m x q has g p =
-        at_last v s front kind rows back early late can fs is m x
-        (within v s front kind rows back early late can fs is m x q (rows_part v s x.body has))
+        at_last kind rows early late can is
+        (within kind rows early late can is m x q (rows_part v s x.body has))
         has g p (view g p) ∙ it.says view seen_before g p
     then_seen (Ended none ends) m x q has g p =
         lie (sym (rows_part v s x.body has) ∙ no_rows_at v s fs none m x q)
@@ -233,23 +232,21 @@ module _ (v : ℕ) (o : Opening) (l : ℕ) (s : List ℕ) where
         grind (arith, says, no_rows_at v s fs calm.no_rows m x q)
     part_seen (Ended none ends) m x q f says its = grind (arith, no_rows_at v s fs none m x q)
     part_seen (Spoke front kind rows back is early late can it) m x q f taken_is its =
-        let here = within v s front kind rows back early late can fs is m x q
+        let here = within kind rows early late can is m x q
         (ap (is_part s) taken_is ∙ its) in
         let same_part = value_of
-        (sym (says v s front kind rows back early late can fs is m x here) ∙ taken_is) in
+        (sym (says kind rows early late can is here) ∙ taken_is) in
         record {
           kept = begun_by None (take here.place (parts_from kind s 1 (cuts v rows) rows));
-          kept_is = begun_so v s front kind rows back early late can fs is m x here;
-          stays = λ g p. view_so v s front kind rows back early late can fs is m x here g p
+          kept_is = begun_so kind rows early late can is here;
+          stays = λ g p. view_so kind rows early late can is here g p
               (view g p);
           few = subst (FewAt v s view
               (begun_by None (take here.place (parts_from kind s 1 (cuts v rows) rows)))) same_part
-              (few_at v s front kind rows back early late can fs is m x here (told o l s es)
-              (own (past o es) s) (own (past o (e ∷ es)) s) it view seen_before);
+              (few_at kind rows early late can is here it view seen_before);
           there = subst (ThereAt s view
               (begun_by None (take here.place (parts_from kind s 1 (cuts v rows) rows)))) same_part
-              (there_at v s front kind rows back early late can fs is m x here (told o l s es)
-              (own (past o es) s) (own (past o (e ∷ es)) s) it view seen_before kind refl);
+              (there_at kind rows early late can is here it view seen_before kind refl);
         }
 
     module _ (tells : EntryTells v o l s e es) (legal : IsPlayedIn o es) where
