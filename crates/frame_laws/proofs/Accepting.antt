@@ -48,7 +48,7 @@ module _ (o : Opening) (s : List ℕ) where
             → is_visible (past o (but e (Event.Frame k body) (Accepted r) ∷ es)) l ≡ true
         by true w = shown_after k body r (k == l) refl w
             (framed k body r q so_far (k == l) refl said w)
-        by false un = grind (arith, heard_whole)
+        by false un = grind arith
     by_event ev w q so_far said = grind arith
 
   heard_visible : (es : List Entry) → IsPlayedIn o es → (l : ℕ) → has_sync s (talk o l es) ≡ true
@@ -66,10 +66,10 @@ module _ (h : History) (legal : IsPlayed h) (l : ℕ) (s : List ℕ)
   es = h.entries
 
   said : has_sync s (talk h.opening l es) ≡ true
-  said = grind (arith, and_parts)
+  said = grind arith
 
   pub is_up_there : is_up l es ≡ true
-  is_up_there = grind (arith, and_parts)
+  is_up_there = grind arith
 
   pub shows : is_visible h l ≡ true
   shows = heard_visible h.opening s es legal l said
@@ -86,7 +86,7 @@ module _ (h : History) (legal : IsPlayed h) (l : ℕ) (s : List ℕ)
     not_own = grind (arith, peer_foreign h legal l p.node peer_is)
 
     present_is : present_link p.node es ≡ Some l
-    present_is = grind (arith, agrees, is_up_there, peer_is)
+    present_is = grind (arith, agrees, peer_is)
 
     pub listed_is : (g : List ℕ)
         → listed h s g p ≡ cond (is_from l es p) (stated h.opening l s g p es) 0
@@ -150,7 +150,7 @@ module _ (h : History) (legal : IsPlayed h) (l : ℕ) (s : List ℕ)
 
   stated_most : (r : Row) (b : Bool) → of_peer r ≡ b → (c : Bool) → is_from l es r.pid ≡ c
       → cond (of_peer r) (listed h s r.group r.pid) 0 ≤ stated h.opening l s r.group r.pid es
-  stated_most r true its true from = grind (arith, listed_from r.group r.pid from, its)
+  stated_most r true its true from = grind (arith, listed_from r.group r.pid from)
   stated_most r true its false other = grind (arith, listed_is r.pid its r.group)
   stated_most r false other c from = grind arith
 

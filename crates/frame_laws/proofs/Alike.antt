@@ -47,7 +47,7 @@ module _ (v : ℕ) (o : Opening) (es : List Entry) (e : Entry) (legal : IsPlayed
       → first_broken (message_checks h l (Message2.Part kind t number last rows)) ≡ None
       → is_next (begun o l es) kind t number ≡ true
   next_of PartKind.Sync t number last rows met = grind arith
-  next_of PartKind.Join t number last rows met = grind (arith, unbroken, all_hold)
+  next_of PartKind.Join t number last rows met = grind (arith, unbroken)
   next_of PartKind.Leave t number last rows met =
       unbroken (is_next (begun o l es) PartKind.Leave t number)
       (all_hold (message_checks h l (Message2.Part PartKind.Leave t number last rows)) met).1.1.1.0
@@ -67,12 +67,4 @@ module _ (v : ℕ) (o : Opening) (es : List Entry) (e : Entry) (legal : IsPlayed
       → is_whole l es ≡ true → Alike v o l s es
       → AcceptsAlike (frame_taken o l es body) (message_taken v body)
   accepts_alike k body r next is whole alike =
-      grind (
-        arith,
-        taken_same body whole,
-        taken_alike,
-        rules_met o l es e legal body r,
-        eqb-true k l is,
-        open_first (is_open l es) (frame_checks h l body (awaits l es)),
-        accepted h e.seat (Event.Frame l body) r,
-      )
+      grind (arith, taken_alike, rules_met o l es e legal body r, eqb-true k l is)

@@ -55,7 +55,7 @@ module _ (v : ℕ) where
           by true le = grind (arith, in_first, take-append-le, leb-true)
           by false more =
               let above = leb-false n (length xs) more in
-              let at : n ≡ length xs + (n - length xs) = omega (arith, above) in
+              let at : n ≡ length xs + (n - length xs) = omega arith in
               in_second n (n - length xs) k at (later.each (n - length xs) k
               (sym (behind (take (n - length xs) ys)) ∙ ap (begun_of v)
               (sym (take-append-add xs ys (n - length xs))
@@ -72,22 +72,22 @@ module _ (v : ℕ) where
       more rows))) refl
     where
       ended : length (parts_from kind s 1 more rows) ≤ suc j → true ≡ false
-      ended short = grind (arith, none_some, take_past, last_ends)
+      ended short = grind (arith, take_past, last_ends)
 
       here : (f : Message2)
           → (it : IsPiece None kind s [] rows 0 (parts_from kind s 1 more rows) j f) → (b : Bool)
           → it.last ≡ b → k.number ≡ suc j
       here f it true is = lie (ended (omega arith))
-      here f it false is = grind (arith, value_of)
+      here f it false is = grind arith
 
       by : (b : Bool) → nat_le (suc (suc j)) (length (parts_from kind s 1 more rows)) ≡ b
           → (k.number ≡ suc j) × (suc j < length (parts_from kind s 1 more rows))
-      by false more_than = grind (arith, ended, leb-false)
+      by false more_than = grind (arith, ended)
       by true le =
           let less = leb-true (suc (suc j)) (length (parts_from kind s 1 more rows)) le in
-          let f = element (parts_from kind s 1 more rows) j (omega (arith, less)) in
+          let f = element (parts_from kind s 1 more rows) j (omega arith) in
           let it = piece_at kind s 0 more rows [] None refl j f.0 f.1 in
-          (here f.0 it it.last refl, omega (arith, less))
+          (here f.0 it it.last refl, omega arith)
 
   -- so it is of a message, in the parts of its version
   begun_of_message : (m : Message) (n : ℕ) (k : Begun)
@@ -123,7 +123,7 @@ module _ (v : ℕ) where
       each : (n : ℕ) (k : Begun)
           → begun_of v (take n (map (λ f. f.body) (said_frames v m))) ≡ Some k
           → IsBegun v (map (λ f. f.body) (said_frames v m)) n k
-      each n k q = grind (arith, begun_of_message, said_so, length-map, reads_length, reads)
+      each n k q = grind (arith, begun_of_message, said_so, length-map)
 
   cut_hello : (body : List ℕ) → begins_message (first_byte body) ≡ false
       → Cut (narrow body ∷ [])
@@ -142,9 +142,8 @@ module _ (v : ℕ) where
 
   cut_closed : IsClosed Cut
   cut_closed = record {
-    nothing = record { ends = refl; each = λ n k q. lie (none_some k (sym (empty n) ∙ q)) };
-    both = λ xs ys first later. subst (IsCut v) (sym (map-append (λ f. f.body) xs ys))
-        (cut_both (map (λ f. f.body) xs) (map (λ f. f.body) ys) first later);
+    nothing = grind arith;
+    both = λ xs ys first later. rw map-append (cut_both _ _ first later);
   }
     where
       empty : (n : ℕ) → begun_of v (take n []) ≡ None
@@ -161,10 +160,7 @@ pub out_cut : (o : Opening) (es : List Entry) → IsNode (past o es) → (l v : 
 out_cut o [] node l v speaks = (cut_closed v).nothing
 out_cut o (e ∷ es) node l v speaks =
     let was = node_before o e es node in
-    subst (IsCut v) (sym (bodies_apart (out_in o l es) (owes (past o es) l e)
-    ∙ ap (λ bs. bodies_of (out_in o l es) ++ bs)
-    (bodies_owing e.number (owed (past o es) l e.number e.event e.verdict))))
-    (cut_both v (bodies_of (out_in o l es))
+    rw (bodies_apart, bodies_owing) (cut_both v (bodies_of (out_in o l es))
     (map (λ f. f.body) (owed (past o es) l e.number e.event e.verdict))
     (out_cut o es was l v speaks.1)
     (entry_holds o e es node l v speaks.1 (Cut v) (each_cut v (past o es) was l)

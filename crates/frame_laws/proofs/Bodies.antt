@@ -26,7 +26,7 @@ module _ {A : Type 0} where
   take_last xs x = take-append-add xs (x ∷ []) 1
 
   pub take_all : (xs : List A) (x : A) → take (length xs) (xs ++ x ∷ []) ≡ xs
-  take_all xs x = grind (arith, x, take-append-add xs (x ∷ []) 0, append-nil xs)
+  take_all xs x = grind (arith, take-append-add xs (x ∷ []) 0, append-nil xs)
 
 pub honest_first : (v : ℕ) (name : List ℕ) (creation : ℕ) (s : List ℕ) (xs ys : List (List ℕ))
     → IsHonest v name creation s (xs ++ ys) → IsHonest v name creation s xs

@@ -119,7 +119,6 @@ module _ (v : ℕ) (s : List ℕ) where
         reads v m can,
         pieces_other v s m other,
         message_seen v m can s,
-        unseen s,
       )
 
   pub calm_hello : (body : List ℕ) → begins_message (first_byte body) ≡ false

@@ -32,7 +32,7 @@ rows_own o (e ∷ es) node l v speaks n x q m says = by (λ r. rows_own o es (no
   where
     earlier : l ≤ entered es
         → creation (moment l (past o es)) ≡ creation (moment l (past o (e ∷ es)))
-    earlier low = grind (arith, earlier_moment o e es l low)
+    earlier low = grind arith
 
     -- a link to which something is owed was opened
     low_of : slice_get (out_in o l es) n ≡ Some x → (b : Bool) → nat_le l (entered es) ≡ b

@@ -137,11 +137,9 @@ module _ (o : Opening) (l : ℕ) where
       grind (
         arith,
         taken_came es,
-        more_came (delivered l es) [] (taken l es),
         all_append,
         more_came (delivered l es),
         stands_last (delivered l es),
-        more_came,
       )
 
   pub asked_once : (es : List Entry) → IsPlayedIn o es → (n : List ℕ) (c : ℕ) (bo : List Entry)

@@ -26,7 +26,7 @@ use proofs.Sayable.{IsSayable, reads, reads_hold}
 -- a body that doesn't begin as a Challenge does spells none
 not_asked : (body : List ℕ) → (first_byte body == 0x4E) ≡ false → (f : Challenge)
     → challenge_frame body ≡ Some f → ⊥
-not_asked body other f q = grind (arith, SpellsChallenge-read body f q, eqb-false, first_byte)
+not_asked body other f q = grind (arith, SpellsChallenge-read body f q)
 
 flags_fit : (hidden : Bool) → own_flags hidden < 2 ^ 64
 flags_fit hidden = grind arith
@@ -48,12 +48,7 @@ module _ (h : History) (node : IsNode h) where
   name_says : name_frame (name_bytes (own_hello h)) ≡ Some (own_hello h)
   name_says = name_frame-spelled (name_bytes (own_hello h)) (own_hello h)
       (record {
-        fits = record {
-          flags = flags_fit h.opening.hidden;
-          creation = own_creation_fits h node;
-          length = name_short;
-          version = version_known;
-        };
+        fits = grind (arith, own_creation_fits);
         extra = version_bytes h.opening.links;
         bytes = refl;
         version = version_read h.opening.links version_known;
@@ -72,13 +67,7 @@ module _ (h : History) (node : IsNode h) where
     -- and so is the own Challenge
     asked_says : challenge_frame (challenge_bytes own_asked) ≡ Some own_asked
     asked_says = challenge_frame-spelled (challenge_bytes own_asked) own_asked (record {
-      fits = record {
-        flags = flags_fit h.opening.hidden;
-        challenge = challenge_fits h.entries node.written l;
-        creation = own_creation_fits h node;
-        length = name_short;
-        version = version_known;
-      };
+      fits = grind (arith, challenge_fits, own_creation_fits);
       extra = version_bytes h.opening.links;
       bytes = refl;
       version = version_read h.opening.links version_known;
@@ -141,7 +130,7 @@ module _ (h : History) (node : IsNode h) where
 module _ (o : Opening) (e : Entry) (es : List Entry) (l : ℕ) where
   earlier_hello : l ≤ entered es
       → own_hello (moment l (past o es)) ≡ own_hello (moment l (past o (e ∷ es)))
-  earlier_hello low = grind (arith, earlier_moment o e es l low)
+  earlier_hello low = grind arith
 
   now_hello : IsPlayedIn o es → is_open l es ≡ true
       → own_hello (past o es) ≡ own_hello (moment l (past o es))
@@ -149,7 +138,7 @@ module _ (o : Opening) (e : Entry) (es : List Entry) (l : ℕ) where
 
   -- a link that was opened before has another number
   apart : e.number ≡ entered es + 1 → l ≤ entered es → (e.number == l) ≡ false
-  apart number low = grind (arith, eqb-true, low)
+  apart number low = grind arith
 
 pub asked_own : (o : Opening) (es : List Entry) → IsNode (past o es) → (l c : ℕ)
     → opening_of l es ≡ Some (ByPeer c) → (n : ℕ) (x : Owing) → slice_get (out_in o l es) n ≡ Some x
@@ -169,7 +158,7 @@ asked_own o (e ∷ es) node l c opens n x q g says = by (is_opened_by l e) refl 
     by true here q so_far (InFirst r less) = grind (arith, opens_next, unborn_out)
     by true here q so_far (InSecond m at r) =
         grind arith
-    by false other q so_far (InFirst r less) = grind (arith, earlier_hello, opening_low)
+    by false other q so_far (InFirst r less) = grind (arith, opening_low)
     by false other q so_far (InSecond m at r) =
         grind (
           arith,

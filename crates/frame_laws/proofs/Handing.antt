@@ -38,7 +38,6 @@ module _ (o : Opening) (es : List Entry) (e : Entry) (l : ℕ) (legal : IsPlayed
       total_of rest all =
           grind (
             arith,
-            none,
             append-nil (sent l es),
             append_assoc (sent l es) rest (now ev v),
             map-append,
@@ -46,16 +45,7 @@ module _ (o : Opening) (es : List Entry) (e : Entry) (l : ℕ) (legal : IsPlayed
           )
 
       stays : drops l es v ev ≡ false → IsHanded o l es → IsHanded o l (but e ev v ∷ es)
-      stays d before =
-          grind (
-            arith,
-            total_of before.rest before.all,
-            Waits,
-            Dropped,
-            unowed o es l,
-            unopened o es e l ev v made,
-            entered_more (but e ev v) es,
-          )
+      stays d before = grind (arith, total_of before.rest before.all, unowed o es l)
 
       -- one that ends the link
       drop_now : drops l es v ev ≡ true → ends l es v ev ≡ true
@@ -85,7 +75,6 @@ module _ (o : Opening) (es : List Entry) (e : Entry) (l : ℕ) (legal : IsPlayed
       taken before =
           grind (
             arith,
-            eq-eqb k l,
             append-nil (sent l es ++ frames),
             append-nil (out_in o l es),
             append-nil (sent l es),
@@ -100,7 +89,7 @@ module _ (o : Opening) (es : List Entry) (e : Entry) (l : ℕ) (legal : IsPlayed
     by_test ev v made none d other before = by (ends l es v ev && is_open l es) refl
       where
         by : (b : Bool) → (ends l es v ev && is_open l es) ≡ b → IsHanded o l (but e ev v ∷ es)
-        by true m = grind (arith, drop_now, and_parts)
+        by true m = grind (arith, drop_now)
         by false m = stays ev v made none (d ∙ m) before
 
     lost_by : (k : ℕ) (r : Reply) → IsStep (past o es) (but e (Event.Lost k) (Accepted r))
@@ -128,10 +117,10 @@ module _ (o : Opening) (es : List Entry) (e : Entry) (l : ℕ) (legal : IsPlayed
     step ev (Accepted r) made before = stays ev (Accepted r) made refl refl before
 
 pub all_handed : (o : Opening) (es : List Entry) → IsPlayedIn o es → (l : ℕ) → IsHanded o l es
-all_handed o [] legal l = grind (arith, Waits)
+all_handed o [] legal l = grind arith
 all_handed o (e ∷ es) legal l = grind (arith, step, all_handed o es legal.1 l)
 
 -- while the link is open, what waits is the rest
 pub open_rest : (o : Opening) (es : List Entry) (l : ℕ) → is_open l es ≡ true → IsHanded o l es
     → sent l es ++ waiting_in o l es ≡ frames_of (out_in o l es)
-open_rest o es l opens it = grind (arith, it.all)
+open_rest o es l opens it = grind arith

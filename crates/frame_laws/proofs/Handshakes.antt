@@ -43,9 +43,9 @@ no_message v body q = by (v == 2) (read_message body) refl (read_message2 body) 
         → read_message2 body ≡ y → cond b (read_message2 body)
         (option_map whole (read_message body)) ≡ None
     by true x p None is = is
-    by true x p (Some m) is = grind (arith, begins_part m, SpellsMessage2-read body m is)
+    by true x p (Some m) is = grind (arith, SpellsMessage2-read body m is)
     by false None is y p = ap (option_map whole) is
-    by false (Some m) is y p = grind (arith, begins m, SpellsMessage-read body m is)
+    by false (Some m) is y p = grind (arith, SpellsMessage-read body m is)
 
 pub begins_it : (v : ℕ) (body : List ℕ) (m : Message2) → message_taken v body ≡ Some m
     → begins_message (first_byte body) ≡ true

@@ -69,14 +69,11 @@ module _ (v : ℕ) (o : Opening) (es : List Entry) (e : Entry) (legal : IsPlayed
       earlier = it.earlier;
       last = same_told;
       body = it.body;
-      stands = stands_first bodies (came l ev) it.place it.body it.stands;
+      stands = grind (arith, stands_first);
       rows = it.rows;
-      behind = λ g p.
-          let less = slice_get_within bodies it.place it.body it.stands in
-          let first = take-append-le (it.place + 1) bodies (came l ev) (omega arith) in
-          grind arith;
+      behind = λ g p. grind (arith, slice_get_within, take-append-le);
       now = λ g p.
-          grind (arith, one, view_more v bodies body s g p, stays g p (view_of v s g p bodies));
+          grind (arith, view_more v bodies body s g p, stays g p (view_of v s g p bodies));
     }
 
   -- a body came that says rows of s, and was accepted
@@ -164,7 +161,7 @@ module _ (v : ℕ) (o : Opening) (es : List Entry) (e : Entry) (legal : IsPlayed
                   (stated o l s g p (x ∷ es))
               by g p true was =
                   grind (arith, now_known g p)
-              by g p false un = grind (arith, anew)
+              by g p false un = grind arith
 
           without : option_map_or (says_rows s) (said_at o l es body) false ≡ false
               → Said ev (Accepted r)
@@ -195,10 +192,10 @@ module _ (v : ℕ) (o : Opening) (es : List Entry) (e : Entry) (legal : IsPlayed
         (hears : heard o l s (but e ev (Refused r) ∷ es) ≡ true) (before : Before v o l s es)
         (alike : Alike v o l s es) where
       same_known : SameKnown ev (Refused r)
-      same_known g p = grind (arith, known_after)
+      same_known g p = grind arith
 
       was : heard o l s es ≡ true
-      was = grind (arith, heard_before v o es e legal l agrees s ev (Refused r) hears same_known)
+      was = grind arith
 
       refused_said : (b : Bool) → (k == l) ≡ b
           → IsHonest v name creation s (bodies ++ cond b (body ∷ []) []) → Said ev (Refused r)

@@ -18,11 +18,7 @@ pub record IsBodyOf (owings : List Owing) (place : ℕ) (body : List ℕ) : Type
 pub frame_of : (owings : List Owing) (place : ℕ) (body : List ℕ)
     → slice_get (bodies_of owings) place ≡ Some body → IsBodyOf owings place body
 frame_of [] place body q = cc
-frame_of (x ∷ owings) zero body q =
-    record { owing = x; stands = refl; body_is = same_body x.frame.body body q }
-  where
-    same_body : (a b : List ℕ) → Some a ≡ Some b → a ≡ b
-    same_body a b q = (cc)
+frame_of (x ∷ owings) zero body q = record { owing = x; stands = refl; body_is = (cc) }
 frame_of (x ∷ owings) (suc place) body q = (let it = frame_of owings place body q in
     record { owing = it.owing; stands = it.stands; body_is = it.body_is })
 

@@ -62,15 +62,11 @@ module _ (o : Opening) (l : ℕ) where
 
       shown_on : is_visible (past o (fr ∷ es)) l
           ≡ is_visible (past o es) l
-      shown_on = grind (
-        arith,
-        eq-eqb l l,
-        given_kept (record { body = body; before = es }) (opened l es) (taken l es) whole,
-      )
+      shown_on = grind arith
 
       kept_talk : said_at o l es body ≡ None
           → talk o l (fr ∷ es) ≡ talk o l es
-      kept_talk none = grind (arith, eq-eqb l l, whole, none)
+      kept_talk none = grind arith
 
       part_stands : (x : Option Message2) → frame_taken o l es body ≡ x
           → first_broken (option_map_or (message_checks (past o es) l) x (always Rule.BadFrame))
@@ -88,7 +84,7 @@ module _ (o : Opening) (l : ℕ) where
           let none = kept_talk (ap (option_and_then (completed (begun o l es))) says) in
           subst (Stands (fr ∷ es)) (value_of is) (record {
             runs = unbroken (is_running (past o es) s) held.1.0;
-            shows = shown_on ∙ unbroken (is_visible (past o es) l) held.0;
+            shows = grind arith;
             hears = grind arith;
           })
 
@@ -115,8 +111,7 @@ module _ (o : Opening) (l : ℕ) where
             of false other is =
                 let it = before (up_back (fresh o es legal e made) (Event.StopScope t) (Accepted r)
                 up (begun_whole j was)) j was in
-                let apart : same t j.scope ≡ false =
-                grind (arith, other, same_decides t j.scope, same_decides j.scope t) in
+                let apart : same t j.scope ≡ false = grind (arith, same_decides t j.scope) in
                 grind arith
 
     new_visible : IsStep (past o es) e → (ev : Event) (r : Reply)
@@ -147,7 +142,7 @@ module _ (o : Opening) (l : ℕ) where
             (it.talk o) before
     each_stands made before (Event.StopScope t) (Accepted r) q = stopped_stand made t r before
     each_stands made before (Event.StartScope t) (Accepted r) q =
-        still made (Event.StartScope t) (Accepted r) refl (λ s runs. grind (arith, runs))
+        still made (Event.StartScope t) (Accepted r) refl (λ s runs. grind arith)
         (λ w. refl) refl before
     each_stands made before Event.Restart (Accepted r) q = λ up k is. cc
     each_stands made before (Event.Opened c) (Accepted r) q =

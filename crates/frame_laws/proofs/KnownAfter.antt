@@ -24,8 +24,7 @@ module _ (s g : List ℕ) (p : Pid) where
   still_known : (o : Opening) (l : ℕ) (x : Entry) (es : List Entry) → heard o l s (x ∷ es) ≡ true
       → heard o l s es ≡ true → stated_in s g p (talk o l (x ∷ es)) ≡ stated_in s g p (talk o l es)
       → known o l s g p (x ∷ es) ≡ known o l s g p es
-  still_known o l x es now was same_talk =
-      grind (arith, known_as o l (x ∷ es) now, known_as o l es was)
+  still_known o l x es now was same_talk = grind arith
 
 module _ (o : Opening) (es : List Entry) (e : Entry) (legal : IsPlayedIn o es) (l : ℕ)
     (s g : List ℕ)
@@ -74,20 +73,18 @@ module _ (o : Opening) (es : List Entry) (e : Entry) (legal : IsPlayedIn o es) (
         whole = grind (arith, whole_is_message)
 
         spoken : talk o l (fr ∷ es) ≡ Said m ∷ talk o l es
-        spoken = grind (arith, same_link, eq-eqb l l, whole, says)
+        spoken = grind (arith, whole)
 
         heard_now : heard o l s (fr ∷ es) ≡ unwrap_or (hears s (Said m)) (heard o l s es)
         heard_now = grind (
           arith,
           (message_heard h legal fr made refl l body its m a says l s).heard_is,
-          eq-eqb l l,
         )
 
         said : heard o l s (fr ∷ es) ≡ true
             → known o l s g p (fr ∷ es) ≡ seen s g p m (known o l s g p es)
         said now = grind (
           arith,
-          known_as s g p o l (fr ∷ es) now,
           spoken,
           said_known s g p m (talk o l es) (heard o l s es) (sym heard_now ∙ now),
         )

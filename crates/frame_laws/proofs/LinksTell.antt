@@ -79,8 +79,7 @@ module _ (o : Opening) (es : List Entry) (e : Entry) (node : IsNode (past o es))
   down_quiet t text = grind (arith, down_quiet_in)
 
   stop_tells : (t : List ℕ) (r : Reply) → IsText t → TellsOf (Event.StopScope t) (Accepted r)
-  stop_tells t r text =
-      grind (arith, Ended, down_quiet t text, calm_down)
+  stop_tells t r text = grind (arith, down_quiet t text, calm_down)
 
   -- ---- links
 
@@ -167,14 +166,7 @@ module _ (o : Opening) (es : List Entry) (e : Entry) (node : IsNode (past o es))
             text = asked_text h node l t met
 
             told_now : same t s ≡ false → told o l s (fr ∷ es) ≡ true → told o l s es ≡ true
-            told_now other q =
-                grind (
-                  arith,
-                  now_told (Message.Discover t)
-                      (ap (option_and_then (completed (begun o l es))) says),
-                  other,
-                  q,
-                )
+            told_now other q = grind arith
 
             back : (b : Bool) → AllCalm v s (cond b [] (wide (Message.Discover t) ∷ []))
             back true = quiet

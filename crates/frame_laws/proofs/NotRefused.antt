@@ -18,19 +18,12 @@ module _ (o : Opening) (es : List Entry) (l : ℕ) (name : List ℕ) (creation :
     (gave : IsGiven l name creation es) where
   pub one_from : (p : Pid) → (same p.node name && p.creation == creation) ≡ true
       → is_from l es p ≡ true
-  one_from p q =
-      grind (
-        arith,
-        and_parts (same p.node name) (p.creation == creation) q,
-        gave.peer,
-        same_sym name p.node,
-        gave.creation_is,
-      )
+  one_from p q = grind (arith, same_sym name p.node)
 
   all_from : (rows : List Row) → list_all (λ r. same r.pid.node name && r.pid.creation == creation)
       rows ≡ true → AreFrom (past o es) l rows
   all_from [] q = refl
-  all_from (r ∷ rows) q = grind (arith, and_parts, one_from, all_from rows)
+  all_from (r ∷ rows) q = grind (arith, one_from, all_from rows)
 
 -- what is kept is of s
 abbrev pub kept_of : List ℕ → Option Begun → Bool
@@ -91,7 +84,7 @@ module _ (v : ℕ) (o : Opening) (es : List Entry) (e : Entry) (legal : IsPlayed
     -- as many rows as a Sync says
     synced_number : (g : List ℕ) (p : Pid) (rows : List Row) (x : Option ℕ) (n : ℕ)
         → seen s g p (Message.Sync s rows) x ≡ Some n → n ≡ rows_of g p rows
-    synced_number g p rows x n q = grind (arith, q, same_decides s s)
+    synced_number g p rows x n q = grind (arith, same_decides s s)
 
     may_sync : (rows : List Row) → IsFew v s (λ g p. view_of v s g p bodies) PartKind.Sync rows
         → MaySaySoFar h l PartKind.Sync s rows
@@ -108,7 +101,7 @@ module _ (v : ℕ) (o : Opening) (es : List Entry) (e : Entry) (legal : IsPlayed
         → view_of v s g p bodies ≡ Some (stated o l s g p es)) where
       joined_number : (g : List ℕ) (p : Pid) (rows : List Row) (n m : ℕ)
           → seen s g p (Message.Join s rows) (Some m) ≡ Some n → n ≡ m + rows_of g p rows
-      joined_number g p rows n m q = grind (arith, q, same_decides s s)
+      joined_number g p rows n m q = grind (arith, same_decides s s)
 
       may_join : (rows : List Row) → IsFew v s (λ g p. view_of v s g p bodies) PartKind.Join rows
           → MaySaySoFar h l PartKind.Join s rows
@@ -158,8 +151,7 @@ module _ (v : ℕ) (o : Opening) (es : List Entry) (e : Entry) (legal : IsPlayed
     never : (f : Message2) → message_taken v body ≡ Some f
         → first_broken (message_checks h l f) ≡ None → (r : Rule)
         → IsStep h (but e (Event.Frame l body) (Refused r)) → true ≡ false
-    never f says met r next =
-        grind (arith, admits h legal l up e.seat body f (taken_there f says) met)
+    never f says met r next = grind arith
 
     -- so a part of s is not refused while it is heard
     pub heard_never : ((g : List ℕ) (p : Pid) → view_of v s g p bodies ≡ Some (stated o l s g p es))

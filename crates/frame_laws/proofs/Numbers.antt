@@ -9,12 +9,12 @@ entered_more e es = grind arith
 
 pub entered_next : (e : Entry) (es : List Entry) → e.number ≡ entered es + 1
     → entered (e ∷ es) ≡ entered es + 1
-entered_next e es number = grind (arith, eqb-true e.number 0)
+entered_next e es number = grind arith
 
 -- a moment has no more entries than its number says
 pub moment_low : (k : ℕ) (es : List Entry) → entered (moment_in k es) ≤ k
 moment_low k [] = omega arith
-moment_low k (e ∷ es) = grind (arith, moment_low k es, ltb-true (entered es) k)
+moment_low k (e ∷ es) = grind (arith, moment_low k es)
 
 module _ (o : Opening) (es : List Entry) (e : Entry) where
 

@@ -17,8 +17,7 @@ module _ (o : Opening) (l : ℕ) where
   pub never_whole : (v : ℕ) (es : List Entry) → IsPlayedIn o es → entered es < l
       → Speaks o l v es
   never_whole v [] legal above = tt
-  never_whole v (e ∷ es) legal above =
-      grind (arith, entered_more, unopened_so, unborn, never_whole v es legal.1)
+  never_whole v (e ∷ es) legal above = grind (arith, entered_more, unborn, never_whole v es legal.1)
 
   -- where a link was whole and no restart came, it is whole, and its peer has given what it had
   pub record StaysWhole (e : Entry) (es : List Entry) : Type 0 where
@@ -42,14 +41,10 @@ module _ (o : Opening) (l : ℕ) where
 
         by : (b : Bool) → (k == l) ≡ b → StaysWhole (but e (Event.Frame k body) (Accepted r)) es
         by true is = record {
-          whole = ap (λ x. whole_by (opened l es)
-              (and_frame (taken l es) (cond x (Some moment) None))) is
-              ∙ whole_kept moment (opened l es) (taken l es) was;
-          given_is = ap (λ x. given_by (opened l es)
-              (and_frame (taken l es) (cond x (Some moment) None))) is
-              ∙ given_kept moment (opened l es) (taken l es) was;
+          whole = grind (arith, whole_kept moment (opened l es) (taken l es) was);
+          given_is = grind arith;
         }
-        by false apart = grind (arith, entry_link)
+        by false apart = grind arith
     stays_whole (Event.Opened c) (Accepted r) made was on =
         grind (
           arith,
@@ -130,4 +125,4 @@ module _ (o : Opening) (l : ℕ) where
           (stays_whole e es legal.1 e.event e.verdict legal.0 was (grind arith)))
       by true whole true opens false un it =
           grind (arith, newly_whole (link_version o l (e ∷ es)) e es legal.1 legal.0 opens un)
-      by true whole false shut false un it = grind (arith, was_whole, whole)
+      by true whole false shut false un it = grind arith

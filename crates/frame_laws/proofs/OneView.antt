@@ -32,7 +32,7 @@ pub element : {A : Type 0} (xs : List A) (n : ℕ) → n < length xs → (x : A)
     x)
 element [] n less = grind arith
 element (x ∷ xs) zero less = (x, refl)
-element (x ∷ xs) (suc n) less = element xs n (omega (arith, less))
+element (x ∷ xs) (suc n) less = element xs n (omega arith)
 
 -- what says rows is a message
 is_wide : (v : ℕ) (s : List ℕ) (f : OutFrame) → SaysOne v f → has_rows v s f.body ≡ true
@@ -58,7 +58,7 @@ module _ (v : ℕ) (A : History) (node : IsNode A) (a : ℕ) (B : History) (lega
     foreign : (c : Bool) → (p.creation == creation K) ≡ c → is_from b B.entries p ≡ false
         → is_local K p ≡ false
     foreign true made apart = grind (arith, one_from, gave)
-    foreign false other apart = grind (arith, and_false (same p.node A.opening.name))
+    foreign false other apart = grind arith
 
     lists_all : listed B s g p ≡ own K s g p
     lists_all = by (is_from b B.entries p) refl
@@ -166,7 +166,7 @@ module _ (v : ℕ) (A : History) (node : IsNode A) (a : ℕ) (B : History) (lega
             let low = since.low in
             let long = moment_low x.source A.entries in
             since.same ∙ ap creation (moment_then A.opening A.entries a x.source
-            (omega (arith, low, long, within)) within)
+            (omega arith) within)
 
     pub heard_moment : HearsMoment A a B b s
     heard_moment = record {

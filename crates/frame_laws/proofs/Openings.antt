@@ -9,7 +9,7 @@ use proofs.Handing.{unborn_open}
 use proofs.Places.{earlier_moment, this_moment}
 
 pub opened_number : (l : ℕ) (e : Entry) → is_opened_by l e ≡ true → e.number ≡ l
-opened_number l e q = grind (arith, eqb-true)
+opened_number l e q = grind arith
 
 module _ (o : Opening) where
   -- its number is that of an entry
@@ -23,27 +23,19 @@ module _ (o : Opening) where
   pub unborn_out : (es : List Entry) → IsPlayedIn o es → (l : ℕ) → entered es < l
       → out_in o l es ≡ []
   unborn_out [] legal l above = refl
-  unborn_out (e ∷ es) legal l above =
-      grind (arith, entered_more, unborn_out es legal.1 l, unborn_yet, unowed, unborn_open)
+  unborn_out (e ∷ es) legal l above = grind (arith, unborn_out es legal.1 l, unowed, unborn_open)
 
   -- an open link was opened by an entry
   pub open_low : (es : List Entry) → IsPlayedIn o es → (l : ℕ) → is_open l es ≡ true
       → l ≤ entered es
-  open_low es legal l opens = grind (arith, leb-true, unborn_open)
+  open_low es legal l opens = grind (arith, unborn_open)
 
   -- while it is open the creation is the one at its opening
   pub same_creation : (es : List Entry) → IsPlayedIn o es → (l : ℕ) → is_open l es ≡ true
       → creation (past o es) ≡ creation (moment l (past o es))
   same_creation [] legal l opens = cc
   same_creation (e ∷ es) legal l opens =
-      grind (
-        arith,
-        same_creation es legal.1 l,
-        this_moment o e es l,
-        opens_next o es e l e.event e.verdict legal.0,
-        earlier_moment o e es l,
-        open_low es legal.1 l,
-      )
+      grind (arith, same_creation es legal.1 l, earlier_moment o e es l, open_low es legal.1 l)
 
 -- how a link was opened is how it is said to be opened since the last restart
 pub opening_is : (es : List Entry) (l : ℕ) (x : Opened) → opened l es ≡ Some x

@@ -74,12 +74,12 @@ module _ (o : Opening) where
         joins t f ps r (unbroken (list_all (lives (past o es)) ps)
         (all_hold (join_checks (past o es) t f ps) (accepted (past o es) e.seat (Event.Join t f ps)
         r q).0).1.1.0) text.1 so_far (same t s) (same f g) refl refl some
-    by_event Event.Restart (Accepted r) q text so_far some = absurd (omega (arith, some))
+    by_event Event.Restart (Accepted r) q text so_far some = absurd (omega arith)
     by_event ev (Accepted r) q text so_far some = grind arith
 
   joined_text : (es : List Entry) → IsPlayedIn o es → AllWritten es → (s g : List ℕ) (p : Pid)
       → 0 < joined s g p (events es) → IsJoined es g p
-  joined_text [] legal written s g p some = absurd (omega (arith, some))
+  joined_text [] legal written s g p some = absurd (omega arith)
   joined_text (e ∷ es) legal written s g p some = by_event es e s g p e.event e.verdict
       legal.0.judged written.0 (joined_text es legal.1 written.1 s g p) some
 
@@ -110,13 +110,12 @@ module _ (h : History) (node : IsNode h) where
   -- a local process with a number that was spawned has a row
   local_row : (g : List ℕ) (p : Pid) → IsText g → is_local h p ≡ true → p.number ≤ spawned h
       → IsRow (row g p)
-  local_row g p text local number =
-      grind (arith, and_parts, same_decides, own_creation_fits, few_spawned)
+  local_row g p text local number = grind (arith, same_decides, own_creation_fits, few_spawned)
 
   -- a process that lives has one in each group
   pub living_row : (g : List ℕ) (p : Pid) → IsText g → lives h p ≡ true → IsRow (row g p)
-  living_row g p text alive = local_row g p text (grind (arith, alive))
-      (leb-true p.number (spawned h) (grind (arith, alive)))
+  living_row g p text alive = local_row g p text (grind arith)
+      (leb-true p.number (spawned h) (grind arith))
 
   pub own_row : (s g : List ℕ) (p : Pid) → 0 < own h s g p → IsRow (row g p)
   own_row s g p some =

@@ -79,8 +79,7 @@ module _ (h : History) (node : IsNode h) where
   join_each g ps text alive = all_counted IsRow (join_rows g ps) each
     where
       each : (r : Row) → 0 < occurrences same_row r (join_rows g ps) → IsRow r
-      each r some =
-          grind (arith, join_listing, living_row, same_decides, uncounted, same_pid_decides, alive)
+      each r some = grind (arith, join_listing, living_row, same_decides, uncounted)
 
   leave_within : (s g : List ℕ) (ps : List Pid) (r : Row)
       → occurrences same_row r (leave_rows s g ps) ≤ own h s r.group r.pid
@@ -124,14 +123,7 @@ module _ (h : History) (node : IsNode h) where
     pub asked_room : is_whole l h.entries ≡ true → (s : List ℕ)
         → first_broken (message_checks h l (Message2.Discover s)) ≡ None
         → length (local_rows h s) ≤ limit v
-    asked_room whole s met =
-        grind (
-          arith,
-          few_local h node.legal s,
-          unbroken (link_version h.opening l h.entries == 2
-              || nat_le (length (local_rows h s)) max_rows)
-              (all_hold (message_checks h l (Message2.Discover s)) met).1.1.0,
-        )
+    asked_room whole s met = grind (arith, few_local h node.legal s)
 
     pub join_is : (s g : List ℕ) (ps : List Pid) → IsText s → IsText g
         → list_all (lives h) ps ≡ true → length (local_rows h s) + length ps ≤ own_limit h s
@@ -180,7 +172,7 @@ module _ (h : History) (node : IsNode h) where
       filtered : (rows : List Row) → AreLocal rows
           → AreLocal (filter (λ w. same_pid w.pid p) rows)
       filtered [] all = refl
-      filtered (r ∷ rows) all = grind (arith, filtered rows, all)
+      filtered (r ∷ rows) all = grind (arith, filtered rows)
 
   pub leave_own : (s g : List ℕ) (ps : List Pid)
       → AreLocal (leave_rows s g ps)

@@ -88,7 +88,7 @@ not_first n = search rules
 kept_before : (kind : PartKind) (s : List ℕ) (n : ℕ) (before : List Row)
     → rows_before (Some (record { kind = kind; scope = s; number = suc n; rows = before })) kind s
     (suc (suc n)) ≡ before
-kept_before kind s n before = search (rules, not_first n)
+kept_before kind s n before = search rules
 
 pub value_of : {A : Type 0} {x y : A} → Some x ≡ Some y → x ≡ y
 value_of q = cc
@@ -112,14 +112,15 @@ piece_later kind s n more rows before b k f it = record {
   first = take max_rows rows ++ it.first;
   rest = it.rest;
   is = it.is;
-  so_far = it.so_far ∙ append_assoc before (take max_rows rows) it.first;
-  whole_is = append_assoc (take max_rows rows) it.first it.rest
-      ∙ ap (λ xs. take max_rows rows ++ xs) it.whole_is ∙ take-append-drop max_rows rows;
+  so_far = grind (arith, append_assoc before (take max_rows rows) it.first);
+  whole_is = grind (
+    arith,
+    append_assoc (take max_rows rows) it.first it.rest,
+    take-append-drop max_rows rows,
+  );
   none = it.none;
-  ends = λ is. ap suc (it.ends is);
-  begins = λ is. it.begins is ∙ ap (λ xs. Some (record
-      { kind = kind; scope = s; number = it.number; rows = xs }))
-      (append_assoc before (take max_rows rows) it.first);
+  ends = λ is. grind arith;
+  begins = λ is. grind (arith, append_assoc before (take max_rows rows) it.first);
 }
 
 pub piece_at : (kind : PartKind) (s : List ℕ) (n more : ℕ) (rows before : List Row)
@@ -153,8 +154,7 @@ piece_at kind s n (suc more) rows before b was zero f q = record {
   whole_is = take-append-drop max_rows rows;
   none = refl;
   ends = λ is. cc;
-  begins = λ is. ap (λ xs. Some (record
-      { kind = kind; scope = s; number = suc n; rows = xs ++ take max_rows rows })) was;
+  begins = λ is. grind arith;
 }
 piece_at kind s n (suc more) rows before b was (suc k) f q =
     piece_later kind s n more rows before b k f

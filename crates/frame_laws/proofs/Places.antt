@@ -17,8 +17,8 @@ module _ {A : Type 0} where
   part (y ∷ xs) ys (suc n) x q = by (part xs ys n x q)
     where
       by : Parted xs ys n x → Parted (y ∷ xs) ys (suc n) x
-      by (InFirst r less) = grind (arith, InFirst)
-      by (InSecond m is r) = InSecond m (omega (arith, is)) r
+      by (InFirst r less) = grind arith
+      by (InSecond m is r) = InSecond m (omega arith) r
 
   -- what holds of all holds at each place
   pub all_at : (P : A → Type 0) (xs : List A) → AllByRecursion P xs → (n : ℕ) (x : A)
@@ -84,12 +84,10 @@ module _ (o : Opening) (l : ℕ) (P : History → OutFrame → Type 0) where
     where
       by : (slice_get (out_in o l es) n ≡ Some x → HoldsThen es x)
           → Parted (out_in o l es) (owes (past o es) l e) n x → HoldsThen (e ∷ es) x
-      by so_far (InFirst r less) = grind (arith, entered_more, earlier_moment)
+      by so_far (InFirst r less) = grind arith
       by so_far (InSecond m is r) =
           grind (
             arith,
             owed_here e.number (owed (past o es) l e.number e.event e.verdict) m x r,
             owed_number o es e legal.0 l m x.frame,
-            entered_next e es,
-            this_moment o e es x.source,
           )

@@ -18,11 +18,7 @@ module _ (h : History) (e : Entry) (k : ℕ) (body : List ℕ) (r : Reply)
   -- no rule is broken
   pub found : (is_open l h.entries ≡ true)
       × (first_broken (frame_checks h l body (awaits l h.entries)) ≡ None)
-  found = grind (
-    arith,
-    open_first (is_open k h.entries) (frame_checks h k body (awaits k h.entries))
-        (accepted h e.seat (Event.Frame k body) r made.judged).0,
-  )
+  found = grind arith
 
   pub record WasSo (s : List ℕ) : Type 0 where
     pub heard_so : heard h.opening l s (fr ∷ h.entries) ≡ true

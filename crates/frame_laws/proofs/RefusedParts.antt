@@ -119,7 +119,7 @@ module _ (v : ℕ) (o : Opening) (es : List Entry) (e : Entry) (legal : IsPlayed
         whole = (and_parts (is_open l es) (is_whole l es) up).1
 
         same_kept : begun o l es ≡ begun_of v bodies
-        same_kept = grind (arith, up)
+        same_kept = grind arith
 
         next_is : (k : Begun) → begun o l es ≡ Some k → comes_next (Some k) f ≡ true
         next_is k is = ap (λ x. comes_next x f) (sym (sym same_kept ∙ is))
@@ -177,10 +177,10 @@ module _ (v : ℕ) (o : Opening) (es : List Entry) (e : Entry) (legal : IsPlayed
 
       heard_was : heard o l s (but e (Event.Frame k body) (Refused r) ∷ es) ≡ true
           → heard o l s es ≡ true
-      heard_was hears = grind (arith, heard_before, known_after)
+      heard_was hears = grind arith
 
       up_was : is_up l es ≡ true
-      up_was = grind (arith, from_or, up_back, fresh, some_whole, is_up_there, heard_was, and_parts)
+      up_was = grind arith
 
       of : (m : Option Message2) → message_taken v body ≡ m → (f : Message2) → m ≡ Some f
           → begun o l es ≡ begun_of v (bodies ++ cond (k == l) (body ∷ []) [])
@@ -209,5 +209,4 @@ module _ (v : ℕ) (o : Opening) (es : List Entry) (e : Entry) (legal : IsPlayed
 
   pub stopped_alike : (t : List ℕ) (r : Reply) → IsStep h (but e (Event.StopScope t) (Accepted r))
       → Alike v o l s es → Alike v o l s (but e (Event.StopScope t) (Accepted r) ∷ es)
-  stopped_alike t r next alike up kept =
-      grind (arith, append-nil, is_up_there, same_decides)
+  stopped_alike t r next alike up kept = grind (arith, append-nil, same_decides)

@@ -50,7 +50,7 @@ module _ (h : History) (node : IsNode h) (l v : ℕ)
 
         one : is_told ≡ true → is_empty rows ≡ false
             → if_told h l s say rows ≡ said_frames v (say rows)
-        one tells q = grind (arith, told_frames)
+        one tells q = grind arith
 
         by : (b : Bool) → is_told ≡ b → (c : Bool) → is_empty rows ≡ c
             → Tells v s is_told is_told was now fs
@@ -73,8 +73,7 @@ part_calm : (h : History) (node : IsNode h) (l v : ℕ)
     (s t : List ℕ) (say : List Row → Message) (rows : List Row)
     → (told h.opening l t h.entries ≡ true → is_empty rows ≡ false → IsSayable v (say rows))
     → is_about_rows s (Some (say rows)) ≡ false → AllCalm v s (if_told h l t say rows)
-part_calm h node l v agrees s t say rows is other =
-    grind (arith, calm_closed v s, calm_message v s (say rows))
+part_calm h node l v agrees s t say rows is other = grind (arith, calm_message v s (say rows))
 
 nothing_of : (g : List ℕ) (p : Pid) (rows : List Row) → is_empty rows ≡ true → rows_of g p rows ≡ 0
 nothing_of g p [] q = refl

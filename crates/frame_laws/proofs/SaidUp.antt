@@ -17,7 +17,7 @@ module _ (o : Opening) where
   unrestarted : (es : List Entry) → IsPlayedIn o es → (k : ℕ) → entered es ≤ k
       → is_restarted_after k es ≡ false
   unrestarted [] legal k le = refl
-  unrestarted (e ∷ es) legal k le = grind (arith, unrestarted es legal.1 k, entered_more)
+  unrestarted (e ∷ es) legal k le = grind (arith, unrestarted es legal.1 k)
 
   -- what makes a link whole is an entry
   whole_number : (es : List Entry) (e : Entry) (l : ℕ) (ev : Event) (v : Verdict)
@@ -54,7 +54,7 @@ module _ (o : Opening) (es : List Entry) (e : Entry) (l : ℕ) where
   all_untold : is_whole l es ≡ false → (say : List ℕ → List Row → Message) (rows : List ℕ → List
       Row) (ss : List (List ℕ)) → flat_map (λ s. if_told (past o es) l s (say s) (rows s)) ss ≡ []
   all_untold un say rows [] = refl
-  all_untold un say rows (s ∷ ss) = grind (arith, un, all_untold un say rows ss)
+  all_untold un say rows (s ∷ ss) = grind (arith, all_untold un say rows ss)
 
   framed : (k : ℕ) (body : List ℕ) (r : Reply)
       → IsStep (past o es) (but e (Event.Frame k body) (Accepted r)) → (k == l) ≡ true

@@ -38,13 +38,13 @@ module _ (v : ℕ) (s : List ℕ) (text : IsText s) (rows : List Row)
   fits = omega (arith, limit_small v)
 
   pub sync_sayable : IsSayable v (Message.Sync s rows)
-  sync_sayable = grind (arith, All-from_recursion, fits, few)
+  sync_sayable = grind (arith, All-from_recursion)
 
   pub join_sayable : 0 < length rows → IsSayable v (Message.Join s rows)
-  join_sayable some = grind (arith, All-from_recursion, fits, few)
+  join_sayable some = grind (arith, All-from_recursion)
 
   pub leave_sayable : 0 < length rows → IsSayable v (Message.Leave s rows)
-  leave_sayable some = grind (arith, All-from_recursion, fits, few)
+  leave_sayable some = grind (arith, All-from_recursion)
 
 -- ---- frames that are read as these parts
 
@@ -89,7 +89,7 @@ pub record IsReadAt (v : ℕ) (f : OutFrame) (ps : List Message2) (k : ℕ) : Ty
 pub reads_at : (v : ℕ) (fs : List OutFrame) (ps : List Message2) → Reads v fs ps → (k : ℕ)
     (f : OutFrame) → slice_get fs k ≡ Some f → IsReadAt v f ps k
 reads_at v [] ps reads k f q = cc
-reads_at v (x ∷ fs) (p ∷ ps) reads zero f q = grind (arith, value_of)
+reads_at v (x ∷ fs) (p ∷ ps) reads zero f q = grind arith
 reads_at v (x ∷ fs) (p ∷ ps) reads (suc k) f q = grind (arith, reads_at v fs ps reads.1 k f q)
 reads_at v (x ∷ fs) [] reads k f q = absurd reads
 
@@ -123,10 +123,7 @@ reads v m it =
       arith,
       new_reads v,
       recursion_from_All IsMessage2 (parts m) (parts_within m it.written it.has),
-      parts_within m it.written it.has,
-      taken_old v (message_bytes m),
       message-spelled (message_bytes m) m,
-      old_message v m,
     )
 
 -- a message without rows is one frame, of the same bytes in both versions

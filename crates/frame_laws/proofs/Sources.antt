@@ -43,12 +43,6 @@ module _ (o : Opening) (l : ℕ) where
             arith,
             owed_here e.number (owed (past o es) l e.number e.event e.verdict) j y b,
             is_entry es legal.1 m x a,
-            owed_number o es e legal.0 l j y.frame,
           )
       by so_far (InSecond i is a) (InFirst b few) = grind arith
-      by so_far (InSecond i is a) (InSecond j at b) =
-          omega (
-            arith,
-            (owed_here e.number (owed (past o es) l e.number e.event e.verdict) i x a).source,
-            (owed_here e.number (owed (past o es) l e.number e.event e.verdict) j y b).source,
-          )
+      by so_far (InSecond i is a) (InSecond j at b) = grind (arith, owed_here)

@@ -35,8 +35,7 @@ means : (v : ℕ) (h : History) (f : OutFrame) (m : Message2) → f.wide ≡ tru
     → message_taken v f.body ≡ Some m → is_of h.opening.name (creation h) m ≡ true → IsSpoken v h f
 means v h f m wide says from = record {
   says = Means m wide says;
-  own = λ n also. subst (λ x. is_of h.opening.name (creation h) x ≡ true)
-      (value_of (sym says ∙ also)) from;
+  own = λ n also. grind arith;
 }
 
 module _ (h : History) (node : IsNode h) where
@@ -150,8 +149,7 @@ module _ (h : History) (node : IsNode h) where
   spoken_parts : (v : ℕ) (m : Message) → IsSayable v m → AreOwn m
       → AllByRecursion (IsSpoken v h) (said_frames v m)
   spoken_parts v m can own = reads_hold v (IsSpoken v h)
-      (λ p. is_of h.opening.name (creation h) p ≡ true)
-      (λ f p wide says from. means v h f p wide says from) (said_frames v m) (pieces v m)
+      (λ p. is_of h.opening.name (creation h) p ≡ true) (means v h) (said_frames v m) (pieces v m)
       (reads v m can) (pieces_meet (λ r. is_local h r.pid) v m own)
 
   pub each_spoken : (l v : ℕ) → Holds l v (AllByRecursion (IsSpoken v h))

@@ -68,12 +68,8 @@ module _ {v : ℕ} {s : List ℕ} {told_before : Bool} {was now : List ℕ → P
   pub told_sync : length rows ≤ limit v → ((g : List ℕ) (p : Pid) → rows_of g p rows ≡ now g p)
       → IsTold v s told_before was now PartKind.Sync rows
   told_sync few all = record {
-    says = λ x before g p. synced s g p rows (x g p) ∙ ap Some (all g p);
-    few = λ x before first rest is. (
-      first,
-      (λ g p. (rows_of g p first, synced s g p first (x g p), omega arith)),
-      (omega (arith, shorter first rest rows is)),
-    );
+    says = λ x before g p. grind (arith, synced);
+    few = λ x before first rest is. grind (arith, synced s, shorter first rest rows is);
     there = λ x before is. cc;
   }
 
@@ -83,8 +79,7 @@ module _ {v : ℕ} {s : List ℕ} {told_before : Bool} {was now : List ℕ → P
         → ((g : List ℕ) (p : Pid) → now g p ≡ was g p + rows_of g p rows)
         → IsTold v s told_before was now PartKind.Join rows
     told_join few all = record {
-      says = λ x before g p. ap (seen s g p (Message.Join s rows)) (before tells g p)
-          ∙ added s g p rows (was g p) ∙ ap Some (sym (all g p));
+      says = λ x before g p. grind (arith, added);
       few = λ x before first rest is. (
         base ++ first,
         (λ g p. (
@@ -103,8 +98,7 @@ module _ {v : ℕ} {s : List ℕ} {told_before : Bool} {was now : List ℕ → P
         → ((g : List ℕ) (p : Pid) → now g p ≡ was g p - rows_of g p rows)
         → IsTold v s told_before was now PartKind.Leave rows
     told_leave few less all = record {
-      says = λ x before g p. ap (seen s g p (Message.Leave s rows)) (before tells g p)
-          ∙ taken_off s g p rows (was g p) ∙ ap Some (sym (all g p));
+      says = λ x before g p. grind (arith, taken_off);
       few = λ x before first rest is. (
         base,
         (λ g p. (

@@ -181,7 +181,7 @@ module _ {v : ℕ} {s : List ℕ} {front back fs : List OutFrame} (kind : PartKi
           (λ g p. (let all = told_so.there x before leaves g p in
           let less = fewer_of g p piece.first piece.rest rows piece.whole_is in
           let low = all.2 in
-          (all.0, all.1, omega (arith, less, low))))
+          (all.0, all.1, omega arith)))
       there_at j other = tt
 
 module _ (v : ℕ) (o : Opening) (l : ℕ) (s : List ℕ) where
@@ -229,7 +229,7 @@ module _ (v : ℕ) (o : Opening) (l : ℕ) (s : List ℕ) where
         → (f : Message2) → message_taken v x.body ≡ Some f → is_part s (Some f) ≡ true
         → PartSeen m f
     part_seen (Silent calm stays) m x q f says its =
-        grind (arith, says, no_rows_at v s fs calm.no_rows m x q)
+        grind (arith, no_rows_at v s fs calm.no_rows m x q)
     part_seen (Ended none ends) m x q f says its = grind (arith, no_rows_at v s fs none m x q)
     part_seen (Spoke front kind rows back is early late can it) m x q f taken_is its =
         let here = within kind rows early late can is m x q
@@ -334,7 +334,7 @@ module _ (v : ℕ) (o : Opening) (l : ℕ) (s : List ℕ) where
       moments n x (InFirst r less) has g p =
           grind (
             arith,
-            take-append-le (n + 1) (out_in o l es) (owes (past o es) l e) (omega (arith, less)),
+            take-append-le (n + 1) (out_in o l es) (owes (past o es) l e) (omega arith),
             earlier_moment o e es x.source (is_entry o l es legal n x r).within,
           )
       moments n x (InSecond m at r) has g p =

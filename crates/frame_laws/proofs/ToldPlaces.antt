@@ -41,7 +41,6 @@ told_fall o l s (e ∷ es) = by (heard o l s (e ∷ es)) (tells_rows o l s es e.
     by true true q before =
         grind (
           arith,
-          one_came o l s es e.event e.verdict q,
           grown,
           lower (length (delivered l es)) (length (delivered l (e ∷ es))) (omega (arith, grown))
               (told_rows o l s es) before.below,
