@@ -163,7 +163,7 @@ module _ (h : History) (legal : IsPlayed h) (l : ℕ) (s : List ℕ)
       let long = peer_length (groups h s) in
       let room = it.room in
       le-leb (peer_rows h l s + length rows) (peer_limit h l)
-      (omega (arith, fewer, both, long, room))
+      (omega arith)
     where
       within : (r : Row) → occurrences same_row r (filter of_peer (rows_in_groups (groups h s))
           ++ rows) ≤ occurrences same_row r it.all

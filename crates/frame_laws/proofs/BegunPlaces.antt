@@ -40,8 +40,7 @@ module _ (v : ℕ) where
         message = it.message;
         place = length xs + it.place;
         fits = omega (arith, length-append xs ys);
-        parts_are = λ j le. ap (λ bs. frames_said v (take j bs)) (drop-append-add xs ys it.place)
-            ∙ it.parts_are j le;
+        parts_are = λ j le. grind (arith, drop-append-add);
         few = it.few;
         kept = it.kept;
         behind = omega arith;

@@ -32,8 +32,7 @@ pub honest_first : (v : ℕ) (name : List ℕ) (creation : ℕ) (s : List ℕ) (
     → IsHonest v name creation s (xs ++ ys) → IsHonest v name creation s xs
 honest_first v name creation s xs ys it = record {
   own = λ n body m q says. it.own n body m (stands_first xs ys n body q) says;
-  order = begins_in_order None (frames_said v xs) (frames_said v ys)
-      (subst (AreInOrder None) (said_apart v xs ys) it.order);
+  order = grind (arith, begins_in_order, said_apart);
   few = λ n body q kind number last rows says.
       let less = slice_get_within xs n body q in
       subst (FewBehind v s kind number rows) (take-append-le n xs ys (omega arith))
@@ -41,7 +40,7 @@ honest_first v name creation s xs ys it = record {
   there = λ n body q number last rows says.
       let less = slice_get_within xs n body q in
       subst (ThereBehind v s number rows)
-      (take-append-le n xs ys (omega (arith, less)))
+      (take-append-le n xs ys (omega arith))
       (it.there n body (stands_first xs ys n body q) number last rows says);
 }
 

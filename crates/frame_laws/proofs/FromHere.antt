@@ -15,12 +15,8 @@ module _ (o : Opening) (es : List Entry) (e : Entry) (l v : ℕ) where
   opened_silent : (ev : Event) (w : Verdict) → is_opened_by l (but e ev w) ≡ true
       → (m : ℕ) (f : OutFrame) → slice_get (owed (past o es) l e.number ev w) m ≡ Some f
       → message_taken v f.body ≡ None
-  opened_silent (Event.Dial n c) (Accepted r) here m f q =
-      grind (
-        arith,
-        no_message v (OutFrame.body (own_name_frame (past o es))) refl,
-      )
-  opened_silent ev w here m f q = grind arith
+  opened_silent ev w here m f q =
+      grind (arith, no_message v (OutFrame.body (own_name_frame (past o es))) refl)
 
 pub rows_own : (o : Opening) (es : List Entry) → IsNode (past o es) → (l v : ℕ) → Speaks o l v es
     → (n : ℕ) (x : Owing) → slice_get (out_in o l es) n ≡ Some x → (m : Message2)

@@ -56,13 +56,7 @@ module _ (o : Opening) (es : List Entry) (e : Entry) (l : ℕ) (legal : IsPlayed
             arith,
             total_of before.rest before.all,
             leb-true,
-            Dropped,
-            entered_more,
-            Waits,
-            leb-false l (entered es),
             unborn_waiting (past o es) legal l,
-            unowed o es l,
-            unborn_open o es legal l,
           )
 
     -- ---- a Take of the link

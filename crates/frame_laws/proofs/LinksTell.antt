@@ -68,12 +68,7 @@ module _ (o : Opening) (es : List Entry) (e : Entry) (node : IsNode (past o es))
   start_tells : (t : List ℕ) (r : Reply) → IsStep h (but e (Event.StartScope t) (Accepted r))
       → IsText t → TellsOf (Event.StartScope t) (Accepted r)
   start_tells t r next text =
-      grind (
-        arith,
-        Silent,
-        visible_calm (Message.Discover t) (calm_asks v s t text),
-        same_decides t s,
-      )
+      grind (arith, visible_calm (Message.Discover t) (calm_asks v s t text), same_decides t s)
 
   down_quiet : (t : List ℕ) → IsText t → HasNoRows v s (if_visible h l (Message.Down t))
   down_quiet t text = grind (arith, down_quiet_in)

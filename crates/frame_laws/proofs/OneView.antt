@@ -57,8 +57,7 @@ module _ (v : ℕ) (A : History) (node : IsNode A) (a : ℕ) (B : History) (lega
 
     foreign : (c : Bool) → (p.creation == creation K) ≡ c → is_from b B.entries p ≡ false
         → is_local K p ≡ false
-    foreign true made apart = grind (arith, one_from, gave)
-    foreign false other apart = grind arith
+    foreign a other apart = grind (arith, one_from, gave)
 
     lists_all : listed B s g p ≡ own K s g p
     lists_all = by (is_from b B.entries p) refl

@@ -218,7 +218,7 @@ module _ (o : Opening) (es : List Entry) (e : Entry) (node : IsNode (past o es))
           calm_closed v s,
           part_calm h node l v agrees s t (Message.Leave t) (exit_rows h node t x),
           exit_is h node l v agrees t x texts.0,
-          others ss (grind (arith, out)) texts.1,
+          others ss (grind arith) texts.1,
         )
 
     -- the part of s stands once
@@ -251,12 +251,11 @@ module _ (o : Opening) (es : List Entry) (e : Entry) (node : IsNode (past o es))
                   texts.1;
             }
         by false other later =
-            let it = later (grind (arith, q, other)) in
+            let it = later (grind arith) in
             record {
               front = part_of t ++ it.front;
               back = it.back;
-              whole = ap (λ w. part_of t ++ w) it.whole
-                  ∙ sym (append_assoc (part_of t) it.front (part_of s ++ it.back));
+              whole = grind (arith, append_assoc);
               early = (calm_closed v s).both (part_of t) it.front
                   (part_calm h node l v agrees s t (Message.Leave t) (exit_rows h node t x)
                   (λ tells some. exit_is h node l v agrees t x texts.0 tells some) other) it.early;

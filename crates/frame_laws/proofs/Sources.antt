@@ -44,5 +44,4 @@ module _ (o : Opening) (l : ℕ) where
             owed_here e.number (owed (past o es) l e.number e.event e.verdict) j y b,
             is_entry es legal.1 m x a,
           )
-      by so_far (InSecond i is a) (InFirst b few) = grind arith
-      by so_far (InSecond i is a) (InSecond j at b) = grind (arith, owed_here)
+      by so_far (InSecond i is a) c = grind (arith, owed_here)

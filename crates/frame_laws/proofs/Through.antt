@@ -145,24 +145,25 @@ module _ {v : ℕ} {s : List ℕ} {front back fs : List OutFrame} (kind : PartKi
     at_last : has_rows v s f.body ≡ true → (g : List ℕ) (p : Pid) (x : Option ℕ)
         → seen_frames v s g p (take (suc m) fs) x ≡ seen s g p whole_said x
     at_last has g p x =
-        ap (λ y. seen_frames v s g p y x)
-        ((λ i. take (suc (it.at i)) (is i)) ∙ ap (λ j. take j (front ++ (block ++ back))) place_is
-        ∙ take-append-add front (block ++ back) (length block)
-        ∙ ap (λ y. front ++ y) (take-append-le (length block) block back (omega arith)
-        ∙ take-length block))
-        ∙ frames_seen v s g p front block x early.ends
-        ∙ ap (seen_frames v s g p block) (early.stays g p x)
-        ∙ message_seen v whole_said can s g p x
+        grind (
+          arith,
+          place_is,
+          take-append-add front (block ++ back) (length block),
+          take-append-le (length block) block back,
+          take-length block,
+          frames_seen v s g p front block x early.ends,
+          message_seen v whole_said can s g p x,
+        )
       where
         last_is : piece.last ≡ true
-        last_is = grind (arith, and_parts, says)
+        last_is = grind arith
 
         place_is : suc (length front + k) ≡ length front + length block
         place_is =
             let end = piece.ends last_is in
             let long = reads_length v block (pieces v whole_said) (reads v whole_said can)
             ∙ ap length cut_is in
-            omega (arith, end, long)
+            omega arith
 
     module _ {told_before : Bool} {was now : List ℕ → Pid → ℕ}
         (told_so : IsTold v s told_before was now kind rows) (x : List ℕ → Pid → Option ℕ)
@@ -180,7 +181,6 @@ module _ {v : ℕ} {s : List ℕ} {front back fs : List OutFrame} (kind : PartKi
           (sym leaves) ∙ piece.so_far))
           (λ g p. (let all = told_so.there x before leaves g p in
           let less = fewer_of g p piece.first piece.rest rows piece.whole_is in
-          let low = all.2 in
           (all.0, all.1, omega arith)))
       there_at j other = tt
 
@@ -345,7 +345,6 @@ module _ (v : ℕ) (o : Opening) (l : ℕ) (s : List ℕ) where
             view_after v (out_in o l es) ends e.number (take (suc m) fs) s g p,
             then_seen tells m x.frame,
             this_moment o e es x.source,
-            owed_number o es e made l m x.frame,
           )
 
       now : told o l s (e ∷ es) ≡ true → (g : List ℕ) (p : Pid)
