@@ -1,24 +1,23 @@
 -- Where a peer is heard, its scope runs, its link is up and visible; and what it may say is
 -- accepted.
 use Rattle.frame_laws.proofs
-use proofs.Words.{Accepted, agrees, and_parts, AreFrom, AreStated, arith, Bool, but, cond, Entry}
-use proofs.Words.{eqb-true, Event, events, false, fewer_length, filter, filter-append, first_broken}
-use proofs.Words.{flat_map, frame_taken, fresh, group_named, groups, groups_are, groups_named}
-use proofs.Words.{has_sync, HasRoom, heard, heard_runs, heard_whole, History, how_many_append}
-use proofs.Words.{is_accepted, is_from, is_full, is_local, is_peer, is_running, is_up, is_visible}
-use proofs.Words.{is_whole, IsPlayed, IsPlayedIn, IsRowListing, judgement, kept_peers, le-leb}
-use proofs.Words.{length, length-append, List, list_all, list_all-append, listed, listed_named, map}
-use proofs.Words.{MaySay, members, members_are, Message2, message_checks, nat_le, None, occurrences}
-use proofs.Words.{opened, Opening, PartKind, past, peer_foreign, peer_limit, peer_of, peer_rows}
-use proofs.Words.{Pid, pid_named, pids_named, present_link, refl, Reply, Row, row, rows_are}
-use proofs.Words.{rows_of, said_at, same, same_decides, same_pid, same_row, same_row_decides}
-use proofs.Words.{scope_in, so_far, Some, stands_in, stated, taken, talk, talk_of, true, Verdict}
-use proofs.Words.{verdict, whole_awaits, ℕ, [], ◌&&◌, ◌++◌, ◌+◌, ◌<◌, ◌==◌, ◌∷◌, ◌≡◌, ◌≤◌}
+use proofs.Words.{Accepted, agrees, AreFrom, AreStated, arith, Bool, but, cond, Entry, eqb-true}
+use proofs.Words.{Event, events, false, fewer_length, filter, filter-append, first_broken, flat_map}
+use proofs.Words.{frame_taken, fresh, group_named, groups, groups_are, groups_named, has_sync}
+use proofs.Words.{HasRoom, heard, heard_runs, History, how_many_append, is_accepted, is_from}
+use proofs.Words.{is_full, is_local, is_peer, is_running, is_up, is_visible, is_whole, IsPlayed}
+use proofs.Words.{IsPlayedIn, IsRowListing, judgement, kept_peers, le-leb, length, length-append}
+use proofs.Words.{List, list_all, list_all-append, listed, listed_named, map, MaySay, members}
+use proofs.Words.{members_are, Message2, message_checks, nat_le, None, occurrences, opened, Opening}
+use proofs.Words.{PartKind, past, peer_foreign, peer_limit, peer_of, peer_rows, Pid, pid_named}
+use proofs.Words.{pids_named, present_link, refl, Reply, Row, row, rows_are, rows_of, said_at, same}
+use proofs.Words.{same_decides, same_pid, same_row, same_row_decides, scope_in, so_far, Some}
+use proofs.Words.{stands_in, stated, taken, talk, talk_of, true, Verdict, verdict, whole_awaits, ℕ}
+use proofs.Words.{[], ◌&&◌, ◌++◌, ◌+◌, ◌<◌, ◌==◌, ◌∷◌, ◌≡◌, ◌≤◌}
 
 -- ---- a peer that is heard is visible
 
 module _ (o : Opening) (s : List ℕ) where
-
   module _ (es : List Entry) (e : Entry) (legal : IsPlayedIn o es) (fresh_is : opened e.number es
       ≡ None)
       (l : ℕ) where
@@ -172,7 +171,6 @@ module _ (h : History) (legal : IsPlayed h) (l : ℕ) (s : List ℕ)
 -- ---- what it may say breaks no rule
 
 module _ (h : History) (legal : IsPlayed h) (l : ℕ) where
-
   so_far_from : (kind : PartKind) (s : List ℕ) (number : ℕ) (rows : List Row) → AreFrom h l rows
       → AreFrom h l (so_far h l kind s number rows)
   so_far_from kind s number rows from =

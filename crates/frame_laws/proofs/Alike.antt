@@ -1,12 +1,11 @@
 -- What an accepted message makes of what is kept, and of what all that came makes.
 use Rattle.frame_laws.proofs
-use proofs.Words.{Accepted, accepted, all_hold, always, arith, awaits, begun, begun_of, Bool, but}
-use proofs.Words.{completed, delivered, Entry, eqb-true, Event, first_broken, frame_checks}
-use proofs.Words.{frame_taken, heard, History, is_next, is_open, is_up, is_whole, IsPlayedIn}
-use proofs.Words.{IsStep, kept_after, link_version, List, Message2, message_checks, message_taken}
-use proofs.Words.{None, none_begun, open_first, Opening, Option, option_and_then, option_map_or}
-use proofs.Words.{option_to_list, PartKind, past, Pid, Reply, Row, Rule, same_decides, seen_by}
-use proofs.Words.{Some, true, unbroken, ℕ, ◌&&◌, ◌==◌, ◌||◌, ◌≡◌}
+use proofs.Words.{Accepted, all_hold, always, arith, begun, begun_of, Bool, but, completed}
+use proofs.Words.{delivered, Entry, eqb-true, Event, first_broken, frame_taken, heard, History}
+use proofs.Words.{is_next, is_up, is_whole, IsPlayedIn, IsStep, kept_after, link_version, List}
+use proofs.Words.{Message2, message_checks, message_taken, None, none_begun, Opening, Option}
+use proofs.Words.{option_and_then, option_map_or, option_to_list, PartKind, past, Pid, Reply, Row}
+use proofs.Words.{Rule, same_decides, seen_by, Some, true, unbroken, ℕ, ◌&&◌, ◌==◌, ◌||◌, ◌≡◌}
 use proofs.KeptStands.{rules_met}
 use proofs.NotRefused.{kept_of}
 
@@ -29,10 +28,6 @@ module _ (v : ℕ) (o : Opening) (es : List Entry) (e : Entry) (legal : IsPlayed
 
   pub some_whole : kept_of s (begun o l es) ≡ true → is_whole l es ≡ true
   some_whole q = grind (arith, none_begun o es legal l)
-
-  pub taken_same : (body : List ℕ) → is_whole l es ≡ true
-      → frame_taken o l es body ≡ message_taken v body
-  taken_same body whole = grind arith
 
   -- a message that is taken makes of both the same, as far as s is concerned
   pub record AcceptsAlike (x y : Option Message2) : Type 0 where

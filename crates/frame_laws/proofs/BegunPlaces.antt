@@ -4,17 +4,17 @@ use proofs.Words.{ap, arith, Begun, begun_after, begun_by, begun_of, bodies_of, 
 use proofs.Words.{drop-append-add, drop-append-le, Entry, false, frames_said, History, is_some}
 use proofs.Words.{IsBegun, IsNode, leb-false, leb-true, length, length-append, length-drop}
 use proofs.Words.{length-map, lie, List, map, map-append, Message, Message2, message_taken, narrow}
-use proofs.Words.{nat_le, None, Opening, out_in, OutFrame, owed, owes, PartKind, parts, parts_from}
-use proofs.Words.{past, refl, Row, said_frames, Some, Speaks, subst, suc, sym, take}
-use proofs.Words.{take-append-add, take-append-le, take-map, take_past, true, whole, zero, ℕ, []}
-use proofs.Words.{◌++◌, ◌+◌, ◌-◌, ◌<◌, ◌==◌, ◌∙◌, ◌∷◌, ◌≡◌, ◌≤◌}
+use proofs.Words.{nat_le, None, Opening, out_in, OutFrame, owed, PartKind, parts, parts_from, past}
+use proofs.Words.{refl, Row, said_frames, Some, Speaks, suc, sym, take, take-append-add}
+use proofs.Words.{take-append-le, take-map, take_past, true, whole, zero, ℕ, [], ◌++◌, ◌+◌, ◌-◌}
+use proofs.Words.{◌<◌, ◌==◌, ◌∙◌, ◌∷◌, ◌≡◌, ◌≤◌}
 use proofs.Calm.{message_ends, said_apart}
 use proofs.Handshakes.{begins_message, first_byte, IsClosed, no_message}
 use proofs.OneView.{element}
 use proofs.Orderly.{bodies_apart, bodies_owing}
-use proofs.Pieces.{begun_apart, IsPiece, last_ends, piece_at, pieces, value_of}
+use proofs.Pieces.{begun_apart, IsPiece, last_ends, piece_at, pieces}
 use proofs.Spoken.{entry_holds, Holds, holds_of, node_before}
-use proofs.Sayable.{IsSayable, reads, reads_length, said_take}
+use proofs.Sayable.{IsSayable, reads, said_take}
 
 -- messages, each whole; and what is begun at a place in them is one of them
 pub record IsCut (v : ℕ) (bs : List (List ℕ)) : Type 0 where
@@ -144,10 +144,6 @@ module _ (v : ℕ) where
     nothing = grind arith;
     both = λ xs ys first later. rw map-append (cut_both _ _ first later);
   }
-    where
-      empty : (n : ℕ) → begun_of v (take n []) ≡ None
-      empty zero = refl
-      empty (suc n) = refl
 
   each_cut : (h : History) (node : IsNode h) (l : ℕ) → Holds h node l v Cut
   each_cut h node l = holds_of h node l v Cut cut_closed cut_hello (λ m can own. cut_message m can)

@@ -1,12 +1,12 @@
 -- What bodies make of a view, one after the other.
 use Rattle.frame_laws.proofs
-use proofs.Words.{ap, append-nil, AreInOrder, arith, begins_in_order, Begun, begun_by}
-use proofs.Words.{begun_by_more, begun_of, completed, completed_by, completed_by_more, ends_rows}
-use proofs.Words.{Entry, false, frames_said, heard, is_about_rows, IsHonest, kept_after, known}
-use proofs.Words.{length, List, Message, Message2, message_taken, None, Opening, Option}
-use proofs.Words.{option_and_then, option_map_or, option_to_list, Pid, refl, says_rows, seen_by}
-use proofs.Words.{slice_get, slice_get_within, Some, stated, subst, suc, take, take-append-add}
-use proofs.Words.{take-append-le, true, view_of, zero, ℕ, [], ◌++◌, ◌+◌, ◌∷◌, ◌≡◌}
+use proofs.Words.{ap, append-nil, arith, begins_in_order, Begun, begun_by, begun_by_more, begun_of}
+use proofs.Words.{completed, completed_by, completed_by_more, ends_rows, Entry, false, frames_said}
+use proofs.Words.{heard, is_about_rows, IsHonest, kept_after, known, length, List, Message}
+use proofs.Words.{Message2, message_taken, None, Opening, Option, option_and_then, option_map_or}
+use proofs.Words.{option_to_list, Pid, refl, says_rows, seen_by, slice_get, slice_get_within, Some}
+use proofs.Words.{stated, subst, suc, take, take-append-add, take-append-le, true, view_of, zero, ℕ}
+use proofs.Words.{[], ◌++◌, ◌+◌, ◌∷◌, ◌≡◌}
 use proofs.Calm.{FewBehind, said_apart, seen_apart, ThereBehind}
 
 -- ---- lists
@@ -82,11 +82,6 @@ pub says_ends : (s : List ℕ) (b : Option Begun) (x : Option Message2)
 says_ends s b x = grind arith
 
 module _ (s g : List ℕ) (p : Pid) where
-  -- a message that makes something known where nothing was makes the same of all
-  pub anew : (x : Option Message) (n : ℕ) → seen_by s g p (option_to_list x) None ≡ Some n
-      → (v : Option ℕ) → seen_by s g p (option_to_list x) v ≡ Some n
-  anew x n q v = grind arith
-
   -- one that says no rows of s, and leaves something known, leaves all
   pub left_so : (x : Option Message) (v : Option ℕ) (n : ℕ)
       → option_map_or (says_rows s) x false ≡ false → seen_by s g p (option_to_list x) v ≡ Some n

@@ -101,10 +101,6 @@ pieces_other : (v : ℕ) (s : List ℕ) (m : Message) → is_about_rows s (Some 
     → AllByRecursion (λ p. is_part s (Some p) ≡ false) (pieces v m)
 pieces_other v s = grind (arith, from_other)
 
-unseen : (s g : List ℕ) (p : Pid) (m : Message) (x : Option ℕ) → is_about_rows s (Some m) ≡ false
-    → seen s g p m x ≡ x
-unseen s g p m x q = grind arith
-
 module _ (v : ℕ) (s : List ℕ) where
   pub calm_closed : IsClosed (AllCalm v s)
   calm_closed = grind (arith, whole_both, all_append, frames_seen)

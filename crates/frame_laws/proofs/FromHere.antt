@@ -1,13 +1,13 @@
 -- The rows of each message are of the node's own name, and of its creation at the opening of the
 -- link.
 use Rattle.frame_laws.proofs
-use proofs.Words.{Accepted, arith, Bool, but, creation, entered, Entry, Event, is_of, is_opened_by}
-use proofs.Words.{IsNode, List, Message2, message_taken, moment, nat_le, None, Opening, out_in}
-use proofs.Words.{OutFrame, owed, owes, Owing, own_name_frame, past, refl, slice_get, Some, Speaks}
-use proofs.Words.{subst, true, unowed, Verdict, ℕ, [], ◌∷◌, ◌≡◌, ◌≤◌}
+use proofs.Words.{arith, Bool, but, creation, entered, Entry, Event, is_of, is_opened_by, IsNode}
+use proofs.Words.{List, Message2, message_taken, moment, nat_le, None, Opening, out_in, OutFrame}
+use proofs.Words.{owed, owes, Owing, own_name_frame, past, refl, slice_get, Some, Speaks, subst}
+use proofs.Words.{true, unowed, Verdict, ℕ, [], ◌∷◌, ◌≡◌, ◌≤◌}
 use proofs.Handshakes.{no_message}
 use proofs.Openings.{open_low, same_creation, unborn_out}
-use proofs.Places.{all_at, earlier_moment, InFirst, InSecond, owed_here, part, Parted}
+use proofs.Places.{all_at, InFirst, InSecond, owed_here, part, Parted}
 use proofs.Spoken.{entry_says, IsSpoken, node_before}
 
 module _ (o : Opening) (es : List Entry) (e : Entry) (l v : ℕ) where

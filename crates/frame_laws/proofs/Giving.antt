@@ -147,7 +147,6 @@ module _ (o : Opening) (l : ℕ) where
       → IsAskedOnce l n es
   asked_once es legal n c bo opens whole = by (taken l es) refl
     where
-
       by : (ts : List Taken) → taken l es ≡ ts → IsAskedOnce l n es
       by [] is = cc
       by (a ∷ []) is = cc

@@ -4,20 +4,19 @@ use Rattle.frame_laws.proofs
 use proofs.Numbers.{opens_next, owed_number}
 use proofs.Words.{Accepted, AllByRecursion, ap, arith, Bool, but, ByDial, ByPeer, Challenge}
 use proofs.Words.{challenge_bytes, challenge_frame, challenge_frame-spelled, cond, creation}
-use proofs.Words.{entered, Entry, eqb-false, eqb-true, Event, false, hello_in, History, is_open}
-use proofs.Words.{is_opened_by, IsNode, IsPlayedIn, IsVersion, IsWritten, judgement, length}
-use proofs.Words.{link_version, List, Message, Message2, message_taken, moment, name_bytes}
-use proofs.Words.{name_frame, name_frame-spelled, narrow, Opening, opening_of, out_in, OutFrame}
-use proofs.Words.{owed, owes, Owing, owing, own_challenge, own_flags, own_hello, own_name_frame}
-use proofs.Words.{past, refl, said_frames, slice_get, Some, SpellsChallenge-read, start_of}
-use proofs.Words.{status_frame, StatusWord, sym, true, unowed, Verdict, version_bytes, version_read}
-use proofs.Words.{wide, ℕ, [], ◌+◌, ◌<◌, ◌==◌, ◌^◌, ◌∙◌, ◌∷◌, ◌≡◌, ◌≤◌}
+use proofs.Words.{entered, Entry, Event, false, hello_in, History, is_open, is_opened_by, IsNode}
+use proofs.Words.{IsPlayedIn, IsVersion, IsWritten, judgement, link_version, List, Message}
+use proofs.Words.{Message2, message_taken, moment, name_bytes, name_frame, name_frame-spelled}
+use proofs.Words.{narrow, Opening, opening_of, out_in, OutFrame, owed, owes, Owing, owing}
+use proofs.Words.{own_challenge, own_flags, own_hello, own_name_frame, past, refl, said_frames}
+use proofs.Words.{slice_get, Some, SpellsChallenge-read, start_of, status_frame, StatusWord, sym}
+use proofs.Words.{true, unowed, Verdict, version_bytes, version_read, wide, ℕ, [], ◌+◌, ◌<◌, ◌==◌}
+use proofs.Words.{◌^◌, ◌∙◌, ◌∷◌, ◌≡◌, ◌≤◌}
 use proofs.Handshakes.{all_closed, begins_it, first_byte, HoldsOfHellos}
 use proofs.Pieces.{pieces}
 use proofs.Openings.{opening_low, same_creation, unborn_out}
 use proofs.OwnLimits.{own_creation_fits}
-use proofs.Places.{all_at, earlier_moment, first_of_both, InFirst, InSecond, owed_here, part}
-use proofs.Places.{Parted, this_moment}
+use proofs.Places.{all_at, first_of_both, InFirst, InSecond, owed_here, part, Parted, this_moment}
 use proofs.Spoken.{Holds, node_before, owed_hold}
 use proofs.Sayable.{IsSayable, reads, reads_hold}
 
@@ -28,9 +27,6 @@ not_asked : (body : List ℕ) → (first_byte body == 0x4E) ≡ false → (f : C
     → challenge_frame body ≡ Some f → ⊥
 not_asked body other f q = grind (arith, SpellsChallenge-read body f q)
 
-flags_fit : (hidden : Bool) → own_flags hidden < 2 ^ 64
-flags_fit hidden = grind arith
-
 -- the challenge of a link fits its field
 challenge_fits : (es : List Entry) → AllByRecursion (λ e. IsWritten e.event) es → (l : ℕ)
     → own_challenge l es < 2 ^ 32
@@ -38,9 +34,6 @@ challenge_fits [] written l = omega arith
 challenge_fits (e ∷ es) written l = grind (arith, challenge_fits es written.1 l)
 
 module _ (h : History) (node : IsNode h) where
-  name_short : length h.opening.name < 2 ^ 16
-  name_short = grind arith
-
   version_known : IsVersion h.opening.links
   version_known = node.links
 

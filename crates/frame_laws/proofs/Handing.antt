@@ -1,12 +1,10 @@
 -- What was handed out of a link, and what waits for it, is what was owed to it, in order.
 use Rattle.frame_laws.proofs
-use proofs.Numbers.{entered_more, unopened}
-use proofs.Words.{Accepted, and_parts, append-nil, append_assoc, arith, Bool, but, drops, ends}
-use proofs.Words.{entered, Entry, eq-eqb, Event, false, frames_of, handed, is_open, is_opened_by}
-use proofs.Words.{IsPlayedIn, IsStep, leb-false, leb-true, List, map-append, open_opened, Opening}
-use proofs.Words.{out_in, OutFrame, owed, past, refl, Refused, Reply, sent, true, unborn}
-use proofs.Words.{unborn_waiting, unowed, Verdict, waiting, waiting_in, ℕ, [], ◌&&◌, ◌++◌, ◌<◌}
-use proofs.Words.{◌==◌, ◌∙◌, ◌∷◌, ◌≡◌, ◌≤◌}
+use proofs.Words.{Accepted, append-nil, append_assoc, arith, Bool, but, drops, ends, entered, Entry}
+use proofs.Words.{Event, false, frames_of, handed, is_open, is_opened_by, IsPlayedIn, IsStep}
+use proofs.Words.{leb-true, List, map-append, open_opened, Opening, out_in, OutFrame, owed, past}
+use proofs.Words.{refl, Refused, Reply, sent, true, unborn, unborn_waiting, unowed, Verdict}
+use proofs.Words.{waiting, waiting_in, ℕ, [], ◌&&◌, ◌++◌, ◌<◌, ◌==◌, ◌∙◌, ◌∷◌, ◌≡◌, ◌≤◌}
 use proofs.Places.{frames_owing}
 
 -- what was owed and not handed out: it waits, or it was dropped with the link

@@ -4,12 +4,12 @@ use proofs.Words.{ack_bytes, AckFrame, all_append, AllByRecursion, ap, arith, Aw
 use proofs.Words.{AwaitChallenge, Awaited, AwaitMessage, AwaitName, AwaitReply, AwaitStatus, Bool}
 use proofs.Words.{Challenge, challenge_frame, cond, digest_for, discovers, false, frame_owes}
 use proofs.Words.{frame_taken, get_or, History, is_dialling, is_name_up, IsNode, IsText, List, map}
-use proofs.Words.{Message, Message2, message2_bytes, message_bytes, message_owes, message_taken}
-use proofs.Words.{narrow, None, Option, option_map, option_map_or, OutFrame, own_challenge}
-use proofs.Words.{own_challenge_frame, own_name_frame, read_message, read_message2, refl}
-use proofs.Words.{refusal_owes, reply_bytes, reply_frame, ReplyFrame, Rule, Some}
-use proofs.Words.{SpellsMessage-read, SpellsMessage2-read, status_frame, status_of, StatusWord}
-use proofs.Words.{true, true_to, welcome, whole, wide, ℕ, [], ◌++◌, ◌==◌, ◌||◌, ◌∷◌, ◌≡◌}
+use proofs.Words.{Message, Message2, message_owes, message_taken, narrow, None, Option, option_map}
+use proofs.Words.{option_map_or, OutFrame, own_challenge, own_challenge_frame, own_name_frame}
+use proofs.Words.{read_message, read_message2, refl, refusal_owes, reply_bytes, reply_frame}
+use proofs.Words.{ReplyFrame, Rule, Some, SpellsMessage-read, SpellsMessage2-read, status_frame}
+use proofs.Words.{status_of, StatusWord, true, true_to, welcome, whole, wide, ℕ, [], ◌++◌, ◌==◌}
+use proofs.Words.{◌||◌, ◌∷◌, ◌≡◌}
 use proofs.OwnLimits.{scopes_text}
 
 -- ---- bodies
@@ -21,19 +21,9 @@ first_byte body = get_or body 0 0
 abbrev pub begins_message : ℕ → Bool
 begins_message b = b == 0x44 || b == 0x53 || b == 0x4A || b == 0x4C || b == 0x58
 
-begins : (m : Message) → begins_message (first_byte (message_bytes m)) ≡ true
-begins m = grind arith
-
-begins_part : (m : Message2) → begins_message (first_byte (message2_bytes m)) ≡ true
-begins_part m = grind arith
-
 pub taken_new : (v : ℕ) (body : List ℕ) → (v == 2) ≡ true → message_taken v body ≡ read_message2
     body
 taken_new v body q = grind arith
-
-pub taken_old : (v : ℕ) (body : List ℕ) → (v == 2) ≡ false
-    → message_taken v body ≡ option_map whole (read_message body)
-taken_old v body q = grind arith
 
 pub no_message : (v : ℕ) (body : List ℕ) → begins_message (first_byte body) ≡ false
     → message_taken v body ≡ None

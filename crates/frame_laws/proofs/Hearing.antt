@@ -8,9 +8,9 @@ use proofs.Words.{length, lie, link_version, List, Message, message_taken, None,
 use proofs.Words.{Opening, Option, option_map_or, option_to_list, past, Pid, refl, Refused, Reply}
 use proofs.Words.{Rule, said_at, same_decides, says_rows, seen_by, slice_get_within, Some, Speaks}
 use proofs.Words.{stated, subst, sym, take-append-le, tells_rows, told_rows, true, Verdict, view_of}
-use proofs.Words.{ℕ, [], ◌&&◌, ◌++◌, ◌+◌, ◌==◌, ◌||◌, ◌∙◌, ◌∷◌, ◌≡◌}
+use proofs.Words.{ℕ, [], ◌&&◌, ◌++◌, ◌==◌, ◌||◌, ◌∙◌, ◌∷◌, ◌≡◌}
 use proofs.Accepting.{is_up_there}
-use proofs.Bodies.{anew, apart_so, begun_more, completes_there, honest_first, is_known, left_so}
+use proofs.Bodies.{apart_so, begun_more, completes_there, honest_first, is_known, left_so}
 use proofs.Bodies.{says_ends, stands_first, stands_last, take_last, view_more}
 use proofs.KeptStands.{up_back}
 use proofs.KnownAfter.{known_after}

@@ -3,12 +3,12 @@
 use Rattle.frame_laws.proofs
 use proofs.Words.{Accepted, all_hold, always, ap, arith, Begun, begun, Bool, but, completed, cond}
 use proofs.Words.{Entry, entry_link, eq-eqb, eqb-true, Event, false, first_broken, frame_taken}
-use proofs.Words.{fresh, given_kept, has_bit, heard, is_running, is_some, is_up, is_visible}
-use proofs.Words.{is_whole, IsPlayedIn, IsStep, judgement, kept_after, List, Message2}
-use proofs.Words.{message_checks, None, none_begun, not, opened, Opening, Option, option_and_then}
-use proofs.Words.{option_map_or, PartKind, past, refl, Refused, Reply, Rule, said_at, same}
-use proofs.Words.{same_decides, Some, start_of, subst, sym, taken, talk, true, unbroken, Verdict, ℕ}
-use proofs.Words.{[], ◌&&◌, ◌==◌, ◌||◌, ◌∙◌, ◌∷◌, ◌≡◌}
+use proofs.Words.{fresh, has_bit, heard, is_running, is_some, is_up, is_visible, is_whole}
+use proofs.Words.{IsPlayedIn, IsStep, judgement, kept_after, List, Message2, message_checks, None}
+use proofs.Words.{none_begun, not, opened, Opening, Option, option_and_then, option_map_or}
+use proofs.Words.{PartKind, past, refl, Refused, Reply, Rule, said_at, same, same_decides, Some}
+use proofs.Words.{start_of, subst, sym, talk, true, unbroken, Verdict, ℕ, [], ◌&&◌, ◌==◌, ◌||◌, ◌∙◌}
+use proofs.Words.{◌∷◌, ◌≡◌}
 use proofs.Pieces.{value_of}
 
 abbrev pub is_sync : PartKind → Bool
@@ -59,10 +59,6 @@ module _ (o : Opening) (l : ℕ) where
           es body)
           (always Rule.BadFrame)) ≡ None
       rules_met = grind arith
-
-      shown_on : is_visible (past o (fr ∷ es)) l
-          ≡ is_visible (past o es) l
-      shown_on = grind arith
 
       kept_talk : said_at o l es body ≡ None
           → talk o l (fr ∷ es) ≡ talk o l es

@@ -1,8 +1,8 @@
 -- What is known over a link after an entry: what its message makes of what was known before.
 use Rattle.frame_laws.proofs
 use proofs.Words.{Accepted, ap, arith, Awaited, AwaitMessage, awaits, Bool, but, ByDial, ByPeer}
-use proofs.Words.{cond, Entry, eq-eqb, eqb-true, Event, false, first_broken, frame_checks, heard}
-use proofs.Words.{hears, History, is_message, is_whole, IsPlayedIn, IsStep, known, List, Message}
+use proofs.Words.{cond, Entry, eqb-true, Event, false, first_broken, frame_checks, heard, hears}
+use proofs.Words.{History, is_message, is_whole, IsPlayedIn, IsStep, known, List, Message}
 use proofs.Words.{message_at, message_heard, None, Opening, opening_heard, option_to_list, past}
 use proofs.Words.{Pid, refl, Refused, Reply, Said, said_at, seen, seen_by, Some, stated_in, sym}
 use proofs.Words.{Talk, talk, true, unwrap_or, Verdict, whole_is_message, ℕ, [], ◌&&◌, ◌==◌, ◌∙◌}
@@ -15,10 +15,6 @@ module _ (s g : List ℕ) (p : Pid) where
       → Some (stated_in s g p (Said m ∷ ts)) ≡ seen s g p m
       (cond was (Some (cond was (stated_in s g p ts) 0)) None)
   said_known m ts was q = grind arith
-
-  known_as : (o : Opening) (l : ℕ) (es : List Entry) → heard o l s es ≡ true
-      → known o l s g p es ≡ Some (stated_in s g p (talk o l es))
-  known_as o l es q = grind arith
 
   -- nothing was said: the same is known
   still_known : (o : Opening) (l : ℕ) (x : Entry) (es : List Entry) → heard o l s (x ∷ es) ≡ true

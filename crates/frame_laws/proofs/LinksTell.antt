@@ -15,7 +15,7 @@ use proofs.Calm.{AllCalm, calm_asks, calm_closed, calm_down, calm_hello, calm_me
 use proofs.Handshakes.{dial_all, frame_all, HoldsOfHellos, of_hellos, refusal_all}
 use proofs.RowsTell.{exit_tells, join_tells, leave_tells}
 use proofs.Spoken.{node_before, speaks_now}
-use proofs.Telling.{AllTell, Ended, EntryTells, Silent, Spoke, Tells, told_sync}
+use proofs.Telling.{AllTell, EntryTells, Silent, Spoke, Tells, told_sync}
 use proofs.Sayable.{downs_sayable, IsSayable, reads}
 use proofs.OwnMessages.{asked_text, asked_room, sync_is}
 

@@ -1,15 +1,15 @@
 -- What an honest node says on a link, over which it is heard, is not refused.
 use Rattle.frame_laws.proofs
-use proofs.Words.{and_parts, ap, AreFrom, AreThere, arith, Begun, begun, begun_of, Bool, but}
-use proofs.Words.{comes_next, delivered, Entry, Event, false, fewer_length, frame_taken, heard}
-use proofs.Words.{History, is_from, is_next, is_running, is_up, is_visible, IsFew, IsGiven}
-use proofs.Words.{IsHonest, IsPlayedIn, IsStep, last_in_order, length, limit, link_version, List}
-use proofs.Words.{list_all, MaySay, MaySaySoFar, Message, Message2, message_taken, Opening, Option}
-use proofs.Words.{option_map_or, PartKind, past, peer_limit, Pid, refl, Refused, Row, rows_before}
-use proofs.Words.{rows_of, Rule, same, same_decides, same_row, same_row_decides, same_sym, seen}
-use proofs.Words.{slice_get, so_far, so_far_behind, Some, stated, subst, sym, true, view_of, ℕ, []}
-use proofs.Words.{◌&&◌, ◌++◌, ◌+◌, ◌==◌, ◌∙◌, ◌∷◌, ◌≡◌, first_broken, message_checks, None}
-use proofs.Accepting.{admits, heard_met, sync_met}
+use proofs.Words.{ap, AreFrom, AreThere, arith, Begun, begun, begun_of, Bool, but, comes_next}
+use proofs.Words.{delivered, Entry, Event, false, fewer_length, heard, History, is_from, is_next}
+use proofs.Words.{is_running, is_up, is_visible, IsFew, IsGiven, IsHonest, IsPlayedIn, IsStep}
+use proofs.Words.{last_in_order, length, limit, link_version, List, list_all, MaySay, MaySaySoFar}
+use proofs.Words.{Message, Message2, message_taken, Opening, Option, option_map_or, PartKind, past}
+use proofs.Words.{peer_limit, Pid, refl, Refused, Row, rows_before, rows_of, Rule, same}
+use proofs.Words.{same_decides, same_row, same_row_decides, same_sym, seen, slice_get, so_far}
+use proofs.Words.{so_far_behind, Some, stated, subst, sym, true, view_of, ℕ, [], ◌&&◌, ◌++◌, ◌+◌}
+use proofs.Words.{◌==◌, ◌∙◌, ◌∷◌, ◌≡◌, first_broken, message_checks, None}
+use proofs.Accepting.{heard_met, sync_met}
 use proofs.Bodies.{frames_more, stands_last, take_all}
 use proofs.Calm.{FewBehind, ThereBehind}
 
@@ -143,9 +143,6 @@ module _ (v : ℕ) (o : Opening) (es : List Entry) (e : Entry) (legal : IsPlayed
           (rows_are PartKind.Leave number last rows says step)
           (subst (ThereBehind v s number rows) (take_all bodies body)
           (honest.there (length bodies) body here number last rows says))))
-
-    taken_there : (f : Message2) → message_taken v body ≡ Some f → frame_taken o l es body ≡ Some f
-    taken_there f says = grind arith
 
     -- what meets the rules isn't refused
     never : (f : Message2) → message_taken v body ≡ Some f

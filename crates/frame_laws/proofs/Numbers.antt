@@ -1,8 +1,8 @@
 -- The numbers of steps: what opens a link or owes a frame is an entry of the audit.
 use Rattle.frame_laws.proofs
-use proofs.Words.{arith, but, entered, Entry, eqb-true, Event, false, is_opened_by, IsStep, List}
-use proofs.Words.{ltb-true, moment_in, Opening, OutFrame, owed, past, slice_get, Some, true}
-use proofs.Words.{Verdict, ℕ, [], ◌+◌, ◌<◌, ◌∷◌, ◌≡◌, ◌≤◌}
+use proofs.Words.{arith, but, entered, Entry, Event, false, is_opened_by, IsStep, List, moment_in}
+use proofs.Words.{Opening, OutFrame, owed, past, slice_get, Some, true, Verdict, ℕ, [], ◌+◌, ◌∷◌}
+use proofs.Words.{◌≡◌, ◌≤◌}
 
 pub entered_more : (e : Entry) (es : List Entry) → entered es ≤ entered (e ∷ es)
 entered_more e es = grind arith
@@ -17,7 +17,6 @@ moment_low k [] = omega arith
 moment_low k (e ∷ es) = grind (arith, moment_low k es)
 
 module _ (o : Opening) (es : List Entry) (e : Entry) where
-
   pub owed_number : IsStep (past o es) e → (l m : ℕ) (f : OutFrame)
       → slice_get (owed (past o es) l e.number e.event e.verdict) m ≡ Some f
       → e.number ≡ entered es + 1
@@ -32,8 +31,3 @@ module _ (o : Opening) (es : List Entry) (e : Entry) where
   pub unopened : (l : ℕ) (ev : Event) (v : Verdict) → IsStep (past o es) (but e ev v)
       → l ≤ entered es → is_opened_by l (but e ev v) ≡ false
   unopened l ev v made le = grind arith
-
-  -- nor one with a later one
-  pub unborn_yet : (l : ℕ) (ev : Event) (v : Verdict) → IsStep (past o es) (but e ev v)
-      → entered (but e ev v ∷ es) < l → is_opened_by l (but e ev v) ≡ false
-  unborn_yet l ev v made above = grind arith

@@ -1,18 +1,14 @@
 -- A link speaks one version whenever its side is whole.
 use Rattle.frame_laws.proofs
 use proofs.Numbers.{entered_more, opens_next}
-use proofs.Words.{Accepted, and_frame, ap, arith, Bool, but, ByDial, ByPeer, cond, entered, Entry}
-use proofs.Words.{entry_link, Event, false, fresh, given, given_by, given_kept, is_open}
-use proofs.Words.{is_opened_by, is_whole, IsPlayedIn, IsStep, link_version, List, Name, None}
-use proofs.Words.{opened, opened_apart, Opening, Option, option_map_or, past, refl, Refused, Some}
-use proofs.Words.{Speaks, Taken, taken, true, unborn, Verdict, whole_by, whole_kept, ℕ, [], ◌&&◌}
-use proofs.Words.{◌<◌, ◌==◌, ◌||◌, ◌∙◌, ◌∷◌, ◌≡◌}
+use proofs.Words.{Accepted, ap, arith, Bool, but, ByDial, ByPeer, cond, entered, Entry, Event}
+use proofs.Words.{false, fresh, given, is_open, is_opened_by, is_whole, IsPlayedIn, IsStep}
+use proofs.Words.{link_version, List, Name, opened, opened_apart, Opening, Option, option_map_or}
+use proofs.Words.{past, refl, Refused, Speaks, Taken, taken, true, unborn, Verdict, whole_kept, ℕ}
+use proofs.Words.{[], ◌&&◌, ◌<◌, ◌==◌, ◌||◌, ◌∙◌, ◌∷◌, ◌≡◌}
 use proofs.Spoken.{speaks_now}
 
 module _ (o : Opening) (l : ℕ) where
-  unopened_so : (es : List Entry) → opened l es ≡ None → is_whole l es ≡ false
-  unopened_so es none = grind arith
-
   -- a link that no entry opened was never whole
   pub never_whole : (v : ℕ) (es : List Entry) → IsPlayedIn o es → entered es < l
       → Speaks o l v es

@@ -1,14 +1,14 @@
 -- What one node hears of another is its own rows at one moment.
 use Rattle.frame_laws.proofs
 use proofs.Numbers.{moment_low}
-use proofs.Words.{AllByRecursion, and_false, ap, append-nil, arith, bodies_of, Bool, creation}
-use proofs.Words.{delivered, entered, Falls, false, foreign_own, has_rows, HasGiven, heard}
-use proofs.Words.{HeardIsSaid, HearsMoment, History, is_from, is_local, is_peer, IsGiven, IsHonest}
-use proofs.Words.{IsNode, IsPlayed, IsProvedLink, length, List, listed, moment, None, Opened}
-use proofs.Words.{opened, Option, option_map, out, OutFrame, Owing, own, PassesThrough, Pid, refl}
-use proofs.Words.{same, same_sym, SaysOne, slice_get, slice_get_within, Some, source_at, Speaks}
-use proofs.Words.{stated, subst, suc, sym, take, take-append-le, told, true, view_of, zero, ℕ, []}
-use proofs.Words.{◌++◌, ◌+◌, ◌<◌, ◌==◌, ◌∙◌, ◌∷◌, ◌≡◌, ◌≤◌}
+use proofs.Words.{AllByRecursion, ap, append-nil, arith, bodies_of, Bool, creation, delivered}
+use proofs.Words.{entered, Falls, false, foreign_own, has_rows, HasGiven, heard, HeardIsSaid}
+use proofs.Words.{HearsMoment, History, is_from, is_local, is_peer, IsGiven, IsHonest, IsNode}
+use proofs.Words.{IsPlayed, IsProvedLink, length, List, listed, moment, None, Opened, opened}
+use proofs.Words.{Option, option_map, out, OutFrame, Owing, own, PassesThrough, Pid, refl, same}
+use proofs.Words.{same_sym, SaysOne, slice_get, slice_get_within, Some, source_at, Speaks, stated}
+use proofs.Words.{subst, suc, sym, take, take-append-le, told, true, view_of, zero, ℕ, [], ◌++◌}
+use proofs.Words.{◌+◌, ◌<◌, ◌==◌, ◌∙◌, ◌∷◌, ◌≡◌, ◌≤◌}
 use proofs.Bodies.{honest_first, stands_first}
 use proofs.Accepting.{listed_is}
 use proofs.Hearing.{given_here, heard_said}

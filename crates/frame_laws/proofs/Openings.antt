@@ -1,12 +1,11 @@
 -- A link has the number of the entry that opened it; before that nothing is owed to it, and while
 -- it is open the creation stays.
 use Rattle.frame_laws.proofs
-use proofs.Numbers.{entered_more, opens_next, unborn_yet}
-use proofs.Words.{arith, creation, entered, Entry, eqb-true, is_open, is_opened_by, IsPlayedIn}
-use proofs.Words.{leb-true, List, moment, Opened, opened, Opening, opening_of, out_in, past, refl}
-use proofs.Words.{Some, Start, suc, true, unowed, zero, ℕ, [], ◌<◌, ◌∷◌, ◌≡◌, ◌≤◌}
+use proofs.Words.{arith, creation, entered, Entry, is_open, is_opened_by, IsPlayedIn, List, moment}
+use proofs.Words.{Opened, opened, Opening, opening_of, out_in, past, refl, Some, Start, suc, true}
+use proofs.Words.{unowed, zero, ℕ, [], ◌<◌, ◌∷◌, ◌≡◌, ◌≤◌}
 use proofs.Handing.{unborn_open}
-use proofs.Places.{earlier_moment, this_moment}
+use proofs.Places.{earlier_moment}
 
 pub opened_number : (l : ℕ) (e : Entry) → is_opened_by l e ≡ true → e.number ≡ l
 opened_number l e q = grind arith

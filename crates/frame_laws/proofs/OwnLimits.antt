@@ -1,7 +1,7 @@
 -- Own rows and running scopes are within the limits of messages.
 use Rattle.frame_laws.proofs
-use proofs.Words.{Accepted, accepted, all_hold, AllByRecursion, and_parts, arith, Bool, but, cond}
-use proofs.Words.{creation, entered, Entry, Event, events, foreign_own, History, is_among, is_local}
+use proofs.Words.{Accepted, accepted, all_hold, AllByRecursion, arith, Bool, but, cond, creation}
+use proofs.Words.{entered, Entry, Event, events, foreign_own, History, is_among, is_local}
 use proofs.Words.{is_running, IsNode, IsPlayedIn, IsRow, IsText, IsWritten, join_checks, joined}
 use proofs.Words.{judgement, leb-true, List, list_all, lives, local_rows, local_rows_are, mentions}
 use proofs.Words.{occurrences, Opening, own, past, Pid, refl, Refused, Reply, Row, row}

@@ -4,12 +4,12 @@ use proofs.Words.{Accepted, AllByRecursion, arith, Bool, cond, count_in_group, E
 use proofs.Words.{false, few, few_local, fewer_length, filter, filter_all, foreign_own, History}
 use proofs.Words.{is_empty, is_local, is_running, is_whole, IsListing, IsNode, IsRow, IsRowListing}
 use proofs.Words.{IsText, judgement, length, length-map, limit, link_version, List, list_all}
-use proofs.Words.{listing, listing_counts, lives, local_rows, local_rows_are, map, max_rows}
-use proofs.Words.{mentions, Message, min, nat_le, occurrences, occurs_stands, old_limit, own}
-use proofs.Words.{own_limit, Pid, pid_cmp, pids_total, refl, Reply, Row, row, rows_in_group, same}
-use proofs.Words.{same_decides, same_pid, same_pid_decides, same_row, same_row_decides, same_sym}
-use proofs.Words.{told, true, uncounted, ℕ, [], ◌+◌, ◌<◌, ◌==◌, ◌||◌, ◌∷◌, ◌≡◌, ◌≤◌, all_hold}
-use proofs.Words.{first_broken, message_checks, Message2, None, unbroken}
+use proofs.Words.{listing, listing_counts, lives, local_rows, local_rows_are, map, mentions}
+use proofs.Words.{Message, min, occurrences, occurs_stands, old_limit, own, own_limit, Pid, pid_cmp}
+use proofs.Words.{pids_total, refl, Reply, Row, row, rows_in_group, same, same_decides, same_pid}
+use proofs.Words.{same_pid_decides, same_row, same_row_decides, same_sym, told, true, uncounted, ℕ}
+use proofs.Words.{[], ◌+◌, ◌<◌, ◌∷◌, ◌≡◌, ◌≤◌, all_hold, first_broken, message_checks, Message2}
+use proofs.Words.{None, unbroken}
 use proofs.OwnLimits.{scope_text, all_counted, living_row, own_row, own_rows}
 use proofs.Sayable.{IsSayable, join_sayable, leave_sayable, sync_sayable}
 
@@ -109,7 +109,6 @@ module _ (h : History) (node : IsNode h) where
 
   module _ (l v : ℕ)
       (agrees : is_whole l h.entries ≡ true → link_version h.opening l h.entries ≡ v) where
-
     -- to a peer that is told all own rows can be said
     pub told_room : (s : List ℕ) → told h.opening l s h.entries ≡ true → own_limit h s ≤ limit v
     told_room s tells =

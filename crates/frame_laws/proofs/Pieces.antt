@@ -81,9 +81,6 @@ pub record IsPiece (b : Option Begun) (kind : PartKind) (s : List ℕ) (before r
   pub begins : last ≡ false → begun_by b (take (suc k) all)
       ≡ Some (record { kind = kind; scope = s; number = number; rows = before ++ first })
 
-not_first : (n : ℕ) → (suc (suc n) == 1) ≡ false
-not_first n = search rules
-
 -- what is kept stands before the next part
 kept_before : (kind : PartKind) (s : List ℕ) (n : ℕ) (before : List Row)
     → rows_before (Some (record { kind = kind; scope = s; number = suc n; rows = before })) kind s

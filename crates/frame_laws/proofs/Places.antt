@@ -3,7 +3,7 @@ use Rattle.frame_laws.proofs
 use proofs.Words.{AllByRecursion, arith, entered, Entry, frames_of, History, IsPlayedIn, length}
 use proofs.Words.{List, map, moment, Opening, out_in, OutFrame, owed, owes, Owing, owing, past}
 use proofs.Words.{refl, slice_get, Some, suc, zero, ℕ, [], ◌++◌, ◌+◌, ◌<◌, ◌∷◌, ◌≡◌, ◌≤◌}
-use proofs.Numbers.{entered_more, entered_next, owed_number}
+use proofs.Numbers.{owed_number}
 
 module _ {A : Type 0} where
   -- a place in two lists is one in the first or in the second

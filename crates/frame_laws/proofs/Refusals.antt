@@ -1,9 +1,9 @@
 -- A frame that was accepted: its link is open, and within a handshake nobody becomes heard or told.
 use Rattle.frame_laws.proofs
-use proofs.Words.{Accepted, accepted, ap, arith, awaits, Bool, but, done_now, Entry, Event, false}
+use proofs.Words.{Accepted, ap, arith, awaits, Bool, but, done_now, Entry, Event, false}
 use proofs.Words.{first_broken, frame_checks, framed_heard, fresh, heard, History, is_last}
-use proofs.Words.{is_message, is_open, IsPlayed, IsStep, List, None, not, open_first, proved_heard}
-use proofs.Words.{refl, Reply, told, true, ℕ, [], ◌&&◌, ◌∷◌, ◌≡◌}
+use proofs.Words.{is_message, is_open, IsPlayed, IsStep, List, None, not, proved_heard, refl, Reply}
+use proofs.Words.{told, true, ℕ, [], ◌&&◌, ◌∷◌, ◌≡◌}
 
 -- who is heard or told after an entry that says nothing was so before
 pub was_so : (ended opens whole said : Bool) → (((not ended && opens) && whole) && said) ≡ true

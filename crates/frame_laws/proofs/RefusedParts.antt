@@ -2,18 +2,18 @@
 use Rattle.frame_laws.proofs
 use proofs.Words.{Accepted, and_parts, ap, append-nil, arith, Begun, begun, begun_after, begun_of}
 use proofs.Words.{Bool, but, came, comes_next, cond, delivered, Entry, eqb-true, Event, false}
-use proofs.Words.{first_broken, fresh, heard, HeardIsSaid, History, is_about_rows, is_open}
-use proofs.Words.{is_running, is_up, is_whole, IsGiven, IsHonest, IsPlayedIn, IsStep, kept_after}
-use proofs.Words.{kind_byte, known, lie, link_version, List, Message2, message_checks}
-use proofs.Words.{message_taken, None, Opening, Option, option_to_list, PartKind, past, Pid, refl}
-use proofs.Words.{Refused, Reply, Row, Rule, said_at, same, same_decides, seen_by, Some, stated}
-use proofs.Words.{sym, true, Verdict, ℕ, [], ◌&&◌, ◌++◌, ◌==◌, ◌||◌, ◌∙◌, ◌∷◌, ◌≡◌}
+use proofs.Words.{first_broken, heard, HeardIsSaid, History, is_about_rows, is_open, is_running}
+use proofs.Words.{is_up, is_whole, IsGiven, IsHonest, IsPlayedIn, IsStep, kept_after, kind_byte}
+use proofs.Words.{known, lie, link_version, List, Message2, message_checks, message_taken, None}
+use proofs.Words.{Opening, Option, option_to_list, PartKind, past, Pid, refl, Refused, Reply, Row}
+use proofs.Words.{Rule, said_at, same, same_decides, seen_by, Some, stated, sym, true, Verdict, ℕ}
+use proofs.Words.{[], ◌&&◌, ◌++◌, ◌==◌, ◌||◌, ◌∙◌, ◌∷◌, ◌≡◌}
 use proofs.Accepting.{heard_met, is_up_there}
 use proofs.Bodies.{begun_more, completes_there, is_known, known_heard}
-use proofs.KeptStands.{all_stand, is_sync, Stands, up_back}
+use proofs.KeptStands.{all_stand, is_sync, Stands}
 use proofs.KnownAfter.{known_after}
 use proofs.NotRefused.{comes, heard_never, kept_of, sync_never}
-use proofs.Alike.{Alike, some_whole}
+use proofs.Alike.{Alike}
 
 pub from_or : (a b : Bool) (P : Type 0) → (a || b) ≡ true → (a ≡ true → P) → (b ≡ true → P) → P
 from_or c b P q first later = grind arith

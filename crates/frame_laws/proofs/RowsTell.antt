@@ -1,15 +1,14 @@
 -- What a Join, a Leave and an Exit say of a scope to a link.
 use Rattle.frame_laws.proofs
 use proofs.Words.{Accepted, AllByRecursion, ap, apart, append-nil, append_assoc, arith, Bool, but}
-use proofs.Words.{cond, Entry, Event, false, filter, flat_map, frames_to, History, if_told}
-use proofs.Words.{is_about_rows, is_among, is_empty, is_running, is_whole, IsListing, IsNode}
-use proofs.Words.{IsStep, IsText, IsWritten, Less, lie, link_version, List, local_rows}
-use proofs.Words.{local_rows_are, Message, message_of, occurrences, Opening, OutFrame, own}
-use proofs.Words.{PartKind, past, Pid, refl, Reply, Rises, Row, row, rows_of, running_among}
-use proofs.Words.{running_rises, running_scopes, said_frames, same, same_decides, same_pid}
-use proofs.Words.{same_pid_decides, same_row, same_row_decides, same_sym, Some, subst, sym}
-use proofs.Words.{text_cmp, told, told_runs, true, Verdict, ℕ, [], ◌++◌, ◌+◌, ◌-◌, ◌∙◌, ◌∷◌, ◌≡◌}
-use proofs.Words.{◌≤◌}
+use proofs.Words.{cond, Entry, Event, false, filter, flat_map, History, if_told, is_about_rows}
+use proofs.Words.{is_among, is_empty, is_running, is_whole, IsListing, IsNode, IsStep, IsText}
+use proofs.Words.{IsWritten, Less, lie, link_version, List, local_rows, local_rows_are, Message}
+use proofs.Words.{message_of, occurrences, Opening, OutFrame, own, PartKind, past, Pid, refl, Reply}
+use proofs.Words.{Rises, Row, row, rows_of, running_among, running_rises, running_scopes}
+use proofs.Words.{said_frames, same, same_decides, same_pid, same_pid_decides, same_row}
+use proofs.Words.{same_row_decides, same_sym, Some, subst, sym, text_cmp, told, told_runs, true}
+use proofs.Words.{Verdict, ℕ, [], ◌++◌, ◌+◌, ◌-◌, ◌∙◌, ◌∷◌, ◌≡◌, ◌≤◌}
 use proofs.Calm.{AllCalm, calm_closed, calm_message}
 use proofs.OwnLimits.{scope_text, scopes_text}
 use proofs.Telling.{EntryTells, IsTold, Silent, Spoke, Tells, told_join, told_leave}
@@ -24,11 +23,6 @@ module _ (h : History) (node : IsNode h) (l v : ℕ)
     (s : List ℕ) where
   abbrev is_told : Bool
   is_told = told h.opening l s h.entries
-
-  -- while the peer is told, it is told in this version
-  told_frames : (m : Message) → is_told ≡ true
-      → frames_to h l m ≡ said_frames v m
-  told_frames m tells = grind arith
 
   module _ (was now : List ℕ → Pid → ℕ) (kind : PartKind) (rows : List Row)
       (is : is_told ≡ true → is_empty rows ≡ false

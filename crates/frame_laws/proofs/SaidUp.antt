@@ -1,6 +1,5 @@
 -- A message is owed to a link after it was proved, and no restart comes between.
 use Rattle.frame_laws.proofs
-use proofs.Numbers.{entered_more}
 use proofs.Words.{Accepted, ack_taken, ap, arith, AwaitAck, Awaited, AwaitMessage, AwaitReply}
 use proofs.Words.{awaits, Bool, but, entered, Entry, eqb-true, Event, false, filter, flat_map}
 use proofs.Words.{frame_owes, History, if_told, is_restarted_after, is_whole, IsNumbered}

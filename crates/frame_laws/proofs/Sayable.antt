@@ -1,15 +1,14 @@
 -- What may be said on a link, and the frames of a message, which are read as its parts.
 use Rattle.frame_laws.proofs
 use proofs.Words.{All-from_recursion, AllByRecursion, and_parts, ap, AreWritten, arith, Bool, drop}
-use proofs.Words.{false, frames_said, HasParts, IsMessage, IsMessage2, IsRow, IsText, length, limit}
-use proofs.Words.{List, list_all, list_all-append, map, max_rows, Message, message-spelled}
-use proofs.Words.{Message2, message2-spelled, message2_bytes, message_bytes, message_taken}
-use proofs.Words.{option_to_list, OutFrame, PartKind, parts, parts_from, parts_within}
-use proofs.Words.{recursion_from_All, refl, Row, rows_in, said_frames, slice_get, Some, suc, sym}
-use proofs.Words.{take, take-append-drop, true, wide, zero, ℕ, [], ◌++◌, ◌<◌, ◌==◌, ◌^◌, ◌∙◌, ◌∷◌}
-use proofs.Words.{◌≡◌, ◌≤◌}
-use proofs.Handshakes.{taken_new, taken_old}
-use proofs.Pieces.{pieces, value_of}
+use proofs.Words.{frames_said, HasParts, IsMessage2, IsRow, IsText, length, limit, List, list_all}
+use proofs.Words.{list_all-append, map, max_rows, Message, message-spelled, Message2}
+use proofs.Words.{message2-spelled, message2_bytes, message_bytes, message_taken, option_to_list}
+use proofs.Words.{OutFrame, PartKind, parts, parts_from, parts_within, recursion_from_All, refl}
+use proofs.Words.{Row, rows_in, said_frames, slice_get, Some, suc, sym, take, take-append-drop}
+use proofs.Words.{true, wide, zero, ℕ, [], ◌++◌, ◌<◌, ◌==◌, ◌∙◌, ◌∷◌, ◌≡◌, ◌≤◌}
+use proofs.Handshakes.{taken_new}
+use proofs.Pieces.{pieces}
 
 -- ---- what may be said
 
@@ -25,18 +24,9 @@ pub record IsSayable (v : ℕ) (m : Message) : Type 0 where
   pub has : HasParts m
   pub few : length (rows_said m) ≤ limit v
 
-old_message : (v : ℕ) (m : Message) → (v == 2) ≡ false → IsSayable v m → IsMessage m
-old_message v m old it = grind arith
-
-limit_small : (v : ℕ) → limit v ≤ 65536
-limit_small v = grind arith
-
 -- rows of each kind
 module _ (v : ℕ) (s : List ℕ) (text : IsText s) (rows : List Row)
     (each : AllByRecursion IsRow rows) (few : length rows ≤ limit v) where
-  fits : length rows < 2 ^ 32
-  fits = omega (arith, limit_small v)
-
   pub sync_sayable : IsSayable v (Message.Sync s rows)
   sync_sayable = grind (arith, All-from_recursion)
 

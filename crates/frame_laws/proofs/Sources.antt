@@ -1,6 +1,5 @@
 -- Sources are numbers of entries, and they rise.
 use Rattle.frame_laws.proofs
-use proofs.Numbers.{owed_number}
 use proofs.Words.{arith, Entry, History, IsPlayedIn, List, Opening, out_in, OutFrame, owed, owes}
 use proofs.Words.{Owing, past, slice_get, Some, source_at, ℕ, [], ◌∷◌, ◌≡◌, ◌≤◌}
 use proofs.Places.{AllOwed, holds_then, HoldsThen, InFirst, InSecond, owed_here, part, Parted}

@@ -8,11 +8,11 @@ use proofs.Words.{judgement, link_version, List, list_all, local_rows, Means, Me
 use proofs.Words.{message_checks, message_owes, message_taken, narrow, None, open_first, Opening}
 use proofs.Words.{OutFrame, owed, own, own_name_frame, past, Pid, refl, Refused, Row}
 use proofs.Words.{running_scopes, said_frames, SaysOne, Some, Speaks, subst, sym, told, true}
-use proofs.Words.{Verdict, whole_is_message, wide, ℕ, [], ◌==◌, ◌∙◌, ◌∷◌, ◌≡◌}
+use proofs.Words.{Verdict, whole_is_message, wide, ℕ, [], ◌==◌, ◌∷◌, ◌≡◌}
 use proofs.OwnLimits.{scopes_text}
 use proofs.Handshakes.{all_closed, begins_message, first_byte, frame_all, HoldsOfHellos, IsClosed}
 use proofs.Handshakes.{no_message, of_hellos, refusal_all}
-use proofs.Pieces.{pieces, value_of}
+use proofs.Pieces.{pieces}
 use proofs.Places.{all_at, AllOwed}
 use proofs.Sayable.{asks_alike, asks_sayable, downs_alike, downs_sayable, IsSayable, pieces_meet}
 use proofs.Sayable.{reads, reads_hold, rows_said}

@@ -3,7 +3,7 @@ use Rattle.frame_laws.proofs
 use proofs.Words.{ap, AreThere, arith, Bool, Entry, false, how_many_append, IsFew, length}
 use proofs.Words.{length-append, limit, List, Message, message_of, Opening, Option, OutFrame, owed}
 use proofs.Words.{own, PartKind, past, Pid, Row, row, rows_of, said_frames, same_decides, same_row}
-use proofs.Words.{seen, Some, sym, told, true, ℕ, [], ◌++◌, ◌+◌, ◌-◌, ◌∙◌, ◌∷◌, ◌≡◌, ◌≤◌}
+use proofs.Words.{seen, Some, told, true, ℕ, [], ◌++◌, ◌+◌, ◌-◌, ◌∙◌, ◌∷◌, ◌≡◌, ◌≤◌}
 use proofs.Calm.{AllCalm, HasNoRows}
 use proofs.Sayable.{IsSayable}
 

@@ -1,14 +1,13 @@
 -- Where each entry tells what it does, the frames pass through the sender's rows.
 use Rattle.frame_laws.proofs
-use proofs.Numbers.{owed_number}
-use proofs.Words.{and_parts, ap, AreThere, arith, Begun, begun_by, begun_of, bodies_of, Bool}
-use proofs.Words.{completed_by, Entry, frames_said, has_rows, IsFew, IsNode, IsPlayedIn, IsStep}
-use proofs.Words.{length, lie, List, map, Message, Message2, message_of, message_taken, moment}
-use proofs.Words.{None, Opening, Option, out_in, OutFrame, owed, owes, Owing, owing, own, PartKind}
-use proofs.Words.{parts_from, PassesThrough, past, Pid, refl, Row, rows_so_far, said_frames}
-use proofs.Words.{same_decides, seen, slice_get, slice_get_within, so_far_behind, Some, Speaks}
-use proofs.Words.{subst, suc, sym, take, take-append-add, take-append-le, take-length, told, true}
-use proofs.Words.{view_of, zero, ℕ, [], ◌++◌, ◌+◌, ◌<◌, ◌∙◌, ◌∷◌, ◌≡◌}
+use proofs.Words.{ap, AreThere, arith, Begun, begun_by, begun_of, bodies_of, Bool, completed_by}
+use proofs.Words.{Entry, frames_said, has_rows, IsFew, IsNode, IsPlayedIn, IsStep, length, lie}
+use proofs.Words.{List, map, Message, Message2, message_of, message_taken, moment, None, Opening}
+use proofs.Words.{Option, out_in, OutFrame, owed, owes, Owing, owing, own, PartKind, parts_from}
+use proofs.Words.{PassesThrough, past, Pid, refl, Row, rows_so_far, said_frames, same_decides, seen}
+use proofs.Words.{slice_get, slice_get_within, so_far_behind, Some, Speaks, subst, suc, sym, take}
+use proofs.Words.{take-append-add, take-append-le, take-length, told, true, view_of, zero, ℕ, []}
+use proofs.Words.{◌++◌, ◌+◌, ◌<◌, ◌∙◌, ◌∷◌, ◌≡◌}
 use proofs.Calm.{AllCalm, FewBehind, frames_apart, frames_seen, is_part, message_ends, message_seen}
 use proofs.Calm.{no_rows_at, rows_part, seen_apart, seen_frames, ThereBehind}
 use proofs.Orderly.{out_orderly, said_more}

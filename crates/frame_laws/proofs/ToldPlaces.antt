@@ -1,18 +1,13 @@
 -- The places of told rows fall, and each is the place of a frame that came.
 use Rattle.frame_laws.proofs
-use proofs.Words.{AllByRecursion, arith, Bool, came, cond, delivered, Entry, Event, Falls, false}
-use proofs.Words.{heard, length, length-append, List, Opening, refl, tells_rows, told_rows, true}
-use proofs.Words.{Verdict, ℕ, [], ◌++◌, ◌+◌, ◌<◌, ◌∷◌, ◌≡◌, ◌≤◌}
+use proofs.Words.{AllByRecursion, arith, Bool, came, cond, delivered, Entry, Falls, false, heard}
+use proofs.Words.{length, length-append, List, Opening, refl, tells_rows, told_rows, true, ℕ, []}
+use proofs.Words.{◌++◌, ◌+◌, ◌<◌, ◌∷◌, ◌≡◌, ◌≤◌}
 
 lower : (n m : ℕ) → n ≤ m → (xs : List ℕ) → AllByRecursion (λ x. x < n) xs
     → AllByRecursion (λ x. x < m) xs
 lower n m le [] all = tt
 lower n m le (x ∷ xs) all = grind (arith, lower n m le xs all.1)
-
--- what tells rows came
-one_came : (o : Opening) (l : ℕ) (s : List ℕ) (es : List Entry) (ev : Event) (v : Verdict)
-    → tells_rows o l s es v ev ≡ true → length (came l ev) ≡ 1
-one_came o l s es ev w q = grind arith
 
 pub record AreBelow (n : ℕ) (xs : List ℕ) : Type 0 where
   pub below : AllByRecursion (λ x. x < n) xs

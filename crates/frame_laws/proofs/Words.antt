@@ -7,8 +7,7 @@ use Rattle.link_frames.specs as link
 use Rattle.link_frames.proofs as links
 use Rattle.handshake_frames.specs as hands
 pub use Rattle.std.proofs.Common.{ap, arith, inl, inr, refl, subst, sym, ◌∙◌}
-pub use Rattle.std.proofs.lemmas.Bool.{and_parts, eq-eqb, eqb-false, eqb-true, le-leb, leb-false}
-pub use Rattle.std.proofs.lemmas.Bool.{leb-true, ltb-true}
+pub use Rattle.std.proofs.lemmas.Bool.{and_parts, eq-eqb, eqb-true, le-leb, leb-false, leb-true}
 pub use Rattle.std.proofs.lemmas.List.{append-nil, append_assoc, drop-append-le, length-append}
 pub use Rattle.std.proofs.lemmas.List.{length-drop, length-map, map-append, take-append-drop}
 pub use Rattle.std.proofs.lemmas.List.{take-append-le, take-map, take_all as take_past}
@@ -37,7 +36,7 @@ pub use Rattle.dist_types.proofs.Listings.{all_append, fewer_length, listing_cou
 pub use Rattle.dist_types.proofs.Orders.{exact_pids, pids_total, same_decides, same_pid_decides}
 pub use Rattle.dist_types.proofs.Orders.{same_row_decides, same_sym}
 pub use Rattle.dist_types.proofs.Totals.{how_many_append}
-pub use link.Spelling.{IsMessage, IsRow, message_bytes}
+pub use link.Spelling.{IsRow, message_bytes}
 pub use link.declared.message.Message.{Message}
 pub use link.declared.part.Message2.{Message2}
 pub use link.declared.part.PartKind.{PartKind}
@@ -95,10 +94,10 @@ pub use audits.FewRows.{few}
 pub use audits.Words.{codes, list_all-append, play}
 pub use audits.OldTold.{few_local, old_limit}
 pub use audits.Begun.{kept_peers, none_begun}
-pub use audits.Finished.{given_by, given_kept, is_message, whole_awaits, whole_by, whole_kept}
+pub use audits.Finished.{is_message, whole_awaits, whole_kept}
 pub use audits.NewLinks.{opened_apart}
 pub use audits.Foreign.{peer_foreign}
-pub use audits.Heard.{has_sync, heard_runs, heard_whole}
+pub use audits.Heard.{has_sync, heard_runs}
 pub use audits.HeardNow.{framed_heard, message_heard, opening_heard, proved_heard}
 pub use audits.KeptLinks.{told_runs, unborn_waiting, unowed}
 pub use audits.Lines.{a_up, calls, done, gives, Line, node, pid}
@@ -109,7 +108,7 @@ pub use audits.Onward.{ack_taken, message_taken_on, reply_taken, whole_is_messag
 pub use audits.OwnRows.{foreign_own, local_rows_are, rows_in_group}
 pub use audits.RowsAfter.{uncounted}
 pub use audits.ScopesNow.{running_among, running_rises}
-pub use audits.UpLinks.{agrees, and_false, done_now, none_taken}
+pub use audits.UpLinks.{agrees, done_now, none_taken}
 pub use audit.Listed.{is_from, listed}
 pub use specs.Sent.{bodies_of, came, delivered, frames_of, handed, out, out_in, owes, Owing, owing}
 pub use specs.Sent.{sent, source_at}
