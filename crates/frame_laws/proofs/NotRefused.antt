@@ -161,7 +161,8 @@ module _ (v : ℕ) (o : Opening) (es : List Entry) (e : Entry) (legal : IsPlayed
         let f = Message2.Part kind s number last rows in
         let step = in_step (begun o l es) (begun_of v bodies) kind s number last rows
         (comes f says) alike in
-        never f says (heard_met h legal l f hears (may_say now kind number last rows says step)) r next
+        never f says (heard_met h legal l f hears (may_say now kind number last rows says step)) r
+        next
 
     -- nor is a part of a Sync that goes on
     pub sync_never : is_visible h l ≡ true → is_running h s ≡ true

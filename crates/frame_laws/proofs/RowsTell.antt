@@ -154,7 +154,8 @@ module _ (o : Opening) (es : List Entry) (e : Entry) (node : IsNode (past o es))
         PartKind.Leave (leave_rows h node s g ps)
         (λ tells some. leave_is h node l v agrees s g ps text.0 tells some)
         (λ q f p. omega (arith, nothing_of f p (leave_rows h node s g ps) q, left_now f p))
-        (λ tells. told_leave tells (local_rows h s) (own_within h s) (own_room h node l v agrees s tells)
+        (λ tells. told_leave tells (local_rows h s) (own_within h s)
+        (own_room h node l v agrees s tells)
         (λ f p. grind
         (arith, same_decides f g, IsListing.counts (leave_listing h node s g ps) (row f p)))
         left_now)
@@ -267,7 +268,8 @@ module _ (o : Opening) (es : List Entry) (e : Entry) (node : IsNode (past o es))
             PartKind.Leave (exit_rows h node s x)
             (λ tells some. exit_is h node l v agrees s x (scope_text h node s runs) tells some)
             (λ q f p. omega (arith, nothing_of f p (exit_rows h node s x) q, exited_now f p))
-            (λ tells. told_leave tells (local_rows h s) (own_within h s) (own_room h node l v agrees s tells)
+            (λ tells. told_leave tells (local_rows h s) (own_within h s)
+            (own_room h node l v agrees s tells)
             (λ f p. grind (
               arith,
               exit_counts (row f p) (local_rows h s),

@@ -60,7 +60,8 @@ ThereAt s x b m = Unit {0}
 -- where one message says rows and the frames around it are calm
 module _ {v : ℕ} {s : List ℕ} {front back fs : List OutFrame} (kind : PartKind) (rows : List Row)
     (early : AllCalm v s front) (late : AllCalm v s back)
-    (can : IsSayable v (message_of kind s rows)) (is : fs ≡ front ++ (said_frames v (message_of kind s rows) ++ back)) where
+    (can : IsSayable v (message_of kind s rows))
+    (is : fs ≡ front ++ (said_frames v (message_of kind s rows) ++ back)) where
   abbrev whole_said : Message
   whole_said = message_of kind s rows
 
