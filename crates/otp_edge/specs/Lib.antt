@@ -19,5 +19,7 @@ pub mod Watches
 pub mod Handed
 pub mod Sayings
 pub mod Endings
+pub mod Controls
 pub mod Said
 pub mod Edges
+pub mod Drops

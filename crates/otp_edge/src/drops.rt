@@ -1,4 +1,9 @@
 //! What isn't handed in or told, and why.
+ghost use Rattle.std.specs.Prelude.{◌≡◌, ◌≢◌, []};
+ghost use Rattle.otp_edge.specs.Drops.{CountsOnce, name_of, times_for};
+ghost use Rattle.otp_edge.specs.Opens.{IsNothing};
+ghost use Rattle.otp_edge.specs.declared.drops.Dropped.TheVariants as reasons;
+
 use crate::heard::Heard;
 
 /// Why nothing is handed in of a body, or nothing told of a message.
@@ -35,7 +40,9 @@ impl Dropped {
     ];
 
     /// Its name, in lower case.
-    pub fn name(self) -> &'static str {
+    pub fn name(self) -> &'static str
+        ensures { result.now ≡ name_of self }
+    {
         match self {
             Dropped::ForMember => "for_member",
             Dropped::ForName => "for_name",
@@ -56,32 +63,44 @@ pub struct Drops {
 
 impl Drops {
     /// Nothing was.
-    pub fn new() -> Drops {
+    pub fn new() -> Drops
+        ensures { (reason : Dropped) → times_for reason result ≡ 0 }
+    {
         Drops { counts: [0; 7] }
     }
 
     /// Counts once more.
-    pub fn add(&mut self, reason: Dropped) {
+    pub fn add(&mut self, reason: Dropped)
+        ensures { CountsOnce reason self.old self.new }
+    {
         let place = reason as usize;
         self.counts[place] = self.counts[place].saturating_add(1);
     }
 
     /// Counts a message of `pg` of which nothing is handed in.
-    pub fn add_unheard(&mut self, heard: &Heard) {
+    pub fn add_unheard(&mut self, heard: &Heard)
+        ensures counted { IsNothing heard.now → CountsOnce reasons.Unheard self.old self.new }
+        ensures same { (IsNothing heard.now → ⊥) → self.new ≡ self.old }
+    {
         if heard.is_nothing() {
             self.add(Dropped::Unheard);
         }
     }
 
     /// Counts a message of which nothing is told.
-    pub fn add_untold(&mut self, bodies: &[u8]) {
+    pub fn add_untold(&mut self, bodies: &[u8])
+        ensures counted { bodies.now ≡ [] → CountsOnce reasons.Untold self.old self.new }
+        ensures same { bodies.now ≢ [] → self.new ≡ self.old }
+    {
         if bodies.is_empty() {
             self.add(Dropped::Untold);
         }
     }
 
     /// How often something was dropped for this reason.
-    pub fn of(&self, reason: Dropped) -> u64 {
+    pub fn of(&self, reason: Dropped) -> u64
+        ensures { result ≡ times_for reason self.now }
+    {
         self.counts[reason as usize]
     }
 }

@@ -1,8 +1,9 @@
 //! What the peer of a link sends, as what is handed in to the node here and what it is sent back.
 ghost use Rattle.std.specs.Prelude.{◌≡◌, ◌<◌, ◌⊎◌, ℕ, List, IfOk, IfErr, OnErr, vec_len};
-ghost use Rattle.std.specs.Prelude.{get_or};
+ghost use Rattle.std.specs.Prelude.{[], get_or};
 ghost use Rattle.dist_types.specs.declared.pid.Pid.{Pid};
 ghost use Rattle.otp_edge.specs.Bodies.{IsBody};
+ghost use Rattle.otp_edge.specs.Drops.{CountsOnce};
 ghost use Rattle.otp_edge.specs.Edges.{IsHeard, IsSentTo, IsAskedBy, IsDiscoverBy, IsEnded};
 ghost use Rattle.otp_edge.specs.Edges.{Ends, Hears, HearsNothing, Stays, Takes};
 ghost use Rattle.otp_edge.specs.Opens.{IsNothing, RunsNowhere};
@@ -183,6 +184,8 @@ impl Edge {
     /// Nothing comes of a body, and it is counted why.
     pub fn dropped(&mut self, alloc: Global, reason: Dropped) -> Heard
         ensures nothing { IsNothing result }
+        ensures owed { result.owed.items ≡ [] }
+        ensures counted { CountsOnce reason self.old.drops self.new.drops }
         ensures scopes { self.new.scopes ≡ self.old.scopes }
         ensures stays { Stays self.old self.new }
     {

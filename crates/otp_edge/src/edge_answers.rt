@@ -1,5 +1,6 @@
 //! What the peer of a link is sent back for signals that say nothing of rows.
-ghost use Rattle.std.specs.Prelude.{◌≡◌, ◌<◌, IfOk, IfSome, OnErr, vec_len};
+ghost use Rattle.std.specs.Prelude.{◌≡◌, ◌<◌, ◌⊎◌, [], IfOk, IfSome, OnErr, vec_len};
+ghost use Rattle.otp_edge.specs.Controls.{IsAnswer, missing_bytes};
 ghost use Rattle.otp_edge.specs.Edges.{Stays, seens};
 ghost use Rattle.otp_edge.specs.Said.{KnowsTheSame};
 
@@ -31,6 +32,7 @@ const OWN_KERNEL: u64 = 0x7FFF_FFFF_FFFF_FFFF;
 impl Edge {
     /// The bodies that the peer is sent for a signal of which nothing is handed in; none for most.
     pub fn answer(&mut self, alloc: Global, signal: &Signal<'_>) -> Result<Vec<u8>, OutOfMemory>
+        ensures sent { IfOk result (λ out. IsAnswer signal.now out.items) }
         ensures stays { Stays self.old self.new }
         ensures same { seens self.new ≡ seens self.old }
         ensures memory { OnErr result (KnowsTheSame self.old self.new) }
@@ -100,6 +102,8 @@ impl Edge {
         to: &[u8],
         reference: &[u8],
     ) -> Result<Vec<u8>, OutOfMemory>
+        ensures sent { IfOk result (λ out. (out.items ≡ []) ⊎
+            (out.items ≡ missing_bytes to.now from.now reference.now)) }
         ensures stays { Stays self.old self.new }
         ensures same { seens self.new ≡ seens self.old }
         ensures memory { OnErr result (KnowsTheSame self.old self.new) }
@@ -130,6 +134,7 @@ impl Edge {
         to: &[u8],
         reference: &[u8],
     ) -> Result<Vec<u8>, OutOfMemory>
+        ensures sent { IfOk result (λ out. out.items ≡ []) }
         ensures stays { Stays self.old self.new }
         ensures same { seens self.new ≡ seens self.old }
         ensures memory { OnErr result (KnowsTheSame self.old self.new) }

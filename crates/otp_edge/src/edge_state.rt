@@ -1,7 +1,9 @@
 //! What is known of a link with a node of Erlang/OTP.
 ghost use Rattle.std.specs.Prelude.{◌≡◌, ◌≤◌, ◌<◌, [], vec_len, length, get_or, IfSome, IsNone};
 ghost use Rattle.std.specs.Prelude.{All, None};
+ghost use Rattle.otp_edge.specs.Drops.{times_for};
 ghost use Rattle.otp_edge.specs.Opens.{IsOther, IsOtherProcess};
+ghost use Rattle.otp_edge.specs.declared.drops.Dropped.{Dropped};
 ghost use Rattle.otp_edge.specs.declared.open_scope.OpenScope.{OpenScope};
 
 use crate::drops::Drops;
@@ -39,6 +41,7 @@ impl Edge {
         ensures peer { result.peer ≡ peer }
         ensures in_parts { result.in_parts ≡ in_parts }
         ensures parts { result.parts ≡ None }
+        ensures drops { (reason : Dropped) → times_for reason result.drops ≡ 0 }
     {
         Edge {
             own,

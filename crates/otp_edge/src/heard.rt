@@ -97,7 +97,8 @@ impl Heard {
 /// What comes of a word of that scope, of which `copy` is another copy.
 pub fn heard_of(scope: Scope, copy: Scope, heard: HeardWord, owed: Vec<u8>) -> Heard
     requires { copy ≡ scope }
-    ensures { ComesOf scope heard result }
+    ensures comes { ComesOf scope heard result }
+    ensures owed { result.owed ≡ owed }
 {
     let down = down_of(heard.is_down, copy);
     match heard.word {
@@ -121,6 +122,7 @@ fn said_of(down: Option<Scope>, scope: Scope, word: Word, owed: Vec<u8>) -> Hear
     ensures down { result.down ≡ down }
     ensures message { result.message ≡ message_in scope (Some word) }
     ensures left { result.left ≡ left_in scope (Some word) }
+    ensures owed { result.owed ≡ owed }
 {
     match word {
         Word::Leave(rows) => Heard {
@@ -140,6 +142,7 @@ fn handed(down: Option<Scope>, message: Message, owed: Vec<u8>) -> Heard
     ensures down { result.down ≡ down }
     ensures message { result.message ≡ Some message }
     ensures left { result.left ≡ None }
+    ensures owed { result.owed ≡ owed }
 {
     Heard {
         down,

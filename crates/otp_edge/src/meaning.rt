@@ -1,4 +1,7 @@
 //! What is heard of a process of a scope.
+ghost use Rattle.std.specs.Prelude.{◌≡◌, length};
+ghost use Rattle.otp_edge.specs.Meaning.{rows_uncut, speaker_of};
+
 use dist_types::{Items, Pid, Row};
 
 /// What the process of a scope says. It names itself first. Groups that aren't carried are left
@@ -16,7 +19,9 @@ pub enum Said {
 }
 
 /// The process that says it.
-pub fn speaker(said: &Said) -> &Pid {
+pub fn speaker(said: &Said) -> &Pid
+    ensures { result.now ≡ speaker_of said.now }
+{
     match said {
         Said::Discover(pid) => pid,
         Said::Sync(pid, _) | Said::Join(pid, _) | Said::Leave(pid, _) => pid,
@@ -24,7 +29,9 @@ pub fn speaker(said: &Said) -> &Pid {
 }
 
 /// How many rows are handed in of it at most: of a leave those that are listed.
-pub fn row_count(said: &Said) -> usize {
+pub fn row_count(said: &Said) -> usize
+    ensures { result ≡ length (rows_uncut said.now) }
+{
     match said {
         Said::Sync(_, rows) | Said::Join(_, rows) => rows.as_slice().len(),
         Said::Discover(_) | Said::Leave(..) => 0,

@@ -1,8 +1,11 @@
 //! What is handed in of what the peer says of a scope that runs here.
-ghost use Rattle.std.specs.Prelude.{◌≡◌, IfOk};
-ghost use Rattle.otp_edge.specs.Opens.{ComesOf};
+ghost use Rattle.std.specs.Prelude.{◌≡◌, [], cond, IfOk};
+ghost use Rattle.otp_edge.specs.Controls.{monitor_bytes};
+ghost use Rattle.otp_edge.specs.Endings.{watch_bytes};
 ghost use Rattle.otp_edge.specs.HeardWords.{heard_said, seen_said};
-ghost use Rattle.otp_edge.specs.ScopeEdges.{seen_of};
+ghost use Rattle.otp_edge.specs.Meaning.{speaker_of};
+ghost use Rattle.otp_edge.specs.Opens.{ComesOf};
+ghost use Rattle.otp_edge.specs.ScopeEdges.{is_known, seen_of};
 
 use crate::heard::{Heard, heard_of};
 use crate::meaning::{Said, speaker};
@@ -33,6 +36,9 @@ impl OpenScope {
     ) -> Result<Ready, OutOfMemory>
         ensures scope { IfOk result (λ ready. ready.scope ≡ self.now.scope) }
         ensures copy { IfOk result (λ ready. ready.copy ≡ self.now.scope) }
+        ensures watch { IfOk result (λ ready. ready.watch.items ≡ cond
+            (is_known (speaker_of said.now) self.now.seen.other) [] (monitor_bytes self.now.own
+            (speaker_of said.now) (watch_bytes run.now reference))) }
     {
         let scope = self.scope.try_clone(alloc)?;
         let copy = self.scope.try_clone(alloc)?;
@@ -51,6 +57,8 @@ impl OpenScope {
         requires copy { ready.copy ≡ self.old.scope }
         ensures heard { ComesOf self.old.scope (heard_said peer.now said (seen_of self.old.seen))
             result }
+        ensures owed { result.owed.items ≡ cond (heard_said peer.now said
+            (seen_of self.old.seen)).is_new ready.watch.items [] }
         ensures seen { seen_of self.new.seen ≡ seen_said peer.now said (seen_of self.old.seen) }
         ensures scope { self.new.scope ≡ self.old.scope }
         ensures own { self.new.own ≡ self.old.own }

@@ -2,6 +2,7 @@
 ghost use Rattle.std.specs.Prelude.{◌≡◌, ◌+◌, ◌^◌, ℕ, List, [], IfOk, OnErr};
 ghost use Rattle.std.specs.List.{flat_map};
 ghost use Rattle.link_frames.specs.Parts.{message_of};
+ghost use Rattle.otp_edge.specs.Drops.{CountsOnce};
 ghost use Rattle.otp_edge.specs.Endings.{asking_again};
 ghost use Rattle.otp_edge.specs.Opens.{open_of, RunsNowhere};
 ghost use Rattle.otp_edge.specs.Said.{GoesOn, IsSaid, IsSameLink, KnowsTheSame, Says};
@@ -162,6 +163,7 @@ impl Edge {
     /// Nothing is told of a message, and it is counted why.
     fn untold(&mut self, alloc: Global, reason: Dropped) -> Vec<u8>
         ensures out { result.items ≡ [] }
+        ensures counted { CountsOnce reason self.old.drops self.new.drops }
         ensures scopes { self.new.scopes ≡ self.old.scopes }
         ensures link { IsSameLink self.old self.new }
         ensures parts { self.new.parts ≡ self.old.parts }

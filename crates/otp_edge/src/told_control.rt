@@ -2,6 +2,8 @@
 ghost use Rattle.std.specs.Prelude.{◌≡◌, ◌++◌, OnOk, codes};
 ghost use Rattle.external_terms.specs.Values.{atom_bytes};
 ghost use Rattle.otp_edge.specs.Bodies.{control_bytes, framed};
+ghost use Rattle.otp_edge.specs.Controls.{missing_bytes, monitor_bytes};
+ghost use Rattle.otp_edge.specs.Controls.{unlinked_bytes, untied_bytes};
 ghost use Rattle.otp_edge.specs.Endings.{alone};
 ghost use Rattle.otp_edge.specs.Processes.{pid_bytes};
 
@@ -29,7 +31,10 @@ pub fn put_watch(
     other: &Pid,
     reference: &[u8],
     out: &mut Vec<u8>,
-) -> Result<(), OutOfMemory> {
+) -> Result<(), OutOfMemory>
+    ensures { OnOk result (out.new.items ≡ out.old.items ++ monitor_bytes own.now other.now
+        reference.now) }
+{
     put_between(alloc, MONITOR_P, own, other, reference, out)
 }
 
@@ -90,7 +95,10 @@ pub fn put_missing(
     process: &[u8],
     watcher: &Watcher,
     out: &mut Vec<u8>,
-) -> Result<(), OutOfMemory> {
+) -> Result<(), OutOfMemory>
+    ensures { OnOk result (out.new.items ≡ out.old.items ++ missing_bytes process.now
+        watcher.now.from.items watcher.now.reference.items) }
+{
     put_exit(alloc, process, watcher, &NO_PROCESS, out)
 }
 
@@ -123,7 +131,9 @@ pub fn put_unlinked(
     process: &[u8],
     to: &[u8],
     out: &mut Vec<u8>,
-) -> Result<(), OutOfMemory> {
+) -> Result<(), OutOfMemory>
+    ensures { OnOk result (out.new.items ≡ out.old.items ++ unlinked_bytes process.now to.now) }
+{
     let control = Control {
         arity: 4,
         operation: EXIT,
@@ -141,7 +151,10 @@ pub fn put_untied(
     process: &[u8],
     to: &[u8],
     out: &mut Vec<u8>,
-) -> Result<(), OutOfMemory> {
+) -> Result<(), OutOfMemory>
+    ensures { OnOk result (out.new.items ≡ out.old.items ++ untied_bytes id.now process.now
+        to.now) }
+{
     let control = Control {
         arity: 4,
         operation: UNLINK_ID_ACK,
