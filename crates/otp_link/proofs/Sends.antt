@@ -40,9 +40,10 @@ body_has piece body is = rw is (omega arith)
 
 piece_has : (kind : LinkKind) (before after : Stand) (piece out : List ℕ)
     → SendsPiece kind before after piece out → 0 < length piece
-piece_has kind before after piece out (frame body sent up is own goes edge life last) =
+piece_has kind before after piece out (frame body sent up short is own goes edge life last) =
     frame_has piece body is
-piece_has kind before after piece out (message body up is sends still) = body_has piece body is
+piece_has kind before after piece out (message body up some few is sends still) =
+    body_has piece body is
 piece_has kind before after piece out (tick up is goes same) = body_has piece [] is
 
 pub shorter : (kind : LinkKind) (before after : Stand) (bytes rest sent all : List ℕ)

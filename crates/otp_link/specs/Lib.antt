@@ -4,3 +4,6 @@ pub mod Pieces
 pub mod Counted
 pub mod Sent
 pub mod Taking
+pub mod Asking
+pub mod Waiting
+pub mod Long

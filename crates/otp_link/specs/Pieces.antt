@@ -20,13 +20,20 @@ abbrev pub IsShort : Bool → List ℕ → Type 0
 IsShort false bytes = Lacks w16 65535 bytes
 IsShort true bytes = Lacks w32 4294967295 bytes
 
--- until the handshake is done a frame behind 2 bytes of length; then a body behind 4, of no more
--- than 4,194,304; one of no bytes; or the first 4,096 of a longer one
+-- a frame of up to 65,535 bytes stands at the front, behind its length, and the rest behind it
+abbrev pub HasFrame : List ℕ → List ℕ → List ℕ → Type 0
+HasFrame bytes body rest = (length body < 2 ^ 16) × (bytes ≡ counted w16 body ++ rest)
+
+-- so does a body of 1 to 4,194,304 bytes
+abbrev pub HasBody : List ℕ → List ℕ → List ℕ → Type 0
+HasBody bytes body rest = (0 < length body) × (length body ≤ 4194304)
+    × (bytes ≡ counted w32 body ++ rest)
+
+-- until the handshake is done a frame behind 2 bytes of length; then a body behind 4; one of no
+-- bytes; or the first 4,096 of a longer one
 abbrev pub IsPiece : Bool → List ℕ → Piece → Type 0
-IsPiece is_up bytes (Frame body rest) = (is_up ≡ false)
-    × (bytes ≡ counted w16 body.now ++ rest.now)
-IsPiece is_up bytes (Body body rest) = (is_up ≡ true) × (0 < length body.now)
-    × (length body.now ≤ 4194304) × (bytes ≡ counted w32 body.now ++ rest.now)
+IsPiece is_up bytes (Frame body rest) = (is_up ≡ false) × HasFrame bytes body.now rest.now
+IsPiece is_up bytes (Body body rest) = (is_up ≡ true) × HasBody bytes body.now rest.now
 IsPiece is_up bytes (Tick rest) = (is_up ≡ true) × (bytes ≡ counted w32 [] ++ rest.now)
 IsPiece is_up bytes (Long begin len) = (is_up ≡ true) × (4194304 < len)
     × (len < 2 ^ 32) × (length begin.now ≡ 4096) × Lacks w32 4194304 bytes

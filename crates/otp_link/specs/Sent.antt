@@ -1,8 +1,11 @@
 -- What goes out to a stock node of what the node here says.
-use Rattle.std.specs.Prelude.{◌≡◌, ◌⊎◌, ℕ, Bool, true, false, List, [], ◌++◌, Option, Some, None}
+use Rattle.std.specs.Prelude.{◌≡◌, ◌⊎◌, ◌<◌, ◌≤◌, ◌^◌, ℕ, Bool, true, false}
+use Rattle.std.specs.Prelude.{List, [], ◌++◌, length, Option, Some, None, IsNone}
 use Rattle.std.specs.Int.{w16, w32}
 use Rattle.handshake_frames.specs.Spelling.{counted}
+use Rattle.otp_edge.specs.Drops.{times_for}
 use Rattle.otp_edge.specs.Said.{IsBodySaid, IsNoBody, KnowsTheSame}
+use Rattle.otp_edge.specs.declared.drops.Dropped.{Dropped}
 use Rattle.otp_edge.specs.declared.edge_state.Edge.{Edge}
 use Rattle.otp_edge.specs.declared.life.Life.{Life}
 use Rattle.otp_link.specs.Offer.{IsOwnFrame}
@@ -20,10 +23,10 @@ pub record Stand : Type 0 where
 abbrev pub stand_of : OtpLink → Life → Stand
 stand_of link life = record { is_up = link.sends_bodies; edge = link.edge; life = life }
 
--- the edge stays, or it begins: in parts where the link is, and without a scope
+-- the edge stays, or where there was none it begins: in parts where the link is, without a scope
 abbrev pub IsBegun : LinkKind → Option Edge → Option Edge → Type 0
-IsBegun kind before after = (after ≡ before) ⊎ ((edge : Edge) × (after ≡ Some edge)
-    × (edge.in_parts ≡ kind.in_parts) × (edge.scopes.items ≡ []))
+IsBegun kind before after = (after ≡ before) ⊎ (IsNone before × ((edge : Edge)
+    × (after ≡ Some edge) × (edge.in_parts ≡ kind.in_parts) × (edge.scopes.items ≡ [])))
 
 -- a link stays of its kind; but its peer may take no messages in parts
 abbrev pub IsNarrowed : LinkKind → LinkKind → Type 0
@@ -41,12 +44,12 @@ pub data SendsBody (before after : Stand) (body out : List ℕ) : Type 0 where
 -- until the handshake is done a frame, with its flags set, of which a Reply or an Ack ends it; then
 -- of a body what its edge says, and of a tick nothing
 pub data SendsPiece (kind : LinkKind) (before after : Stand) (piece out : List ℕ) : Type 0 where
-  frame : (body sent : List ℕ) → before.is_up ≡ false → piece ≡ counted w16 body
-      → IsOwnFrame kind.is_visible body sent → out ≡ counted w16 sent
+  frame : (body sent : List ℕ) → before.is_up ≡ false → length body < 2 ^ 16
+      → piece ≡ counted w16 body → IsOwnFrame kind.is_visible body sent → out ≡ counted w16 sent
       → IsBegun kind before.edge after.edge → after.life ≡ before.life
       → after.is_up ≡ is_last_of body → SendsPiece kind before after piece out
-  message : (body : List ℕ) → before.is_up ≡ true → piece ≡ counted w32 body
-      → SendsBody before after body out → after.is_up ≡ true
+  message : (body : List ℕ) → before.is_up ≡ true → 0 < length body → length body ≤ 4194304
+      → piece ≡ counted w32 body → SendsBody before after body out → after.is_up ≡ true
       → SendsPiece kind before after piece out
   tick : before.is_up ≡ true → piece ≡ counted w32 [] → out ≡ [] → after ≡ before
       → SendsPiece kind before after piece out
@@ -79,3 +82,8 @@ pub record SendsAll (kind : LinkKind) (first after : Stand) (bytes out : List �
   pub rest : List ℕ
   pub sends : SendsUpTo kind first after bytes rest out
   pub unsent : IsUnsent after.is_up rest
+
+-- how often something was dropped over a link for that reason
+abbrev pub dropped_of : Option Edge → Dropped → ℕ
+dropped_of None reason = 0
+dropped_of (Some edge) reason = times_for reason edge.drops

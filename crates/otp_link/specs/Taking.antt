@@ -5,15 +5,16 @@ use Rattle.std.specs.Int.{w16, w32, to_be_bytes}
 use Rattle.dist_types.specs.declared.row.Row.{Row}
 use Rattle.handshake_frames.specs.Spelling.{counted}
 use Rattle.otp_edge.specs.Bodies.{IsBody}
-use Rattle.otp_edge.specs.Edges.{Hears}
+use Rattle.otp_edge.specs.Edges.{Hears, Stays}
 use Rattle.otp_edge.specs.Handed.{AreFrames}
 use Rattle.otp_edge.specs.Said.{KnowsTheSame}
 use Rattle.otp_edge.specs.Signals.{SaysTooMany}
 use Rattle.otp_edge.specs.declared.edge_state.Edge.{Edge}
 use Rattle.otp_edge.specs.declared.heard.Heard.{Heard}
 use Rattle.otp_link.specs.Counted.{Follows, IsCutAs}
+use Rattle.otp_link.specs.Long.{GoesPast}
 use Rattle.otp_link.specs.Offer.{IsPeerFrame, SaysFlags, has_stock}
-use Rattle.otp_link.specs.Pieces.{is_last_of}
+use Rattle.otp_link.specs.Pieces.{HasBody, HasFrame, is_last_of}
 use Rattle.otp_link.specs.Sent.{IsBegun}
 use Rattle.otp_link.specs.declared.fault.LinkFault.{LinkFault}
 use Rattle.otp_link.specs.declared.fault.LinkFault.TheVariants as faults
@@ -46,7 +47,7 @@ pub record TakesFrame (link new : OtpLink) (body : List ℕ) (taken : Taken) : T
   pub up : new.takes_bodies ≡ is_last_of body
 
 -- of a body just what the edge hears is handed in, a leave cut to what the table lists; and just
--- what the edge owes is sent back
+-- what the edge owes is sent back. The edge keeps its scopes and the names of both ends
 pub record TakesBody (lists : List ℕ → (Row → ℕ) → Type 0) (link new : OtpLink) (body : List ℕ)
     (taken : Taken) : Type 0 where
   pub edge : Edge
@@ -55,18 +56,22 @@ pub record TakesBody (lists : List ℕ → (Row → ℕ) → Type 0) (link new :
   pub heard : Heard
   pub begun : link.edge ≡ Some edge
   pub goes_on : new.edge ≡ Some after
+  pub stays : Stays edge after
   pub hears : Hears edge after body first
   pub cut : Follows (IsCutAs lists) first heard
   pub used : taken.used ≡ length (counted w32 body)
   pub handed : link.kind.in_parts ≡ false → AreFrames heard taken.handed.items
   pub owed : taken.owed ≡ heard.owed
 
--- of a longer body nothing is kept: it is used whole, with what is still to come of it
-pub record TakesLong (link new : OtpLink) (len : ℕ) (taken : Taken) : Type 0 where
+-- of a longer body, which goes to nobody here, nothing is kept: it is used whole, with what is still
+-- to come of it; the edge stays, and what is known at the peer does
+pub record TakesLong (link new : OtpLink) (begin : List ℕ) (len : ℕ) (taken : Taken) : Type 0 where
   pub edge : Edge
   pub after : Edge
   pub begun : link.edge ≡ Some edge
   pub goes_on : new.edge ≡ Some after
+  pub past : GoesPast edge begin
+  pub stays : Stays edge after
   pub same : KnowsTheSame edge after
   pub passed : IsPassedOver (len + 4) taken
 
@@ -90,9 +95,9 @@ EndsByBody link body faults.OutOfMemory = ⊤
 
 -- the piece at the front ends the link
 pub data Ends (link : OtpLink) (front : List ℕ) (fault : LinkFault) : Type 0 where
-  by_frame : (body rest : List ℕ) → link.takes_bodies ≡ false → front ≡ counted w16 body ++ rest
+  by_frame : (body rest : List ℕ) → link.takes_bodies ≡ false → HasFrame front body rest
       → EndsByFrame link body fault → Ends link front fault
-  by_body : (body rest : List ℕ) → link.takes_bodies ≡ true → front ≡ counted w32 body ++ rest
+  by_body : (body rest : List ℕ) → link.takes_bodies ≡ true → HasBody front body rest
       → EndsByBody link body fault → Ends link front fault
   by_long : (len : ℕ) (rest : List ℕ) → link.takes_bodies ≡ true → 4194304 < len
       → front ≡ to_be_bytes w32 len ++ rest → fault ≡ faults.TooLong → Ends link front fault
@@ -101,13 +106,13 @@ pub data Ends (link : OtpLink) (front : List ℕ) (fault : LinkFault) : Type 0 w
 -- or a body of more than 4,194,304 bytes
 pub data Takes (lists : List ℕ → (Row → ℕ) → Type 0) (link new : OtpLink) (front : List ℕ)
     (taken : Taken) : Type 0 where
-  frame : (body rest : List ℕ) → link.takes_bodies ≡ false → front ≡ counted w16 body ++ rest
+  frame : (body rest : List ℕ) → link.takes_bodies ≡ false → HasFrame front body rest
       → TakesFrame link new body taken → Takes lists link new front taken
-  body : (body rest : List ℕ) → link.takes_bodies ≡ true → front ≡ counted w32 body ++ rest
+  body : (body rest : List ℕ) → link.takes_bodies ≡ true → HasBody front body rest
       → TakesBody lists link new body taken → new.takes_bodies ≡ true
       → Takes lists link new front taken
   tick : (rest : List ℕ) → link.takes_bodies ≡ true → front ≡ counted w32 [] ++ rest
       → IsPassedOver 4 taken → new ≡ link → Takes lists link new front taken
-  long : (len : ℕ) (rest : List ℕ) → link.takes_bodies ≡ true → 4194304 < len
-      → front ≡ to_be_bytes w32 len ++ rest → TakesLong link new len taken
+  long : (len : ℕ) (begin rest : List ℕ) → link.takes_bodies ≡ true → 4194304 < len
+      → front ≡ to_be_bytes w32 len ++ begin ++ rest → TakesLong link new begin len taken
       → new.takes_bodies ≡ true → Takes lists link new front taken

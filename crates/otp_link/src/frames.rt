@@ -1,6 +1,6 @@
 //! The frames of a handshake, as they pass between a stock node and the node here.
 ghost use Rattle.std.specs.Prelude.{◌≡◌, ◌++◌, ◌<◌, ◌^◌, ℕ, List, IfErr, IfOk, IfSome};
-ghost use Rattle.std.specs.Prelude.{IsSomeAnd, OnOk};
+ghost use Rattle.std.specs.Prelude.{IsSomeAnd, OnOk, length};
 ghost use Rattle.std.specs.Int.{w16};
 ghost use Rattle.handshake_frames.specs.Spelling.{counted};
 ghost use Rattle.otp_link.specs.Fault.{IsUnput};
@@ -24,7 +24,8 @@ const LONGEST_FRAME: usize = 65_535;
 /// Challenge, in whose place those are sent that are offered. Bit 0 stays clear where the node is
 /// hidden.
 pub fn own_frame(alloc: Global, body: &[u8], is_visible: bool) -> Result<Vec<u8>, OutOfMemory>
-    ensures { IfOk result (λ sent. IsOwnFrame is_visible body.now sent.items) }
+    ensures sent { IfOk result (λ sent. IsOwnFrame is_visible body.now sent.items) }
+    ensures long { IfOk result (λ sent. length sent.items ≡ length body.now) }
 {
     let mut sent = Vec::with_capacity(alloc, body.len())?;
     match flags_at(body) {

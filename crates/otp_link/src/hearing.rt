@@ -2,7 +2,7 @@
 ghost use Rattle.std.specs.Prelude.{◌≡◌, ℕ, List, IfErr, IfOk, None};
 ghost use Rattle.otp_edge.specs.Bodies.{IsBody};
 ghost use Rattle.otp_edge.specs.declared.heard.Heard.{Heard};
-ghost use Rattle.otp_edge.specs.Edges.{Hears};
+ghost use Rattle.otp_edge.specs.Edges.{Hears, Stays};
 ghost use Rattle.otp_edge.specs.Signals.{SaysTooMany};
 ghost use Rattle.otp_edge.specs.declared.fault.HearFault.TheVariants as faults;
 ghost use Rattle.otp_link.specs.Counted.{AreCountsOf, Follows, IsCutAs, IsCutBy};
@@ -21,6 +21,7 @@ pub fn hear_body<T: Table>(
     body: &[u8],
     table: &T,
 ) -> Result<Heard, HearFault>
+    ensures stays { Stays edge.old edge.new }
     ensures heard { IfOk result (λ heard. (first : Heard) × Hears edge.old edge.new body.now first ×
         Follows (IsCutAs (T.lists table.now)) first heard) }
     ensures refused { IfErr result (λ fault. fault ≡ faults.NoMessage →

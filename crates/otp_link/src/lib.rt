@@ -15,6 +15,7 @@ mod runs;
 mod sending;
 mod table;
 mod taking;
+mod waiting;
 
 pub use asking::Healing;
 pub use fault::LinkFault;

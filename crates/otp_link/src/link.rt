@@ -1,6 +1,7 @@
 //! One link with a stock node.
-ghost use Rattle.std.specs.Prelude.{◌≡◌, false, None};
-ghost use Rattle.otp_link.specs.Sent.{IsBegun};
+ghost use Rattle.std.specs.Prelude.{◌≡◌, false, IfOk, None};
+ghost use Rattle.otp_link.specs.Asking.{asked_for, asking, healing_behind, millis};
+ghost use Rattle.otp_link.specs.Sent.{IsBegun, dropped_of};
 
 use crate::asking::Healing;
 use dist_types::OutOfMemory;
@@ -56,13 +57,16 @@ impl OtpLink {
         }
     }
 
-    /// The edge begins once both ends have said their names.
+    /// The edge begins once both ends have said their names; no other one behind it.
     pub(crate) fn meet(&mut self)
         ensures kind { self.new.kind ≡ self.old.kind }
         ensures takes { self.new.takes_bodies ≡ self.old.takes_bodies }
         ensures sends { self.new.sends_bodies ≡ self.old.sends_bodies }
         ensures edge { IsBegun self.old.kind self.old.edge self.new.edge }
     {
+        if self.edge.is_some() {
+            return;
+        }
         match (self.own.take(), self.peer.take()) {
             (Some(own), Some(peer)) => {
                 let mut edge = Edge::new(self.alloc, own, peer, self.kind.in_parts);
@@ -78,7 +82,9 @@ impl OtpLink {
     }
 
     /// How often something was dropped for this reason.
-    pub fn dropped(&self, reason: Dropped) -> u64 {
+    pub fn dropped(&self, reason: Dropped) -> u64
+        ensures { result ≡ dropped_of self.now.edge reason }
+    {
         match &self.edge {
             Some(edge) => edge.drops.of(reason),
             None => 0,
@@ -87,7 +93,13 @@ impl OtpLink {
 
     /// The bodies, behind their lengths, by which the peer is asked again: for all its rows, where
     /// some lack here; over a hidden link for those of scopes that weren't shown yet.
-    pub fn ask(&mut self, now: Duration) -> Result<Vec<u8>, OutOfMemory> {
+    pub fn ask(&mut self, now: Duration) -> Result<Vec<u8>, OutOfMemory>
+        ensures asked { IfOk result (λ out. out.items ≡
+            asking self.old.edge (asked_for self.old (millis now))) }
+        ensures stays { self.new ≡ record self.old {
+          healing = healing_behind self.old (millis now);
+        } }
+    {
         let none = Vec::new(self.alloc);
         if !self.sends_bodies || !self.takes_bodies {
             return Ok(none);

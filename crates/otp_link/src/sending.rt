@@ -1,8 +1,9 @@
 //! What goes out to a stock node of what the node here says.
-ghost use Rattle.std.specs.Prelude.{◌≡◌, IfOk, MatchOption};
+ghost use Rattle.std.specs.Prelude.{◌≡◌, IfErr, IfOk, MatchOption, length};
 ghost use Rattle.otp_link.specs.Offer.{IsOwnFrame};
 ghost use Rattle.otp_link.specs.Pieces.{IsUnsent, is_last_of};
 ghost use Rattle.otp_link.specs.Sent.{IsBegun, SendsAll, SendsBody, SendsFront, stand_of};
+ghost use Rattle.otp_link.specs.declared.fault.LinkFault.TheVariants as faults;
 
 use crate::fault::LinkFault;
 use crate::frames::{own_frame, put_frame};
@@ -10,6 +11,7 @@ use crate::link::OtpLink;
 use crate::piece::{Piece, cut};
 use crate::runs::{run_of, said_in};
 use crate::taking::is_last;
+use dist_types::OutOfMemory;
 use link_frames::MessageFault;
 use otp_edge::Life;
 
@@ -20,6 +22,7 @@ impl OtpLink {
         ensures kind { self.new.kind ≡ self.old.kind }
         ensures sent { IfOk result (λ out. SendsAll self.old.kind (stand_of self.old life.old)
             (stand_of self.new life.new) batch.now out.items) }
+        ensures refused { IfErr result (λ fault. fault ≡ faults.OutOfMemory) }
     {
         let mut out = Vec::new(self.alloc);
         let mut left = batch;
@@ -46,6 +49,7 @@ impl OtpLink {
             × (out.new.items ≡ out.old.items) × IsUnsent self.old.sends_bodies left.now)
             (λ rest. SendsFront self.old.kind (stand_of self.old life.old)
             (stand_of self.new life.new) left.now rest.now out.old.items out.new.items)) }
+        ensures refused { IfErr result (λ fault. fault ≡ faults.OutOfMemory) }
     {
         match cut(left, self.sends_bodies) {
             Piece::Frame(body, rest) => {
@@ -69,8 +73,10 @@ impl OtpLink {
         ensures kind { self.new.kind ≡ self.old.kind }
         ensures frame { IfOk result (λ sent. IsOwnFrame self.old.kind.is_visible body.now
             sent.items) }
+        ensures long { IfOk result (λ sent. length sent.items ≡ length body.now) }
         ensures edge { IsBegun self.old.kind self.old.edge self.new.edge }
         ensures sends { IfOk result (λ _. self.new.sends_bodies ≡ is_last_of body.now) }
+        ensures refused { IfErr result (λ fault. fault ≡ faults.OutOfMemory) }
     {
         let frame = own_frame(self.alloc, body, self.kind.is_visible)?;
         self.note_name(body)?;
@@ -79,7 +85,7 @@ impl OtpLink {
     }
 
     /// A frame with the own name: from then on the edge may begin.
-    fn note_name(&mut self, body: &[u8]) -> Result<(), LinkFault>
+    fn note_name(&mut self, body: &[u8]) -> Result<(), OutOfMemory>
         ensures kind { self.new.kind ≡ self.old.kind }
         ensures edge { IsBegun self.old.kind self.old.edge self.new.edge }
     {
@@ -96,6 +102,7 @@ impl OtpLink {
         ensures sends { self.new.sends_bodies ≡ self.old.sends_bodies }
         ensures said { IfOk result (λ out. SendsBody (stand_of self.old life.old)
             (stand_of self.new life.new) body.now out.items) }
+        ensures refused { IfErr result (λ fault. fault ≡ faults.OutOfMemory) }
     {
         let Some(edge) = &mut self.edge else {
             return Ok(Vec::new(self.alloc));

@@ -3,6 +3,7 @@ ghost use Rattle.std.specs.Prelude.{◌≡◌, ◌++◌, ◌<◌, ◌^◌, ℕ, 
 ghost use Rattle.std.specs.Prelude.{MatchOption};
 ghost use Rattle.std.specs.Int.{w16, w32};
 ghost use Rattle.handshake_frames.specs.Spelling.{counted};
+ghost use Rattle.otp_edge.specs.Edges.{Stays};
 ghost use Rattle.otp_edge.specs.Said.{KnowsTheSame};
 ghost use Rattle.otp_link.specs.Pieces.{IsShort, is_last_of};
 ghost use Rattle.otp_link.specs.Sent.{IsBegun, IsNarrowed};
@@ -147,7 +148,7 @@ impl OtpLink {
         requires { len < 2 ^ 32 }
         ensures kind { self.new.kind ≡ self.old.kind }
         ensures up { self.new.takes_bodies ≡ self.old.takes_bodies }
-        ensures taken { IfOk result (TakesLong self.old self.new len) }
+        ensures taken { IfOk result (TakesLong self.old self.new begin.now len) }
         ensures refused { IfErr result (λ fault. fault ≡ faults.TooLong) }
     {
         let Some(edge) = &mut self.edge else {
@@ -163,7 +164,8 @@ impl OtpLink {
 
 /// Counts a body that was skipped.
 fn note_skipped(edge: &mut Edge)
-    ensures { KnowsTheSame edge.old edge.new }
+    ensures stays { Stays edge.old edge.new }
+    ensures same { KnowsTheSame edge.old edge.new }
 {
     edge.drops.add(Dropped::ForMember);
 }

@@ -16,7 +16,7 @@ use pg_log::Log;
 use pg_session::{Roster, Session};
 use std::alloc::Global;
 use std::sync::{Arc, Mutex, RwLock, Wait};
-use std::time::{Clock, Instant};
+use std::time::Instant;
 
 /// So many of the last numbers a life doesn't use at most.
 const SPARED: u32 = 65_536;
@@ -48,6 +48,8 @@ pub struct HubSettings {
     /// The peers to dial.
     pub targets: Arc<Targets>,
     pub memory: Memory,
+    /// When the program has begun, by its clock.
+    pub begun: Option<Instant>,
 }
 
 /// What all threads share. Whoever takes several locks takes the house first, for its own seat or for all, then a seat, then the
@@ -86,14 +88,8 @@ pub struct Hub {
 }
 
 impl Hub {
-    /// Of a program that begins now.
-    pub fn new<R: Clock>(
-        rt: &R,
-        alloc: Global,
-        node: Node,
-        house: House,
-        settings: HubSettings,
-    ) -> Hub {
+    /// What the threads of a node share, whose passes have these seats.
+    pub fn new(alloc: Global, node: Node, house: House, settings: HubSettings) -> Hub {
         let HubSettings {
             seats,
             last_entry,
@@ -104,6 +100,7 @@ impl Hub {
             log,
             targets,
             memory,
+            begun,
         } = settings;
         Hub {
             alloc,
@@ -124,7 +121,7 @@ impl Hub {
             readers,
             notices: Notices::new(),
             version,
-            begun: Instant::now(rt).ok(),
+            begun,
             memory,
             signals: Signals::new(),
         }

@@ -116,7 +116,7 @@ impl LifeMaker {
     ) -> Result<(Hub, Vec<Lane>)> {
         let (node, house, lanes) = self.make(rt, alloc, settings.seats, told)?;
         check_room(rt, settings.last_entry, &node)?;
-        Ok((Hub::new(rt, alloc, node, house, settings), lanes))
+        Ok((Hub::new(alloc, node, house, settings), lanes))
     }
 
     /// A node, and who has which of its passes.

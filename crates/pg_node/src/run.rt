@@ -19,7 +19,7 @@ use std::rt::HostRuntime;
 use std::sync::{Arc, Wait};
 use std::thread;
 use std::thread::{Scope, Threads};
-use std::time::Clock;
+use std::time::{Clock, Instant};
 
 /// What the program serves, and by what.
 #[derive(Clone, Copy, Drop)]
@@ -178,6 +178,7 @@ fn hub_settings(
         log,
         targets,
         memory: Memory::open(files),
+        begun: Instant::now(files).ok(),
     })
 }
 

@@ -9,8 +9,8 @@ returns-in_ok-put_frame-in-Frame-clause-sent c =
     let sent = c.in_ok-frame-in-Frame.frame.items in record {
       piece = counted w16 c.in-Frame.body.now;
       out = counted w16 sent;
-      front = c.in-Frame.ensures.1;
-      sends = frame c.in-Frame.body.now sent c.in-Frame.ensures.0 refl
+      front = c.in-Frame.ensures.1.1;
+      sends = frame c.in-Frame.body.now sent c.in-Frame.ensures.0 c.in-Frame.ensures.1.0 refl
           c.in_ok-frame-in-Frame.ensures.frame refl c.in_ok-frame-in-Frame.ensures.edge refl
           c.in_ok-frame-in-Frame.ensures.sends;
       behind = c.in_ok-put_frame-in-Frame.ensures.put
@@ -22,9 +22,9 @@ pub returns-in_ok-extend_from_slice-in-Body-clause-sent
 returns-in_ok-extend_from_slice-in-Body-clause-sent c = record {
   piece = counted w32 c.in-Body.body.now;
   out = c.in_ok-bodies-in-Body.bodies.items;
-  front = c.in-Body.ensures.3;
-  sends = message c.in-Body.body.now c.in-Body.ensures.0 refl
-      c.in_ok-bodies-in-Body.ensures.said
+  front = c.in-Body.ensures.1.2;
+  sends = message c.in-Body.body.now c.in-Body.ensures.0 c.in-Body.ensures.1.0
+      c.in-Body.ensures.1.1 refl c.in_ok-bodies-in-Body.ensures.said
       (c.in_ok-bodies-in-Body.ensures.sends ∙ c.in-Body.ensures.0);
   behind = c.in_ok-extend_from_slice-in-Body.ensures.items
       ∙ ap (λ l. c.args.out.now.items ++ l) c.deref-in-Body.ensures.value;

@@ -8,11 +8,11 @@ use Rattle.otp_link.proofs.link.OtpLink.take.Goals as goal
 
 pub take_frame-requires : goal.take_frame-requires
 take_frame-requires g c = c.len_before.ensures (counted w16 c.in-Frame.body.now)
-    c.in-Frame.ensures.1
+    c.in-Frame.ensures.1.1
 
 pub take_body-requires : goal.take_body-requires
 take_body-requires g c = c.len_before-used.ensures (counted w32 c.in-Body.body.now)
-    c.in-Body.ensures.3
+    c.in-Body.ensures.1.2
 
 pub returns-in_ok-take_frame-in-Frame-clause-taken
     : goal.returns-in_ok-take_frame-in-Frame-clause-taken
@@ -23,7 +23,8 @@ returns-in_ok-take_frame-in-Frame-clause-taken g c = frame c.in-Frame.body.now
 pub returns-in_ok-take_body-in-Body-clause-taken
     : goal.returns-in_ok-take_body-in-Body-clause-taken
 returns-in_ok-take_body-in-Body-clause-taken g c = body c.in-Body.body.now c.in-Body.rest.now
-    c.in-Body.ensures.0 c.in-Body.ensures.3 c.in_ok-take_body-in-Body.ensures.taken
+    c.in-Body.ensures.0 c.in-Body.ensures.1
+    c.in_ok-take_body-in-Body.ensures.taken
     (c.in_ok-take_body-in-Body.ensures.up ∙ c.in-Body.ensures.0)
 
 pub returns-in-Tick-clause-taken : goal.returns-in-Tick-clause-taken
@@ -36,7 +37,7 @@ pub returns-in_ok-take_long-in-Long-clause-taken
     : goal.returns-in_ok-take_long-in-Long-clause-taken
 returns-in_ok-take_long-in-Long-clause-taken g c =
     let behind = c.in-Long.ensures.5 in
-    long c.in-Long.len (c.in-Long.begin.now ++ behind.0) c.in-Long.ensures.0 c.in-Long.ensures.1
+    long c.in-Long.len c.in-Long.begin.now behind.0 c.in-Long.ensures.0 c.in-Long.ensures.1
     behind.1 c.in_ok-take_long-in-Long.ensures.taken
     (c.in_ok-take_long-in-Long.ensures.up ∙ c.in-Long.ensures.0)
 
@@ -50,7 +51,7 @@ pub returns-in_err-take_body-in-Body-clause-refused
     : goal.returns-in_err-take_body-in-Body-clause-refused
 returns-in_err-take_body-in-Body-clause-refused g c =
     met _ _ _ c.from_residual-in_err-take_body-in-Body.ensures.1
-    (by_body c.in-Body.body.now c.in-Body.rest.now c.in-Body.ensures.0 c.in-Body.ensures.3
+    (by_body c.in-Body.body.now c.in-Body.rest.now c.in-Body.ensures.0 c.in-Body.ensures.1
     c.in_err-take_body-in-Body.ensures.refused)
 
 pub returns-in_err-take_long-in-Long-clause-refused

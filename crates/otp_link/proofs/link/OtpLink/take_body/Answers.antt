@@ -10,6 +10,7 @@ returns-clause-taken g c =
       heard = c.in_ok-heard.heard;
       begun = c.in-Some.is;
       goes_on = refl;
+      stays = c.in_ok-heard.ensures.stays;
       hears = heard.1;
       cut = heard.2;
       used = c.requires;

@@ -7,6 +7,8 @@ returns-clause-taken c = record {
   after = c.note_skipped.new.edge;
   begun = c.in-Some.is;
   goes_on = refl;
-  same = c.note_skipped.ensures;
+  past = c.may_skip.ensures (grind arith);
+  stays = c.note_skipped.ensures.stays;
+  same = c.note_skipped.ensures.same;
   passed = grind arith;
 }
