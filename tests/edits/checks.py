@@ -1,5 +1,6 @@
 """How a crate is checked, and what a check comes to."""
 
+import functools
 import os
 import re
 import signal
@@ -29,6 +30,12 @@ class Crate(namedtuple('Crate', 'folder is_behind_ci')):
     def name(self):
         return os.path.basename(self.folder)
 
+    @property
+    def stands_on_ci(self):
+        """Whether the libraries below it are those that `rt ci` left, of the files as they stand."""
+        libraries = below(self.name)
+        return bool(libraries) and all(is_left_by_ci(name, self.is_behind_ci) for name in libraries)
+
 
 def uses():
     """What each crate of the repository names as what it stands on."""
@@ -55,17 +62,26 @@ def library(crate):
     return os.path.join(ROOT, 'crates', crate, 'out/rlib', f'{crate}.rlib')
 
 
-def is_left_by_ci(crate):
-    """Whether the crate's library is one that `rt ci` left: one that `rt check` builds has a stamp beside it."""
-    return os.path.isdir(library(crate)) and not os.path.exists(os.path.join(os.path.dirname(library(crate)), 'stamp'))
+def is_left_by_ci(crate, has_just_run):
+    """Whether the crate's library is one that `rt ci` left, of its files as they stand: one that `rt check` builds has a stamp beside it."""
+    is_there = os.path.isdir(library(crate)) and not os.path.exists(os.path.join(os.path.dirname(library(crate)), 'stamp'))
+    return is_there and (has_just_run or is_newest(crate))
+
+
+@functools.cache
+def is_newest(crate):
+    """Whether no file of the crate is newer than its library."""
+    folders = [os.walk(os.path.join(ROOT, 'crates', crate, part)) for part in ('src', 'specs', 'proofs')]
+    files = [os.path.join(at, name) for folder in folders for at, _, names in folder for name in names]
+    return max(map(os.path.getmtime, files)) <= os.path.getmtime(library(crate))
 
 
 def command(crate):
-    """The words that check a crate, over what earlier checks kept in its folder. Behind `rt ci`, and over the libraries that it left, those of the
-    prover itself, as `rt ci` runs it: `rt check` would first prove all of them again. Else `rt check`, which begins with what was proved on this machine."""
-    libraries = below(crate.name)
-    if not crate.is_behind_ci or not libraries or not all(is_left_by_ci(name) for name in libraries):
+    """The words that check a crate, over what earlier checks kept in its folder. Over the libraries that `rt ci` left those of the prover itself, as
+    `rt ci` runs it: `rt check` would first prove all of them again. Else `rt check`, which begins with what was proved on this machine."""
+    if not crate.stands_on_ci:
         return ['rt', 'check']
+    libraries = below(crate.name)
     kit = os.path.dirname(subprocess.run(['rt', 'doc'], capture_output=True, text=True, check=True).stdout.strip())
     words = [f'{kit}/bin/rattle', 'check', '--crate-name', crate.name, 'src/lib.rt', '-L', f'dependency={kit}/rlibs']
     for name in ['std', *uses()[crate.name]]:
@@ -89,7 +105,7 @@ def output(words, folder):
     if ENDS.is_set():
         raise InterruptedError('the run is at its end')
     with subprocess.Popen(words, cwd=folder, stdin=subprocess.DEVNULL, stdout=subprocess.PIPE, stderr=subprocess.STDOUT, text=True,
-                          errors='replace', start_new_session=True) as run:
+                          errors='replace', process_group=0) as run:
         RUNNING.add(run)
         try:
             said, _ = run.communicate(timeout=SECONDS)

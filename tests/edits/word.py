@@ -26,7 +26,7 @@ pub {name}_spec : {{M : Type 1}} → stated.statement M
 
 
 def can_take(crate):
-    return crate.is_behind_ci and is_left_by_ci(crate.name)
+    return crate.stands_on_ci and is_left_by_ci(crate.name, crate.is_behind_ci)
 
 
 @contextmanager
