@@ -70,10 +70,10 @@ def is_left_by_ci(crate, has_just_run):
 
 @functools.cache
 def is_newest(crate):
-    """Whether no file of the crate is newer than its library."""
+    """Whether no file of the crate is newer than its library, and none has come or gone since."""
     folders = [os.walk(os.path.join(ROOT, 'crates', crate, part)) for part in ('src', 'specs', 'proofs')]
-    files = [os.path.join(at, name) for folder in folders for at, _, names in folder for name in names]
-    return max(map(os.path.getmtime, files)) <= os.path.getmtime(library(crate))
+    there = [path for folder in folders for at, _, names in folder for path in (at, *(os.path.join(at, name) for name in names))]
+    return max(map(os.path.getmtime, there)) <= os.path.getmtime(library(crate))
 
 
 def command(crate):
