@@ -4,7 +4,7 @@ use Rattle.dist_types.specs.declared.pid.Pid.{Pid}
 use Rattle.external_terms.specs.Values.{atom_bytes}
 use Rattle.otp_edge.specs.Bodies.{IsControl, pass_through, version}
 use Rattle.otp_edge.specs.Opens.{IsOtherProcess, RunsNowhere}
-use Rattle.otp_edge.specs.Processes.{pid_bytes}
+use Rattle.otp_edge.specs.Processes.{IsPid, pid_bytes}
 use Rattle.otp_edge.specs.declared.edge_state.Edge.{Edge}
 
 -- it begins with a control message of that operation, as far as its second term
@@ -19,6 +19,7 @@ pub record BeginsWith (operation : ℕ) (second rest begin : List ℕ) : Type 0 
 pub record IsOtherTo (edge : Edge) (term : List ℕ) : Type 0 where
   pub to : Pid
   pub behind : List ℕ
+  pub is_pid : IsPid to
   pub bytes : term ≡ pid_bytes to ++ behind
   pub other : All (IsOtherProcess to) edge.scopes.items
 
