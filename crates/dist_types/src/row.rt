@@ -1,4 +1,6 @@
 //! Memberships.
+ghost use Rattle.std.specs.Prelude.{◌≡◌};
+
 use crate::fault::OutOfMemory;
 use crate::group::Group;
 use crate::items::TryClone;
@@ -9,10 +11,27 @@ use std::alloc::Global;
 pub const MAX_ROWS: usize = 4096;
 
 /// One membership of a process in a group.
-#[derive(Debug, PartialEq, Eq, PartialOrd, Ord, Hash, Drop)]
+#[derive(Debug, PartialEq, Eq, PartialOrd, Ord, Hash)]
 pub struct Row {
     pub group: Group,
     pub pid: Pid,
+}
+
+// What lets a row go is proved once, here.
+impl Drop for Row {
+    fn drop(self) {
+        let Row { group: _, pid: _ } = self;
+    }
+}
+
+impl Row {
+    /// The group of a row whose process isn't needed any more.
+    pub fn into_group(self) -> Group
+        ensures { result ≡ self.group }
+    {
+        let Row { group, pid: _ } = self;
+        group
+    }
 }
 
 impl TryClone for Row {

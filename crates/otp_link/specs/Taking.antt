@@ -63,8 +63,8 @@ pub record TakesBody (lists : List ℕ → (Row → ℕ) → Type 0) (link new :
   pub handed : link.kind.in_parts ≡ false → AreFrames heard taken.handed.items
   pub owed : taken.owed ≡ heard.owed
 
--- of a longer body, which goes to nobody here, nothing is kept: it is used whole, with what is still
--- to come of it; the edge stays, and what is known at the peer does
+-- of a longer body, which goes to nobody here, nothing is kept: it is used whole, with what is
+-- still to come of it; the edge stays, and what is known at the peer does
 pub record TakesLong (link new : OtpLink) (begin : List ℕ) (len : ℕ) (taken : Taken) : Type 0 where
   pub edge : Edge
   pub after : Edge

@@ -1,11 +1,11 @@
 -- The index of a node's processes, made of lists of their groups.
 use Rattle.scope_core.proofs
 use Rattle.scope_core.specs
-use proofs.Words.{all_from, AllByRecursion, AllWithin, and_parts, ap, arith, Ascends, Bool, cond}
+use proofs.Words.{all_from, AllByRecursion, AllWithin, ap, arith, Ascends, Bool, cond}
 use proofs.Words.{Counted, drop, eq_by_cmp, false, get_or, HoldsAt, is_eq, is_gt, is_lt, is_some}
 use proofs.Words.{IsPermutation, length, Less, List, list_any, lookup, map, None, Option, Ordering}
 use proofs.Words.{refl, Rises, slice_get, Some, subst, suc, sym, take, text_cmp, texts_total}
-use proofs.Words.{tied_itself, true, zero, ℕ, [], ◌&&◌, ◌++◌, ◌+◌, ◌<◌, ◌==◌, ◌||◌, ◌∙◌, ◌∷◌, ◌≡◌}
+use proofs.Words.{tied_itself, true, zero, ℕ, [], ◌&&◌, ◌++◌, ◌<◌, ◌||◌, ◌∙◌, ◌∷◌, ◌≡◌}
 use proofs.Words.{◌≤◌}
 use Rattle.std.specs.Prelude.{IfSome}
 use Rattle.std.specs.Option.{option_to_list}

@@ -1,13 +1,14 @@
 -- What a write does to the index of groups, and to the map alone.
 use Rattle.scope_core.proofs
 use proofs.Words.{ap, append-nil, AreCounted, arith, bare_rows, Bool, BTreeMap, cond, Counted}
-use proofs.Words.{counted_in, drop, eq_by_cmp, false, find_in, get_or, has_row, is_row}
-use proofs.Words.{is_some, is_there, IsHashed, key_cmp, key_of, length, List, list_any, lookup}
-use proofs.Words.{None, Option, or_right, Pid, ProcessKey, refl, Row, row_at, row_in}
+use proofs.Words.{counted_in, drop, eq_by_cmp, false, find_in, get_or, has_groups, has_members}
+use proofs.Words.{has_row, is_row, is_some, is_there, IsHashed, key_cmp, key_of, length, List}
+use proofs.Words.{list_any, lookup, None, not, Option, or_right, Pid, ProcessKey, refl, Row, row_at}
+use proofs.Words.{row_in}
 use proofs.Words.{same_decides, same_pid, same_pid_decides, same_row, same_row_decides, set_value}
 use proofs.Words.{SmallMap, Some, stands, suc, sym}
 use proofs.Words.{length-append, take, take-append-drop, take_all, take_more, ◌-◌}
-use Rattle.std.proofs.lemmas.List.{take-append-le}
+use Rattle.std.proofs.lemmas.List.{map-append, take-append-le}
 use proofs.Words.{tally, text_cmp, true, unwrap_or, zero, ℕ, []}
 use proofs.Words.{◌&&◌, ◌++◌, ◌+◌, ◌<◌, ◌||◌, ◌∙◌, ◌∷◌, ◌≡◌}
 use proofs.HashedRows.{count_is, counted_from, Entries, Once, one_key, one_place, one_text}
@@ -125,6 +126,57 @@ some_there g node k (e ∷ es) a h =
       same_decides e.0.pid.node node,
     )
 
+-- whether the node has none of the group's rows, as the index of groups tells it
+pub none_left : (node g : List ℕ) (es : Entries)
+    (groups : BTreeMap (List ℕ) (SmallMap ProcessKey ℕ)) (b : Bool)
+    → ((h : List ℕ) (k : ProcessKey)
+    → find_in text_cmp key_cmp groups h k ≡ lookup (same_row (row_at node h k)) es)
+    → AreCounted (counted_in es)
+    → (b ≡ true → (k : ProcessKey) → find_in text_cmp key_cmp groups g k ≡ None)
+    → (b ≡ false
+    → (k : ProcessKey) × (is_some (find_in text_cmp key_cmp groups g k) ≡ true))
+    → b ≡ not (has_members g node (counted_in es))
+none_left node g es groups true is a none some =
+    let zero = none_there g node es (λ k. sym (is g k) ∙ none refl k) in grind (arith, zero)
+none_left node g es groups false is a none some =
+    let one = some refl in
+    let more = some_there g node one.0 es a (ap is_some (sym (is g one.0)) ∙ one.1) in
+    grind (arith, more)
+
+-- a row of the process is counted, where it is in a group
+some_of_it : (g : List ℕ) (p : Pid) (es : Entries) → AreCounted (counted_in es)
+    → has_row es (row_in g p) ≡ true → 0 < tally (λ r. same_pid r.pid p) (counted_in es)
+some_of_it g p [] a h = grind arith
+some_of_it g p (e ∷ es) a h =
+    let rest = some_of_it g p es a.1 in
+    grind (
+      arith,
+      rest,
+      a.0,
+      h,
+      same_row_decides (row_in g p) e.0,
+      same_pid_decides e.0.pid p,
+    )
+
+-- whether the process is in no group, as the index of processes tells it
+pub no_other : (p : Pid) (es : Entries) (b : Bool) → AreCounted (counted_in es)
+    → (b ≡ true → (g : List ℕ) → has_row es (row_in g p) ≡ false)
+    → (b ≡ false → (g : List ℕ) × (has_row es (row_in g p) ≡ true))
+    → b ≡ not (has_groups p (counted_in es))
+no_other p es true a none some = let zero = none_of p es (none refl) in grind (arith, zero)
+no_other p es false a none some =
+    let one = some refl in
+    let more = some_of_it one.0 p es a one.1 in
+    grind (arith, more)
+
+-- who is counted in a group is counted among those of its node
+pub row_there : (g node : List ℕ) (p : Pid) (rows : List Counted) → p.node ≡ node
+    → 0 < tally (is_row g p) rows → 0 < tally (is_there g node) rows
+row_there g node p [] own l = grind arith
+row_there g node p (c ∷ cs) own l =
+    let rest = row_there g node p cs own in
+    grind (arith, rest, l, own, same_pid_decides c.row.pid p, same_decides c.row.pid.node node)
+
 pub taken_back : {A : Type 0} (xs : List A) (x : A)
     → take (length (xs ++ x ∷ []) - 1) (xs ++ x ∷ []) ≡ xs
 taken_back xs x =
@@ -178,6 +230,19 @@ pub stands_drop : (r : Row) (n : ℕ) (xs : List Counted) → stands r (drop n x
 stands_drop r n xs h =
     ap (stands r) (sym (take-append-drop n xs)) ∙ stands_append r (take n xs) (drop n xs)
     ∙ or_right _ _ h
+
+-- a row that is put in where it isn't there yet, as the map and as the rows have it
+pub counted_more : (row : Row) (n : ℕ) (es : Entries) (fresh : Bool) → fresh ≡ not (has_row es row)
+    → counted_in (es ++ cond fresh ((row, n) ∷ []) [])
+    ≡ counted_in es ++ cond (stands row (counted_in es)) [] (record { row = row; count = n } ∷ [])
+counted_more row n es true h =
+    let is = stands_is row es in
+    let all =
+    map-append {B = Counted} (λ e. record { row = e.0; count = e.1 }) es ((row, n) ∷ []) in
+    grind (arith, is, h, all)
+counted_more row n es false h =
+    let is = stands_is row es in
+    grind (arith, is, h, append-nil es, append-nil (counted_in es))
 
 pub grown_stands : (row r : Row) (old : List Counted)
     → stands r (old ++ cond (stands row old) [] (record { row = row; count = 0 } ∷ []))

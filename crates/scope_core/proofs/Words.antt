@@ -50,7 +50,7 @@ pub use specs.Added.{without_node}
 pub use specs.Beyond.{picked, times_beyond}
 pub use specs.Calls.{count_after_add, count_after_sync, Counts, IsAddFault, IsSyncFault, no_count}
 pub use specs.GroupNodes.{named_groups, node_names, times_named}
-pub use specs.Indexed.{Covers, has_members, is_named, is_there}
+pub use specs.Indexed.{Covers, has_groups, has_members, is_named, is_there}
 pub use specs.Listed.{changes_left_by, differs, heads, is_in, IsEmptied, last_of, pids_in, Tells}
 pub use specs.NodeLists.{all_rows, IsNodeList, of_node, rows_by_node}
 pub use specs.Table.{AreCounted, count_of, counted_cmp, is_of_node, is_row, IsKept, local_count}

@@ -1,9 +1,10 @@
 -- The nodes of each group are those that have rows of it.
 use Rattle.std.specs.Prelude.{◌≡◌, ℕ, Bool, false, cond, ◌&&◌, nat_lt, List}
 use Rattle.std.specs.List.{list_any}
+use Rattle.dist_types.specs.declared.pid.Pid.{Pid}
 use Rattle.dist_types.specs.declared.row.Row.{Row}
 use Rattle.dist_types.specs.declared.change.GroupChange.{GroupChange}
-use Rattle.dist_types.specs.Listing.{same}
+use Rattle.dist_types.specs.Listing.{same, same_pid}
 use Rattle.scope_core.specs.declared.counted.Counted.{Counted}
 use Rattle.scope_core.specs.Table.{tally}
 use Rattle.scope_core.specs.GroupNodes.{times_named}
@@ -15,6 +16,10 @@ is_there g n r = same r.group g && same r.pid.node n
 -- whether a process of the node is in the group
 abbrev pub has_members : List ℕ → List ℕ → List Counted → Bool
 has_members g n rows = nat_lt 0 (tally (is_there g n) rows)
+
+-- whether the process is in a group
+abbrev pub has_groups : Pid → List Counted → Bool
+has_groups p rows = nat_lt 0 (tally (λ r. same_pid r.pid p) rows)
 
 -- each group names the nodes with a process in it, each once, and no other
 abbrev pub IsIndexed : List Counted → List (List ℕ × List (List ℕ)) → Type 0

@@ -14,3 +14,13 @@ pub struct Membership {
     pub group: Group,
     pub count: u32,
 }
+
+/// A process that was taken out of one of its groups.
+#[derive(Debug, Drop)]
+pub struct Gone {
+    pub from: Membership,
+    /// Whether its node has none left in the group.
+    pub ends_group: bool,
+    /// Whether it has no other group.
+    pub ends_process: bool,
+}

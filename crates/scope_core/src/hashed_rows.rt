@@ -1,5 +1,5 @@
 //! The rows of one node in a hashed map, with an ordered index of its groups and one of its processes.
-ghost use Rattle.std.specs.Prelude.{◌≡◌, ◌++◌, ◌+◌, ◌||◌, Bool, [], ◌∷◌, All, take, length, ◌-◌, ◌≤◌, ◌<◌, cond, true, false, IfSome, IfOk, OnOk, OnErr};
+ghost use Rattle.std.specs.Prelude.{◌≡◌, ◌++◌, ◌+◌, ◌||◌, Bool, [], ◌∷◌, All, take, length, ◌-◌, ◌≤◌, ◌<◌, cond, not, true, false, IfSome, IfOk, OnOk, OnErr};
 ghost use Rattle.std.specs.Option.{IfNone};
 ghost use Rattle.std.specs.List.{AllByRecursion};
 ghost use Rattle.dist_types.specs.declared.row.Row.{Row};
@@ -7,8 +7,9 @@ ghost use Rattle.dist_types.specs.Listing.{same, same_pid, Rises};
 ghost use Rattle.scope_core.specs.Table.{tally, is_row, counted_cmp, max_rows, AreCounted};
 ghost use Rattle.scope_core.specs.Added.{are_all_in, bare_rows, Joins, HasRoomFor};
 ghost use Rattle.scope_core.specs.HashedRows.{NodeTable, stands, with_process};
+ghost use Rattle.scope_core.specs.Indexed.{has_groups, has_members};
 
-use crate::counted::{Counted, Membership};
+use crate::counted::{Counted, Gone};
 use crate::lowering::can_lower;
 use crate::nested_map::{pop, set, take};
 use crate::node_indexes::{forget, groups_of, name, processes_of};
@@ -66,20 +67,26 @@ impl HashedRows {
         self.counts.get(group, pid)
     }
 
-    /// Puts a new row last.
-    fn put(&mut self, row: &Row, count: u32) -> Result<(), OutOfMemory>
-        requires own { row.now.pid.node ≡ self.old.node }
-        requires fresh { stands row.now self.old.rows ≡ false }
-        ensures ok { OnOk result (self.new ≡ record { node = self.old.node; rows = self.old.rows ++ record { row = row.now; count = count } ∷ [] }) }
+    /// Puts a row last, where it isn't there yet. Answers whether it wasn't.
+    fn put(&mut self, row: &Row, count: u32) -> Result<bool, OutOfMemory>
+        requires { row.now.pid.node ≡ self.old.node }
+        ensures fresh { IfOk result (λ fresh. fresh ≡ not (stands row.now self.old.rows)) }
+        ensures ok { OnOk result (self.new.rows ≡ self.old.rows
+            ++ cond (stands row.now self.old.rows) []
+            (record { row = row.now; count = count } ∷ [])) }
+        ensures node { self.new.node ≡ self.old.node }
         ensures same { OnErr result (self.new ≡ self.old) }
     {
         let alloc = self.alloc;
-        self.counts.push(row, count)?;
+        if !self.counts.push_new(row, count)? {
+            return Ok(false);
+        }
         let named = name(alloc, &mut self.groups, &mut self.processes, row, count);
         if named.is_err() {
             self.counts.pop();
+            return Err(OutOfMemory);
         }
-        named
+        Ok(true)
     }
 
     /// Puts each row that isn't there yet last: all of them, or none. Those before the first that is there have their counts
@@ -112,14 +119,14 @@ impl HashedRows {
         let len = self.counts.len();
         let mut fresh = 0;
         for counted in more {
-            if self.counts.contains(&counted.row) {
-                return Ok(fresh);
+            match self.put(&counted.row, counted.count) {
+                Ok(true) => fresh += 1,
+                Ok(false) => return Ok(fresh),
+                Err(_) => {
+                    self.cut(len);
+                    return Err(OutOfMemory);
+                }
             }
-            if self.put(&counted.row, counted.count).is_err() {
-                self.cut(len);
-                return Err(OutOfMemory);
-            }
-            fresh += 1;
         }
         Ok(fresh)
     }
@@ -134,25 +141,12 @@ impl HashedRows {
     {
         let len = self.counts.len();
         for counted in more {
-            if self.grow_one(&counted.row).is_err() {
+            if self.put(&counted.row, 0).is_err() {
                 self.cut(len);
                 return Err(OutOfMemory);
             }
         }
         Ok(())
-    }
-
-    /// Puts a row last with the count 0, where it isn't there yet.
-    fn grow_one(&mut self, row: &Row) -> Result<(), OutOfMemory>
-        requires { row.now.pid.node ≡ self.old.node }
-        ensures ok { OnOk result (self.new.rows ≡ self.old.rows ++ cond (stands row.now self.old.rows) [] (record { row = row.now; count = 0 } ∷ [])) }
-        ensures node { self.new.node ≡ self.old.node }
-        ensures same { OnErr result (self.new ≡ self.old) }
-    {
-        if self.counts.contains(row) {
-            return Ok(());
-        }
-        self.put(row, 0)
     }
 
     /// Takes all rows out but so many of the first.
@@ -214,20 +208,21 @@ impl HashedRows {
         can_lower(&mut self.counts, gone)
     }
 
-    /// Takes a row away, as often as it is counted here.
-    pub fn lessen(&mut self, gone: &Counted)
+    /// Takes a row away, as often as it is counted here. Answers whether none is left of its group.
+    pub fn lessen(&mut self, gone: &Counted) -> bool
         requires some { 0 < gone.now.count }
         requires counted { gone.now.count ≤ tally (is_row gone.now.row.group gone.now.row.pid) self.old.rows }
         ensures taken { Joins (gone.now ∷ []) self.new.rows self.old.rows }
+        ensures last { AreCounted self.old.rows → result ≡ not (has_members gone.now.row.group self.new.node self.new.rows) }
         ensures counted { AreCounted self.old.rows → AreCounted self.new.rows }
         ensures node { self.new.node ≡ self.old.node }
     {
         let count = self.counts.get(&gone.row.group, &gone.row.pid);
         if count > gone.count {
             self.set(&gone.row, count - gone.count);
-            return;
+            return false;
         }
-        self.remove(&gone.row);
+        self.remove(&gone.row)
     }
 
     /// Each row stands once, so that all are counted where each that stands there is.
@@ -237,24 +232,30 @@ impl HashedRows {
         let _len = self.counts.len();
     }
 
-    /// Takes a row of the node out. The last one takes its place in the map.
-    fn remove(&mut self, row: &Row)
+    /// Takes a row of the node out. The last one takes its place in the map. Answers whether none
+    /// is left of its group.
+    fn remove(&mut self, row: &Row) -> bool
         requires { row.now.pid.node ≡ self.old.node }
         ensures tallies { (test : Row → Bool) → tally test self.new.rows + cond (test row.now) (tally (is_row row.now.group row.now.pid) self.old.rows) 0 ≡ tally test self.old.rows }
+        ensures last { AreCounted self.old.rows → result ≡ not (has_members row.now.group self.new.node self.new.rows) }
         ensures counted { AreCounted self.old.rows → AreCounted self.new.rows }
         ensures node { self.new.node ≡ self.old.node }
     {
-        let Some(_) = self.counts.take(&row.group, &row.pid) else {
-            return;
-        };
+        self.counts.take(&row.group, &row.pid);
         let key = ProcessKey::of(&row.pid);
-        forget(&mut self.groups, &mut self.processes, &row.group, &key);
+        forget(&mut self.groups, &mut self.processes, &row.group, &key)
     }
 
-    /// Takes a process out of one of its groups.
-    pub fn pop_of(&mut self, pid: &Pid) -> Option<Membership>
+    /// Takes a process out of one of its groups. Answers which, and whether none is left of it, or
+    /// of the process.
+    pub fn pop_of(&mut self, pid: &Pid) -> Option<Gone>
         requires { pid.now.node ≡ self.old.node }
-        ensures gone { IfSome result (λ m. Joins (with_process pid.now m ∷ []) self.new.rows self.old.rows) }
+        ensures gone { IfSome result (λ r.
+            Joins (with_process pid.now r.from ∷ []) self.new.rows self.old.rows) }
+        ensures last { IfSome result (λ r. AreCounted self.old.rows
+            → r.ends_group ≡ not (has_members r.from.group self.new.node self.new.rows)) }
+        ensures done { IfSome result (λ r. AreCounted self.old.rows
+            → r.ends_process ≡ not (has_groups pid.now self.new.rows)) }
         ensures fewer { IfSome result (λ _. length self.new.rows + 1 ≡ length self.old.rows) }
         ensures counted { AreCounted self.old.rows → AreCounted self.new.rows }
         ensures none { IfNone result (tally (λ r. same_pid r.pid pid.now) self.old.rows ≡ 0) }
@@ -262,12 +263,16 @@ impl HashedRows {
         ensures node { self.new.node ≡ self.old.node }
     {
         let key = ProcessKey::of(pid);
-        let Some(group) = pop(&mut self.processes, &key) else {
+        let Some((group, ends_process)) = pop(&mut self.processes, &key) else {
             return None;
         };
-        take(&mut self.groups, &group, &key);
+        let ends_group = take(&mut self.groups, &group, &key);
         // The index names rows that are there.
-        let gone = self.counts.take(&group, pid).unwrap();
-        Some(gone)
+        let from = self.counts.take(&group, pid).unwrap();
+        Some(Gone {
+            from,
+            ends_group,
+            ends_process,
+        })
     }
 }

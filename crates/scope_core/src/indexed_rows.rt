@@ -1,5 +1,5 @@
 //! The rows of a scope, and the nodes of each group.
-ghost use Rattle.std.specs.Prelude.{◌≡◌, ◌+◌, ◌≤◌, ◌<◌, ◌∷◌, true, nat_lt, cond, ℕ, List, [], All, IsTrue, IfSome, IfOk, OnOk, OnErr, length};
+ghost use Rattle.std.specs.Prelude.{◌≡◌, ◌+◌, ◌≤◌, ◌<◌, ◌∷◌, true, nat_lt, not, cond, ℕ, List, [], All, IsTrue, IfSome, IfOk, OnOk, OnErr, length};
 ghost use Rattle.std.specs.Option.{IfNone};
 ghost use Rattle.std.specs.List.{list_any, AllByRecursion};
 ghost use Rattle.dist_types.specs.declared.pid.Pid.{Pid};
@@ -11,9 +11,9 @@ ghost use Rattle.scope_core.specs.Table.{tally, is_row, is_of_node, counted_cmp,
 ghost use Rattle.scope_core.specs.Added.{without_node, are_all_in, Adds, Joins};
 ghost use Rattle.scope_core.specs.NodeLists.{of_node, IsNodeList};
 ghost use Rattle.scope_core.specs.HashedRows.{with_process};
-ghost use Rattle.scope_core.specs.Indexed.{has_members, is_named, Covers};
+ghost use Rattle.scope_core.specs.Indexed.{has_groups, has_members, is_named, Covers};
 
-use crate::counted::{Counted, Membership};
+use crate::counted::{Counted, Gone};
 use crate::group_nodes::GroupNodes;
 use crate::indexing::{gathered, put_all, settle_all, unname};
 use crate::node_lists::NodeLists;
@@ -259,16 +259,18 @@ impl IndexedRows {
         }
     }
 
-    /// Takes a process out of one of its groups.
-    pub fn pop_of(&mut self, pid: &Pid) -> Option<Membership>
-        ensures gone { IfSome result (λ m. Joins (with_process pid.now m ∷ []) self.new self.old) }
+    /// Takes a process out of one of its groups. Answers which, and whether it has no other.
+    pub fn pop_of(&mut self, pid: &Pid) -> Option<Gone>
+        ensures gone { IfSome result (λ r.
+            Joins (with_process pid.now r.from ∷ []) self.new self.old) }
+        ensures done { IfSome result (λ r. r.ends_process ≡ not (has_groups pid.now self.new)) }
         ensures fewer { IfSome result (λ _. length self.new < length self.old) }
         ensures none { IfNone result (tally (λ r. same_pid r.pid pid.now) self.old ≡ 0) }
         ensures same { IfNone result (self.new ≡ self.old) }
     {
-        let (gone, is_last) = self.lists.pop_of(pid)?;
-        if is_last {
-            self.index.take(&gone.group, &pid.node);
+        let gone = self.lists.pop_of(pid)?;
+        if gone.ends_group {
+            self.index.take(&gone.from.group, &pid.node);
         }
         Some(gone)
     }

@@ -1,5 +1,5 @@
 //! The two indexes of a node's rows, made of rows in order, and where one row comes or goes.
-ghost use Rattle.std.specs.Prelude.{◌≡◌, ◌≤◌, ◌<◌, ◌&&◌, ℕ, List, length, cond, true, false, None, Some, IsTrue, IfSome, IfOk, OnOk, OnErr};
+ghost use Rattle.std.specs.Prelude.{◌≡◌, ◌≤◌, ◌<◌, ◌&&◌, ℕ, List, length, cond, true, false, None, Some, IsTrue, IsSome, IfSome, IfOk, OnOk, OnErr};
 ghost use Rattle.std.specs.Option.{is_some};
 ghost use Rattle.std.specs.Ordering.{eq_by_cmp, is_eq};
 ghost use Rattle.std.specs.declared.cmp.Ordering.TheVariants.{Less};
@@ -219,16 +219,19 @@ pub fn name(
     named
 }
 
-/// Takes a row out of both indexes.
+/// Takes a row out of both indexes. Answers whether nothing is left of its group.
 pub fn forget(
     groups: &mut BTreeMap<Group, SmallMap<ProcessKey, u32>>,
     processes: &mut BTreeMap<ProcessKey, SmallMap<Group, ()>>,
     group: &Group,
     key: &ProcessKey,
-)
+) -> bool
     ensures groups { (g : List ℕ) (k : ProcessKey) → find_in text_cmp key_cmp groups.new g k ≡ cond (eq_by_cmp text_cmp group.now g && eq_by_cmp key_cmp key.now k) None (find_in text_cmp key_cmp groups.old g k) }
     ensures processes { (k : ProcessKey) (g : List ℕ) → find_in key_cmp text_cmp processes.new k g ≡ cond (eq_by_cmp key_cmp key.now k && eq_by_cmp text_cmp group.now g) None (find_in key_cmp text_cmp processes.old k g) }
+    ensures none { IsTrue result → (k : ProcessKey) → find_in text_cmp key_cmp groups.new group.now k ≡ None }
+    ensures some { result ≡ false → (k : ProcessKey) × IsSome (find_in text_cmp key_cmp groups.new group.now k) }
 {
-    take(groups, group, key);
+    let is_last = take(groups, group, key);
     take(processes, key, group);
+    is_last
 }

@@ -9,10 +9,10 @@ ghost use Rattle.dist_types.specs.Order.{text_cmp, pid_cmp};
 ghost use Rattle.scope_core.specs.Table.{tally, is_row, is_of_node, counted_cmp, max_rows};
 ghost use Rattle.scope_core.specs.Added.{without_node, are_all_in, Joins};
 ghost use Rattle.scope_core.specs.HashedRows.{with_process};
-ghost use Rattle.scope_core.specs.Indexed.{has_members};
+ghost use Rattle.scope_core.specs.Indexed.{has_groups, has_members};
 ghost use Rattle.scope_core.specs.NodeLists.{of_node, IsNodeList};
 
-use crate::counted::{Counted, Membership};
+use crate::counted::{Counted, Gone};
 use crate::node_rows::NodeRows;
 use dist_types::{Group, NodeName, OutOfMemory, Pid, Row, TryClone};
 use indexmap::IndexMap;
@@ -155,22 +155,24 @@ impl NodeLists {
         let Some(list) = self.lists.get_mut(&gone.row.pid.node) else {
             return true;
         };
-        list.take(gone);
-        !list.rows().has_group(&gone.row.group)
+        list.take(gone)
     }
 
-    /// Takes a process out of one of its groups. Answers which, and whether its node has no process in it any more.
-    pub fn pop_of(&mut self, pid: &Pid) -> Option<(Membership, bool)>
-        ensures gone { IfSome result (λ r. Joins (with_process pid.now r.0 ∷ []) self.new self.old) }
-        ensures last { IfSome result (λ r. r.1 ≡ not (has_members r.0.group pid.now.node self.new)) }
+    /// Takes a process out of one of its groups. Answers which, and whether its node has no process
+    /// in it any more, or the process no other group.
+    pub fn pop_of(&mut self, pid: &Pid) -> Option<Gone>
+        ensures gone { IfSome result (λ r.
+            Joins (with_process pid.now r.from ∷ []) self.new self.old) }
+        ensures last { IfSome result (λ r.
+            r.ends_group ≡ not (has_members r.from.group pid.now.node self.new)) }
+        ensures done { IfSome result (λ r. r.ends_process ≡ not (has_groups pid.now self.new)) }
         ensures fewer { IfSome result (λ r. length self.new < length self.old) }
         ensures none { IfNone result (tally (λ r. same_pid r.pid pid.now) self.old ≡ 0) }
         ensures same { IfNone result (self.new ≡ self.old) }
     {
         let list = self.lists.get_mut(&pid.node)?;
         let gone = list.pop_of(pid)?;
-        let is_last = !list.rows().has_group(&gone.group);
-        Some((gone, is_last))
+        Some(gone)
     }
 
     /// Takes all rows of a node away, and gives them back.

@@ -1,13 +1,14 @@
 //! The rows of one node, and how many they are.
-ghost use Rattle.std.specs.Prelude.{◌≡◌, ◌+◌, ◌≤◌, ◌<◌, ◌∷◌, [], All, IfSome, IfOk, OnOk, OnErr, length};
+ghost use Rattle.std.specs.Prelude.{◌≡◌, ◌+◌, ◌≤◌, ◌<◌, ◌∷◌, [], not, All, IfSome, IfOk, OnOk, OnErr, length};
 ghost use Rattle.std.specs.Option.{IfNone};
 ghost use Rattle.dist_types.specs.Listing.{same_pid, total, Rises};
 ghost use Rattle.scope_core.specs.Table.{tally, is_row, counted_cmp, max_rows};
 ghost use Rattle.scope_core.specs.Added.{are_all_in, Joins};
 ghost use Rattle.scope_core.specs.HashedRows.{NodeTable, with_process};
+ghost use Rattle.scope_core.specs.Indexed.{has_groups, has_members};
 ghost use Rattle.scope_core.specs.NodeLists.{IsNodeList};
 
-use crate::counted::{Counted, Membership};
+use crate::counted::{Counted, Gone};
 use crate::hashed_rows::HashedRows;
 use crate::reads::total_of;
 use dist_types::{NodeName, OutOfMemory, Pid, Row};
@@ -92,28 +93,38 @@ impl NodeRows {
         self.rows.are_all_in(gone)
     }
 
-    /// Takes a row away, as often as it is counted here.
-    pub fn take(&mut self, gone: &Counted)
+    /// Takes a row away, as often as it is counted here. Answers whether none is left of its group.
+    pub fn take(&mut self, gone: &Counted) -> bool
         requires some { 0 < gone.now.count }
         requires counted { gone.now.count ≤ tally (is_row gone.now.row.group gone.now.row.pid) self.old.rows }
         ensures taken { Joins (gone.now ∷ []) self.new.rows self.old.rows }
+        ensures last { result ≡ not (has_members gone.now.row.group self.new.node self.new.rows) }
+        ensures list { IsNodeList self.new.node self.new.rows }
         ensures node { self.new.node ≡ self.old.node }
     {
-        self.rows.lessen(gone);
+        let is_last = self.rows.lessen(gone);
         self.total -= gone.count as usize;
+        is_last
     }
 
-    /// Takes a process out of one of its groups.
-    pub fn pop_of(&mut self, pid: &Pid) -> Option<Membership>
+    /// Takes a process out of one of its groups. Answers which, and whether none is left of it, or
+    /// of the process.
+    pub fn pop_of(&mut self, pid: &Pid) -> Option<Gone>
         requires { pid.now.node ≡ self.old.node }
-        ensures gone { IfSome result (λ m. Joins (with_process pid.now m ∷ []) self.new.rows self.old.rows) }
+        ensures gone { IfSome result (λ r.
+            Joins (with_process pid.now r.from ∷ []) self.new.rows self.old.rows) }
+        ensures last { IfSome result (λ r.
+            r.ends_group ≡ not (has_members r.from.group self.new.node self.new.rows)) }
+        ensures done { IfSome result (λ r.
+            r.ends_process ≡ not (has_groups pid.now self.new.rows)) }
         ensures fewer { IfSome result (λ _. length self.new.rows < length self.old.rows) }
         ensures none { IfNone result (tally (λ r. same_pid r.pid pid.now) self.old.rows ≡ 0) }
         ensures same { IfNone result (self.new ≡ self.old) }
+        ensures list { IsNodeList self.new.node self.new.rows }
         ensures node { self.new.node ≡ self.old.node }
     {
         let gone = self.rows.pop_of(pid)?;
-        self.total -= gone.count as usize;
+        self.total -= gone.from.count as usize;
         Some(gone)
     }
 }

@@ -1,5 +1,5 @@
 //! How often each row of a node is counted, in a hashed map.
-ghost use Rattle.std.specs.Prelude.{◌≡◌, ◌++◌, ◌+◌, ◌-◌, ◌<◌, ◌∷◌, [], ℕ, take, length, true, false, IsTrue, IsSome, IfSome, IfOk, OnOk, OnErr, None, Some};
+ghost use Rattle.std.specs.Prelude.{◌≡◌, ◌++◌, ◌+◌, ◌-◌, ◌<◌, ◌∷◌, [], ℕ, cond, not, take, length, true, false, IsTrue, IsSome, IfSome, IfOk, OnOk, OnErr, None, Some};
 ghost use Rattle.std.specs.Option.{IfNone, option_map, unwrap_or};
 ghost use Rattle.std.specs.List.{AllByRecursion, IsDistinct};
 ghost use Rattle.std.specs.Map.{lookup, set_value, keys_of};
@@ -14,6 +14,7 @@ use crate::node_row::{NodeRow, NodeRowKey};
 use crate::process_key::ProcessKey;
 use dist_types::{Group, NodeName, OutOfMemory, Pid, Row, TryClone};
 use indexmap::IndexMap;
+use indexmap::map::Entry;
 use std::alloc::Global;
 use std::marker::Model;
 
@@ -43,7 +44,7 @@ impl RowCounts {
         let mut counts = IndexMap::with_capacity(alloc, rows.len())?;
         for Counted { row, count } in rows {
             let process = ProcessKey::of(&row.pid);
-            let group = row.group;
+            let group = row.into_group();
             counts.insert(NodeRow { group, process }, count)?;
         }
         Ok(RowCounts {
@@ -67,15 +68,6 @@ impl RowCounts {
         self.counts.len()
     }
 
-    /// Whether a row of the node is there.
-    pub fn contains(&self, row: &Row) -> bool
-        requires { row.now.pid.node ≡ self.now.node }
-        ensures { result ≡ has_row self.now.entries row.now }
-    {
-        self.counts
-            .contains_key(NodeRowKey::of(&row.group, &row.pid))
-    }
-
     /// How often a process of the node is in the group.
     pub fn get(&self, group: &Group, pid: &Pid) -> u32
         requires { pid.now.node ≡ self.now.node }
@@ -85,19 +77,27 @@ impl RowCounts {
         self.counts.get(at).copied().unwrap_or(0)
     }
 
-    /// Puts a new row of the node last.
-    pub fn push(&mut self, row: &Row, count: u32) -> Result<(), OutOfMemory>
-        requires own { row.now.pid.node ≡ self.old.node }
-        requires fresh { has_row self.old.entries row.now ≡ false }
-        ensures ok { OnOk result (self.new ≡ record { node = self.old.node; entries = self.old.entries ++ (row.now, count) ∷ [] }) }
+    /// Puts a row of the node last, where it isn't there yet. Answers whether it wasn't.
+    pub fn push_new(&mut self, row: &Row, count: u32) -> Result<bool, OutOfMemory>
+        requires { row.now.pid.node ≡ self.old.node }
+        ensures fresh { IfOk result (λ fresh. fresh ≡ not (has_row self.old.entries row.now)) }
+        ensures ok { IfOk result (λ fresh. self.new ≡ record {
+          node = self.old.node;
+          entries = self.old.entries ++ cond fresh ((row.now, count) ∷ []) [];
+        }) }
         ensures same { OnErr result (self.new ≡ self.old) }
-        ensures written { OnOk result (Writes row.now (Some count) self.old.entries self.new.entries) }
+        ensures written { IfOk result (λ fresh. IsTrue fresh
+            → Writes row.now (Some count) self.old.entries self.new.entries) }
         ensures once { OnOk result (IsDistinct same_row (keys_of self.new.entries)) }
     {
         let group = row.group.try_clone(self.alloc)?;
         let process = ProcessKey::of(&row.pid);
-        self.counts.insert(NodeRow { group, process }, count)?;
-        Ok(())
+        // By its entry, so that the row is hashed once.
+        let Entry::Vacant(place) = self.counts.entry(NodeRow { group, process })? else {
+            return Ok(false);
+        };
+        place.insert(count);
+        Ok(true)
     }
 
     /// Takes the last row out.

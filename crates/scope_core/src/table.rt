@@ -232,7 +232,10 @@ impl ScopeTable {
         ensures { Counts self.old self.new (count_after_exit self.old pid.now) }
     {
         while let Some(gone) = self.rows.pop_of(pid) {
-            self.listings.forget(&gone.group);
+            self.listings.forget(&gone.from.group);
+            if gone.ends_process {
+                break;
+            }
         }
         self.own_rows = self.rows.total_of(&self.own);
     }

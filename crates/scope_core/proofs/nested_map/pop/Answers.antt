@@ -1,5 +1,5 @@
 use Rattle.scope_core.proofs
-use proofs.Words.{ap, eq_by_cmp, is_some, None, Some, sym, ◌∙◌}
+use proofs.Words.{ap, arith, eq_by_cmp, is_some, None, Some, sym, tied_itself, ◌∙◌}
 use proofs.NestedMaps.{after_two, same_at, set_at}
 use Rattle.scope_core.proofs.nested_map.pop.Goals as goal
 
@@ -36,3 +36,16 @@ returns-clause-taken g c = λ a b.
     (eq_by_cmp g.B.Ord.cmp c.in-Some-pop_first.inner b) None
     c.in-Some.place.now None twice c.in-Some.ensures.value
     (sym (c.is_empty.ensures.none c.if-not-is_empty.false b) ∙ c.in-Some-pop_first.ensures.taken b)
+
+pub returns-clause-last : goal.returns-clause-last
+returns-clause-last g c = λ last b.
+    let gone = c.remove.ensures.updates.0 c.args.outer.now in
+    grind (arith, gone, tied_itself g.met.A.Ord.total c.args.outer.now)
+
+pub returns-then-not-is_empty-clause-more : goal.returns-then-not-is_empty-clause-more
+returns-then-not-is_empty-clause-more g c = λ more.
+    let w = c.pop_first.new.self in
+    let up = ((c.get_mut.follows.holds w).3 (ap is_some (sym c.in-Some.ensures.value))).0 in
+    let at = up c.args.outer.now in
+    let one = c.is_empty.ensures.some c.if-not-is_empty.true in
+    (one.0, grind (arith, at, one.1, tied_itself g.met.A.Ord.total c.args.outer.now))

@@ -13,12 +13,12 @@ loop-counted-preserved c =
     let i = c.loop-counted.counted-index in
     let so_far = c.loop-counted.invariant in
     let put =
-    from_not_err c.grow_one.result
-    (sym c.is_err.ensures.value ∙ c.if-is_err.false) c.grow_one.ensures.ok in
+    from_not_err c.put.result
+    (sym c.is_err.ensures.value ∙ c.if-is_err.false) c.put.ensures.ok in
     let len = ap length put in (
       ap (take c.len-len.result) put ∙ take-append-le c.len-len.result cur _ so_far.1 ∙ so_far.0,
       grind (arith, len, length-append, so_far.1),
-      c.grow_one.ensures.node ∙ so_far.2,
+      c.put.ensures.node ∙ so_far.2,
       λ test. ap (tally test) put ∙ grown_tally item.row test cur ∙ so_far.3 test,
       λ r. ap (stands r) put ∙ grown_stands item.row r cur
           ∙ (let more_one =

@@ -1,7 +1,7 @@
 use Rattle.scope_core.proofs
-use proofs.Words.{ap, arith, is_row, NodeTable, stands, sym, tally, ◌∙◌, ◌≡◌}
-use proofs.HashedRows.{count_is, own_at, stands_is}
-use proofs.HashedWrites.{tally_stands}
+use proofs.Words.{ap, arith, is_row, NodeTable, stands, sym, tally, ◌<◌, ◌∙◌, ◌≡◌}
+use proofs.HashedRows.{count_is, own_at, rows_equal, stands_is}
+use proofs.HashedWrites.{row_there, tally_stands}
 use Rattle.scope_core.proofs.hashed_rows.HashedRows.lessen.Goals.{After-get-count, After-self}
 use Rattle.scope_core.proofs.hashed_rows.HashedRows.lessen.Goals as goal
 
@@ -43,3 +43,15 @@ pub returns-clause-taken : goal.returns-clause-taken
 returns-clause-taken c = λ test.
     let is = count (goal.at.returns-clause-taken c).After-get-count in
     grind (arith, c.remove.ensures.tallies test, is, c.if-count-gone.false, c.requires.counted)
+
+pub returns-then-count-gone-clause-last : goal.returns-then-count-gone-clause-last
+returns-then-count-gone-clause-last c = λ counted.
+    let row = c.args.gone.now.row in
+    let at = goal.at.returns-then-count-gone-clause-last c in
+    let node = own at.After-self ∙ ap (λ (t : NodeTable). t.node) c.self.view_is
+    ∙ sym c.set.ensures.node in
+    let set = c.set.ensures.tallies (is_row row.group row.pid) in
+    let some : 0 < tally (is_row row.group row.pid) c.set.new.self.rows =
+    grind (arith, set, count at.After-get-count, c.if-count-gone.true, rows_equal.refl row) in
+    let there = row_there row.group _ row.pid _ node some in
+    grind (arith, there)

@@ -1,33 +1,24 @@
 use Rattle.scope_core.proofs
-use proofs.Words.{ap, arith, false, has_row, is_some, key_of, length, lookup, NodeTable, None}
-use proofs.Words.{same_row, Some, stands, sym, take, ◌-◌, ◌∙◌, ◌≡◌}
+use proofs.Words.{ap, arith, counted_in, is_some, length, NodeTable, Some, sym, take, true}
+use proofs.Words.{◌-◌, ◌∙◌, ◌≡◌}
 use Rattle.scope_core.specs.HashedRows.{NodeCounts}
 use proofs.Outcomes.{from_err, from_not_err}
 use proofs.HashedRows.{some_cond, stands_is}
-use proofs.HashedWrites.{at_row, hashed_write, taken_back}
-use Rattle.scope_core.proofs.hashed_rows.HashedRows.put.Goals.{After-self}
+use proofs.HashedWrites.{counted_more, hashed_write, taken_back}
 use Rattle.scope_core.proofs.hashed_rows.HashedRows.put.Goals as goal
 
-fresh : (c : After-self) → has_row c.self.inside.counts.entries c.args.row.now ≡ false
-fresh c =
-    sym (stands_is c.args.row.now c.self.inside.counts.entries)
-    ∙ ap (λ (t : NodeTable). stands c.args.row.now t.rows) c.self.view_is ∙ c.requires.fresh
+pub returns-then-not-branch-clause-fresh : goal.returns-then-not-branch-clause-fresh
+returns-then-not-branch-clause-fresh c =
+    let is = stands_is c.args.row.now c.self.inside.counts.entries in
+    rw (← c.self.view_is)
+    (grind (arith, is, c.in_ok-push_new.ensures.fresh, c.if-not-branch.true))
 
-own : (c : After-self) → c.args.row.now.pid.node ≡ c.self.inside.counts.node
-own c = c.requires.own ∙ sym (ap (λ (t : NodeTable). t.node) c.self.view_is)
-
-pub push-requires-clause-fresh : goal.push-requires-clause-fresh
-push-requires-clause-fresh c = fresh (goal.at.push-requires-clause-fresh c).After-self
-
-pub name-named-requires : goal.name-named-requires
-name-named-requires c =
-    let row = c.args.row.now in
-    let es = c.self.inside.counts.entries in
-    let start = (goal.at.name-named-requires c).After-self in
-    let absent = fresh start in
-    let none : lookup (same_row row) es ≡ None = grind (arith, absent) in
-    c.self.invariant.by_group row.group (key_of row.pid)
-    ∙ ap (λ r. lookup (same_row r) es) (at_row c.self.inside.counts.node row (own start)) ∙ none
+pub returns-then-not-branch-clause-ok : goal.returns-then-not-branch-clause-ok
+returns-then-not-branch-clause-ok c =
+    rw (← c.self.view_is)
+    (ap (λ (t : NodeCounts). counted_in t.entries) c.in_ok-push_new.ensures.ok
+    ∙ counted_more c.args.row.now c.args.count c.self.inside.counts.entries
+    c.in_ok-push_new.field-0 c.in_ok-push_new.ensures.fresh)
 
 pub invariant_of-self-then-is_err : goal.invariant_of-self-then-is_err
 invariant_of-self-then-is_err c =
@@ -35,10 +26,11 @@ invariant_of-self-then-is_err c =
     let failed = sym c.is_err.ensures.value ∙ c.if-is_err.true in
     let groups = from_err c.name-named.result failed c.name-named.ensures.same_groups in
     let processes = from_err c.name-named.result failed c.name-named.ensures.same_processes in
+    let fresh : c.in_ok-push_new.field-0 ≡ true = grind (arith, c.if-not-branch.false) in
+    let pushed = rw fresh at c.in_ok-push_new.ensures.ok in
     let back = c.pop.ensures.shorter
     ∙ ap (λ (t : NodeCounts).
-    record { node = t.node; entries = take (length t.entries - 1) t.entries })
-    c.in_ok-push.ensures.ok
+    record { node = t.node; entries = take (length t.entries - 1) t.entries }) pushed
     ∙ (λ i. record {
       node = c.self.inside.counts.node;
       entries = taken_back es (c.args.row.now, c.args.count) i;
@@ -55,8 +47,22 @@ invariant_of-self-else-is_err c =
     let done = sym c.is_err.ensures.value ∙ c.if-is_err.false in
     let groups = from_not_err c.name-named.result done c.name-named.ensures.groups in
     let processes = from_not_err c.name-named.result done c.name-named.ensures.processes in
-    rw (ap (λ (t : NodeCounts). t.node) c.in_ok-push.ensures.ok)
-    (hashed_write c.self.invariant c.args.row.now
-    (own (goal.at.invariant_of-self-else-is_err c).After-self)
-    (Some c.args.count) _ _ _ c.in_ok-push.ensures.once c.in_ok-push.ensures.written groups
+    let own = c.requires ∙ sym (ap (λ (t : NodeTable). t.node) c.self.view_is) in
+    let fresh : c.in_ok-push_new.field-0 ≡ true = grind (arith, c.if-not-branch.false) in
+    rw (ap (λ (t : NodeCounts). t.node) c.in_ok-push_new.ensures.ok)
+    (hashed_write c.self.invariant c.args.row.now own (Some c.args.count) _ _ _
+    c.in_ok-push_new.ensures.once (c.in_ok-push_new.ensures.written fresh) groups
     (λ k g. some_cond _ _ _ _ (processes k g)))
+
+pub returns-clause-fresh : goal.returns-clause-fresh
+returns-clause-fresh c =
+    let is = stands_is c.args.row.now c.self.inside.counts.entries in
+    rw (← c.self.view_is)
+    (grind (arith, is, c.in_ok-push_new.ensures.fresh, c.if-not-branch.false))
+
+pub returns-clause-ok : goal.returns-clause-ok
+returns-clause-ok c =
+    rw (← c.self.view_is)
+    (ap (λ (t : NodeCounts). counted_in t.entries) c.in_ok-push_new.ensures.ok
+    ∙ counted_more c.args.row.now c.args.count c.self.inside.counts.entries
+    c.in_ok-push_new.field-0 c.in_ok-push_new.ensures.fresh)

@@ -1,5 +1,5 @@
 use Rattle.scope_core.proofs
-use proofs.Words.{all_rows, ap, arith, not, rows_by_node, same_pid, sym, tally, ◌∙◌}
+use proofs.Words.{all_rows, ap, arith, nat_lt, not, rows_by_node, same_pid, sym, tally, ◌∙◌, ◌≡◌}
 use proofs.Outcomes.{none_any}
 use proofs.NodeTables.{no_table, process_tally, table_lists, table_node, table_rows, tables_length}
 use proofs.NodeTables.{tables_members, tables_same, tables_set, tables_tally}
@@ -46,7 +46,7 @@ pub invariant_of-self-2 : goal.invariant_of-self-2
 invariant_of-self-2 c =
     tables_set _ _ _ _ _ (sym c.in_ok-list.ensures.value)
     (c.get_mut.follows.holds c.pop_of.new.self).0
-    c.self.invariant c.pop_of.ensures.node c.rows.ensures.list
+    c.self.invariant c.pop_of.ensures.node c.pop_of.ensures.list
 
 pub returns-clause-gone : goal.returns-clause-gone
 returns-clause-gone c = λ test.
@@ -64,8 +64,25 @@ returns-clause-fewer c =
 
 pub returns-clause-last : goal.returns-clause-last
 returns-clause-last c =
-    ap not (rw c.rows.ensures.rows at c.has_group-is_last.ensures
-    ∙ tables_members c.args.pid.now.node c.self.inside.lists.entries _
+    c.in_ok-gone.ensures.last
+    ∙ ap not (tables_members c.args.pid.now.node c.self.inside.lists.entries _
     c.in_ok-list.list.now c.pop_of.new.self (sym c.in_ok-list.ensures.value)
     (c.get_mut.follows.holds c.pop_of.new.self).0 c.self.invariant c.pop_of.ensures.node
-    c.in_ok-gone.gone.group)
+    c.in_ok-gone.gone.from.group)
+
+pub returns-clause-done : goal.returns-clause-done
+returns-clause-done c =
+    let p = c.args.pid.now in
+    let es = c.self.inside.lists.entries in
+    let v = c.in_ok-list.list.now in
+    let w = c.pop_of.new.self in
+    let found = sym c.in_ok-list.ensures.value in
+    let new = c.get_mut.follows.lender w in
+    let was = process_tally p (all_rows (rows_by_node es))
+    ∙ ap (tally (λ r. same_pid r.pid p)) (sym (table_rows p.node es v c.self.invariant found)) in
+    let all = tables_tally p.node es new.entries v w found (c.get_mut.follows.holds w).0
+    (λ r. same_pid r.pid p) in
+    let same : tally (λ r. same_pid r.pid p) w.rows
+    ≡ tally (λ r. same_pid r.pid p) (all_rows (rows_by_node new.entries)) =
+    omega (arith, was, all) in
+    c.in_ok-gone.ensures.done ∙ ap (λ n. not (nat_lt 0 n)) same

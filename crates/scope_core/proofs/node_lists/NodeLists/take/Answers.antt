@@ -40,7 +40,7 @@ take-requires-clause-counted c =
 pub invariant_of-self-2 : goal.invariant_of-self-2
 invariant_of-self-2 c =
     tables_set _ _ _ _ _ (sym c.in-Some.ensures.value) (c.get_mut.follows.holds c.take.new.self).0
-    c.self.invariant c.take.ensures.node c.rows.ensures.list
+    c.self.invariant c.take.ensures.node c.take.ensures.list
 
 pub returns-clause-taken : goal.returns-clause-taken
 returns-clause-taken c = λ test.
@@ -51,8 +51,8 @@ returns-clause-taken c = λ test.
 
 pub returns-clause-last : goal.returns-clause-last
 returns-clause-last c =
-    ap not (rw c.rows.ensures.rows at c.has_group.ensures
-    ∙ tables_members c.args.gone.now.row.pid.node c.self.inside.lists.entries _
+    c.take.ensures.last
+    ∙ ap not (tables_members c.args.gone.now.row.pid.node c.self.inside.lists.entries _
     c.in-Some.list.now c.take.new.self (sym c.in-Some.ensures.value)
     (c.get_mut.follows.holds c.take.new.self).0
     c.self.invariant c.take.ensures.node c.args.gone.now.row.group)

@@ -21,3 +21,12 @@ invariant_of-self-2 c =
           (λ test. let less = gone test in omega (arith, less))
           (c.pop_of.ensures.counted c.self.invariant.list.counted));
     }
+
+pub returns-clause-list : goal.returns-clause-list
+returns-clause-list c =
+    let gone = c.in_ok-gone.ensures.gone in
+    let was = c.self.inside.rows in
+    rw c.pop_of.ensures.node
+    (lessened_list was.node was.rows c.pop_of.new.self.rows c.self.invariant.list
+    (λ test. let less = gone test in omega (arith, less))
+    (c.pop_of.ensures.counted c.self.invariant.list.counted))

@@ -28,7 +28,8 @@ loop-row-preserved c =
     let p = row.row.pid in
     let fresh = sym (lookup_in node g p own.0 es)
     ∙ next_fresh rows rest more row (rows_at node es) all next c.requires.rises in
-    let put = rw c.of-process.ensures at c.in_ok-insert.ensures.entries in
+    let put = rw (c.of-process.ensures, c.into_group-group.ensures)
+    at c.in_ok-insert.ensures.entries in
     let entries = put
     ∙ insert_entry-new same_node_row c.loop-row.counts (it node g p own.0) row.count fresh in (
       own.1,
