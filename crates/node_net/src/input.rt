@@ -6,7 +6,7 @@ use crate::limits::Looks;
 use crate::output::{Outlet, has_stood_still};
 use crate::patience::HostedLink;
 use crate::progress::Progress;
-use handshake_frames::{counted_at, decode_name};
+use dist_types::{Flags, after_kind, u16_at, u64_at};
 use otp_link::is_stock;
 use std::io::{self, ErrorKind, Read};
 use std::net::TcpStream;
@@ -105,15 +105,23 @@ impl<R: Wait + Clock> LinkInput<'_, R> {
     }
 }
 
-/// Counts a stock node that has connected where nodes of this program do: its Name tells it.
+/// Counts a stock node that has connected where nodes of this program do: the flags of its Name
+/// tell it.
 fn look_for_stock<R: Wait + Clock>(at: &HostedLink<'_, R>, piece: &[u8]) {
-    if let Some((body, _)) = counted_at(piece)
-        && let Ok(frame) = decode_name(body)
-        && is_stock(frame.flags)
+    if let Some(flags) = name_flags(piece)
+        && is_stock(flags)
     {
         at.lanes.count_stock();
         at.node.wake(at.rt);
     }
+}
+
+/// The flags of the Name that begins here behind its length (Distribution Protocol, Distribution
+/// Handshake): all that is looked at of it beside the node.
+fn name_flags(piece: &[u8]) -> Option<Flags> {
+    let (_, body) = u16_at(piece)?;
+    let (flags, _) = u64_at(after_kind(b'N', body)?)?;
+    Some(Flags(flags))
 }
 
 /// An error where a challenge of this node's own has come back.

@@ -8,7 +8,6 @@ mod life;
 mod lives;
 mod recorder;
 mod reserve;
-mod settings;
 mod turn;
 
 pub use closing::Closer;
@@ -16,5 +15,4 @@ pub use keeper::keep_on;
 pub use life::Site;
 pub use lives::{finish, live_on};
 pub use recorder::{ArchivePlace, Recorder};
-pub use settings::given;
 pub use turn::LifeMaker;

@@ -1,7 +1,6 @@
 //! From one life of the node to the next.
 use crate::closing::EndedLife;
 use crate::life::LANES;
-use crate::settings::held;
 use anyhow::{Result, bail};
 use cookie_digest::ChallengeSource;
 use dist_types::{Cookie, OutOfMemory, TryClone};
@@ -11,6 +10,7 @@ use node_threads::{Node, Pass};
 use pg_archive::Life;
 use pg_hub::{House, Hub, HubSettings, is_nearly_full};
 use pg_session::{Caller, Session};
+use pg_settings::{held, say_all};
 use policy_audit::{Event, Opening};
 use rand_chacha::ChaCha20Rng;
 use std::alloc::Global;
@@ -186,14 +186,17 @@ fn new_house<R: Wait>(
     })
 }
 
+/// The pass by which a new node is told these events before anything else.
 fn new_keeper<R: Wait>(
     rt: &R,
     node: &Node,
     passes: &mut vec::IntoIter<Pass>,
-    settings: Vec<Event>,
+    told: Vec<Event>,
 ) -> Result<Pass> {
     let mut keeper = next_pass(passes)?;
-    set_up(rt, node, &mut keeper, settings)?;
+    if let Err(fault) = say_all(rt, node, &mut keeper, told) {
+        bail!("a cookie, a name or a scope can't be set: {fault}");
+    }
     Ok(keeper)
 }
 
@@ -210,16 +213,6 @@ fn new_sessions(
     Ok(sessions)
 }
 
-/// Says what holds before the first link.
-fn set_up<R: Wait>(rt: &R, node: &Node, keeper: &mut Pass, settings: Vec<Event>) -> Result<()> {
-    for event in settings {
-        if let Err(fault) = keeper.call(node, rt, event) {
-            bail!("a cookie, a name or a scope can't be set: {fault}");
-        }
-    }
-    Ok(())
-}
-
 /// Puts the life of a new node into the hub, and the old one, whose cookie was this at its beginning, into this node, while nobody
 /// has a seat of the house. The new life is told first what held at the end of the old one, so that nobody is let in where that
 /// leaves no room.
@@ -232,8 +225,8 @@ fn exchange<R: Wait>(
     old: &mut Vec<Pass>,
 ) -> Result<()> {
     let mut house = hub.house.write(rt);
-    let settings = held(hub.alloc, hub.node.shared.lock(rt).core(), begun)?;
-    let keeper = new_keeper(rt, node, new, settings)?;
+    let told = held(hub.alloc, hub.node.shared.lock(rt).core(), begun)?;
+    let keeper = new_keeper(rt, node, new, told)?;
     check_room(rt, hub.last_entry, node)?;
     swap(&mut *hub.node.shared.lock(rt), &mut *node.shared.lock(rt));
     hub.begin_anew();

@@ -1,0 +1,4 @@
+pub mod Taken
+pub mod Renewed
+pub mod Lives
+pub mod Told

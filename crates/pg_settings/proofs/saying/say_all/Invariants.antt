@@ -1,0 +1,5 @@
+use Rattle.pg_settings.specs.Settings.{AreSaid}
+use Rattle.pg_settings.proofs.saying.say_all.Given as goal
+
+abbrev pub invariant-loop-event : goal.invariant-loop-event
+invariant-loop-event g l = AreSaid l.yielded l.fn.pass l.pass
