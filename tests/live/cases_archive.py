@@ -195,6 +195,16 @@ def archive_of_something_else(field):
 
 
 @case
+def archive_of_a_pipe(field):
+    """A pipe isn't opened, which would wait for whoever reads it: the node says so and ends."""
+    path = os.path.join(field.folder, "archive")
+    os.mkfifo(path)
+    node = field.start("a@h", "--audit", path)
+    expect("the status", 1, node.status())
+    expect_one("its standard error", node.errors(), f"error: --audit: {path[:60]}: it is a pipe")
+
+
+@case
 def archive_of_another_node(field):
     """One node writes to a file: another one that is given the same says so and ends, and may have it once the first one is gone."""
     path = os.path.join(field.folder, "archive")

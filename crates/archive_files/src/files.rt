@@ -6,7 +6,7 @@ use crate::tail::torn;
 use std::alloc::Global;
 use std::fs::{self, File, Metadata, TryLockError};
 use std::io::{self, Error, ErrorKind, Write};
-use std::os::unix::fs::{FileExt, MetadataExt, OpenOptionsExt};
+use std::os::unix::fs::{FileExt, FileTypeExt, MetadataExt, OpenOptionsExt};
 use std::rt::HostRuntime;
 
 /// The mode of a file that is made: its owner's alone.
@@ -76,6 +76,7 @@ impl<'a> ArchiveFiles<'a> {
 /// Opens the file of the path to write to its end, or makes it, and keeps other programs out until it is closed. A torn last line is
 /// cut off.
 pub(crate) fn open_file(files: &HostRuntime, path: &str) -> io::Result<OpenFile> {
+    refuse_pipe(files, path)?;
     let file = File::options()
         .create(true)
         .append(true)
@@ -96,6 +97,16 @@ pub(crate) fn open_file(files: &HostRuntime, path: &str) -> io::Result<OpenFile>
         held: length.saturating_sub(cut),
         cut,
     })
+}
+
+/// An error where a pipe stands at the path: who opens it waits for whoever reads it.
+fn refuse_pipe(files: &HostRuntime, path: &str) -> io::Result<()> {
+    match fs::metadata(files, path) {
+        Ok(found) if found.file_type().is_fifo() => {
+            Err(Error::new(ErrorKind::InvalidInput, "it is a pipe"))
+        }
+        _ => Ok(()),
+    }
 }
 
 /// An error where another program has this file.
