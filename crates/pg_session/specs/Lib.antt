@@ -6,3 +6,5 @@ pub mod Outcomes
 pub mod Answers
 pub mod Kinds
 pub mod Notices
+pub mod Watching
+pub mod Watched

@@ -8,6 +8,8 @@ use Rattle.node_threads.specs.declared.fault.CallFault.{CallFault}
 use Rattle.node_threads.specs.declared.fault.CallFault.TheVariants.{Core, StrangePass}
 use Rattle.node_core.specs.declared.fault.CoreFault.TheVariants.{Refused, OutOfMemory}
 use Rattle.policy_audit.specs.declared.rule.Rule.TheVariants as rules
+use Rattle.pg_session.specs.declared.caller.Fetched.{Fetched}
+use Rattle.pg_session.specs.declared.caller.Fetched.TheVariants as fetched
 use Rattle.pg_session.specs.declared.caller.Lack.{Lack}
 use Rattle.pg_session.specs.declared.caller.Lack.TheVariants as lack
 use Rattle.pg_session.specs.declared.caller.Outcome.{Outcome}
@@ -20,6 +22,12 @@ lack_by StrangePass = None
 lack_by (Core OutOfMemory) = Some lack.Memory
 lack_by (Core (Refused rules.EntriesFull)) = Some lack.Room
 lack_by (Core (Refused rule)) = None
+
+-- what has become of a monitor whose updates were asked for, where this was the answer
+abbrev pub fetched_by : Result Reply CallFault → Fetched
+fetched_by (Ok (reply.Updates us)) = fetched.Told
+fetched_by (Err (Core (Refused rules.NoMonitor))) = fetched.Over
+fetched_by answer = fetched.NotNow
 
 -- this is the outcome of a call that was answered so
 abbrev pub IsOutcome : Result Reply CallFault → Outcome → Type 0

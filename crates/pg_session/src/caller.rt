@@ -3,11 +3,13 @@ ghost use Rattle.std.specs.Prelude.{◌≡◌, ◌⊎◌, ◌↔◌, ◌++◌, t
 ghost use Rattle.std.specs.List.{flat_map};
 ghost use Rattle.policy_audit.specs.declared.event.Event.TheVariants.{Updates};
 ghost use Rattle.policy_audit.specs.declared.reply.Reply.{Reply};
+ghost use Rattle.node_core.specs.declared.fault.CoreFault.TheVariants.{Refused};
 ghost use Rattle.node_threads.specs.declared.fault.CallFault.{CallFault};
+ghost use Rattle.node_threads.specs.declared.fault.CallFault.TheVariants.{Core};
 ghost use Rattle.node_threads.specs.Applied.{Called, Fits, answer_now};
 ghost use Rattle.pg_session.specs.Processes.{spawned};
 ghost use Rattle.pg_session.specs.Calls.{IsCalled, AreConnections, call_line, stranger_line, may_call};
-ghost use Rattle.pg_session.specs.Outcomes.{IsOutcome, CameFrom, lack_by};
+ghost use Rattle.pg_session.specs.Outcomes.{IsOutcome, CameFrom, fetched_by, lack_by};
 ghost use Rattle.pg_session.specs.Notices.{change, notice_line, fetched, Known, Tells};
 
 use dist_types::{OutOfMemory, Pid, TryClone};
@@ -161,6 +163,7 @@ impl Caller {
     ) -> Result<Fetched, OutOfMemory>
         ensures called { IsCalled self.old (Updates number) self.new }
         ensures told { OnOk result ((known : Known) → Tells self.old known out.old.items self.new known out.new.items) }
+        ensures fetched { IfOk result (λ fetched. (answer : Result Reply CallFault) × Called self.old (Updates number) answer self.new × (fetched ≡ fetched_by answer)) }
     {
         let answer = self.pass.call(node, rt, Event::Updates(number));
         put_fetched(alloc, number, answer, out)
@@ -256,17 +259,27 @@ fn put_fetched(
     answer: Result<&Reply, CallFault>,
     out: &mut Vec<u8>,
 ) -> Result<Fetched, OutOfMemory>
-    ensures { OnOk result (out.new.items ≡ out.old.items ++ flat_map notice_line (fetched number (answer_now answer.entry))) }
+    ensures lines { OnOk result (out.new.items ≡ out.old.items ++ flat_map notice_line (fetched number (answer_now answer.entry))) }
+    ensures fetched { IfOk result (λ fetched. fetched ≡ fetched_by (answer_now answer.entry)) }
 {
     match answer {
         Ok(Reply::Updates(updates)) => {
             put_updates(alloc, number, updates.as_slice(), out)?;
             Ok(Fetched::Told)
         }
-        Err(CallFault::Core(CoreFault::Refused(rule))) if rule == Rule::NoMonitor => {
-            Ok(Fetched::Over)
-        }
+        Err(CallFault::Core(CoreFault::Refused(rule))) => Ok(fetched_behind(rule)),
         _ => Ok(Fetched::NotNow),
+    }
+}
+
+/// What has become of a monitor whose updates were asked for, where this rule was broken.
+fn fetched_behind(rule: Rule) -> Fetched
+    ensures { result ≡ fetched_by (Err (Core (Refused rule))) }
+{
+    if rule == Rule::NoMonitor {
+        Fetched::Over
+    } else {
+        Fetched::NotNow
     }
 }
 

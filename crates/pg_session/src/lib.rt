@@ -3,6 +3,7 @@
 
 mod caller;
 mod kind;
+mod laws;
 mod leaving;
 mod news;
 mod notice;
@@ -20,6 +21,7 @@ mod watch;
 mod watched;
 
 pub use caller::{Caller, Lack};
+pub use laws::untouched_tells_nothing;
 pub use news::{LostLinks, Seen};
 pub use notice::DownReason;
 pub use rights::Rights;

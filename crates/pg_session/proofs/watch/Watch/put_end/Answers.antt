@@ -5,11 +5,11 @@ use proofs.Callers.{on_ok}
 use proofs.Telling.{in_line, news_none, news_one}
 use Rattle.pg_session.proofs.watch.Watch.put_end.Goals as goal
 
-pub returns-then-not-self : goal.returns-then-not-self
-returns-then-not-self c = λ k. news_none k c.args.out.now.items
+pub returns-then-not-self-clause-more : goal.returns-then-not-self-clause-more
+returns-then-not-self-clause-more c = λ k. news_none k c.args.out.now.items
 
-pub returns : goal.returns
-returns c =
+pub returns-clause-more : goal.returns-clause-more
+returns-clause-more c =
     on_ok c.put_numbered_line.result
     (λ is k. news_one k k (ended c.from.result) c.args.out.now.items
     c.put_numbered_line.new.out.items refl refl
