@@ -2,3 +2,4 @@ pub mod Taken
 pub mod Renewed
 pub mod Lives
 pub mod Told
+pub mod Settles

@@ -1,5 +1,5 @@
 -- What a life of a node is told before anything else.
-use Rattle.std.specs.Prelude.{◌≡◌, ℕ, true, cond, List, [], ◌∷◌, ◌++◌, map, reverse}
+use Rattle.std.specs.Prelude.{◌≡◌, ℕ, Bool, true, false, cond, List, [], ◌∷◌, ◌++◌, map, reverse}
 use Rattle.std.specs.List.{All}
 use Rattle.dist_types.specs.Listing.{same}
 use Rattle.dist_types.specs.Difference.{is_empty}
@@ -35,6 +35,14 @@ abbrev pub all_told : List ℕ → AdmissionRules → List (List ℕ) → List E
 all_told begun rules scopes =
     own_told begun rules.cookie ++ cookies_told rules.peers
     ++ names_told rules.allowed ++ scopes_told scopes
+
+-- a call that sets a cookie, allows names or starts a scope
+abbrev pub is_setting : Event → Bool
+is_setting (event.SetCookie cookie) = true
+is_setting (event.SetCookieFor name cookie) = true
+is_setting (event.Allow names) = true
+is_setting (event.StartScope scope) = true
+is_setting e = false
 
 -- ---- what they make
 

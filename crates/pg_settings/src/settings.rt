@@ -1,8 +1,10 @@
 //! The calls that say what holds: cookies, allowed names and scopes.
-ghost use Rattle.std.specs.Prelude.{◌≡◌, ◌++◌, IfOk, OnOk};
+ghost use Rattle.std.specs.Prelude.{◌≡◌, ◌++◌, true, IfOk, OnOk};
+ghost use Rattle.std.specs.List.{list_all};
 ghost use Rattle.policy_audit.specs.Admission.{own_cookie};
 ghost use Rattle.policy_audit.specs.Own.{running_scopes};
-ghost use Rattle.pg_settings.specs.Settings.{Renews, cookies_told, names_told, own_told, scopes_told};
+ghost use Rattle.pg_settings.specs.Settings.{Renews, is_setting};
+ghost use Rattle.pg_settings.specs.Settings.{cookies_told, names_told, own_told, scopes_told};
 
 use admission_rules::Admission;
 use dist_types::{Cookie, Items, NodeName, OutOfMemory, TryClone};
@@ -32,7 +34,9 @@ pub fn given(
 /// that, the next life that begins with the cookie has the same cookie for each name, allows the
 /// same names, and runs the same scopes.
 pub fn held(alloc: Global, core: &NodeCore, begun: &Cookie) -> Result<Vec<Event>, OutOfMemory>
-    ensures { IfOk result (λ told. Renews begun.now core.now.history told.items) }
+    ensures renews { IfOk result (λ told. Renews begun.now core.now.history told.items) }
+    // A life can be told just these: none of them is a restart.
+    ensures only { IfOk result (λ told. list_all is_setting told.items ≡ true) }
 {
     let mut told = Vec::new(alloc);
     let admission = core.admission();
