@@ -10,6 +10,8 @@ use Rattle.node_threads.specs.declared.pass.Call.{Call}
 use Rattle.node_threads.specs.Calls.{Record, Gains}
 use Rattle.node_threads.specs.Applied.{Called}
 use Rattle.pg_text.specs.Answers.{step_line}
+use Rattle.pg_session.specs.declared.news.Seen.{Seen}
+use Rattle.pg_session.specs.declared.watch.Watch.{Watch}
 use Rattle.pg_session.specs.Asked.{is_made}
 use Rattle.pg_session.specs.Notices.{Known}
 use Rattle.pg_session.specs.Processes.{has, spawned, exited_by, moves_only, OwnAfter}
@@ -32,12 +34,15 @@ GoesOn pass pass' = (more : List Call) × Gains pass more pass'
 
 -- ---- the seat of a connection
 
--- its calls, the processes that it has, whether a connection sits there, and who is up as far as that knows
+-- its calls, the processes that it has, whether a connection sits there, who is up as far as that
+-- knows, its monitors, and how far it has been told
 pub record Seat : Type 0 where
   pub pass : Record
   pub own : List Pid
   pub taken : Bool
   pub known : Known
+  pub watches : List Watch
+  pub seen : Seen
 
 -- it has spawned those that it has
 abbrev pub IsSeat : Seat → Type 0

@@ -8,3 +8,5 @@ pub mod Kinds
 pub mod Notices
 pub mod Watching
 pub mod Watched
+pub mod Seen
+pub mod Looking

@@ -5,6 +5,7 @@ mod caller;
 mod kind;
 mod laws;
 mod leaving;
+mod looking;
 mod news;
 mod notice;
 mod processes;

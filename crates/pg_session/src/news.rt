@@ -3,6 +3,7 @@ ghost use Rattle.std.specs.Prelude.{◌≡◌, ◌<◌, [], None, Some, false, l
 ghost use Rattle.std.specs.List.{list_any};
 ghost use Rattle.policy_audit.specs.History.{creation};
 ghost use Rattle.pg_session.specs.Notices.{Known, TellsNews, is_named, has_gone};
+ghost use Rattle.pg_session.specs.Seen.{seen_of, unseen};
 
 use crate::notice::{DownReason, Peer, put_all_down, put_down, put_life, put_up};
 use dist_types::{NodeName, OutOfMemory, TryClone};
@@ -26,22 +27,51 @@ pub struct Seen {
 }
 
 impl Seen {
+    /// Of no life.
+    pub const NOTHING: Seen = Seen {
+        creation: 0,
+        entries: 0,
+    };
+
     /// Up to now.
-    pub fn of(core: &NodeCore) -> Seen {
+    pub fn of(core: &NodeCore) -> Seen
+        ensures { result ≡ seen_of core.now.history }
+    {
         Seen {
             creation: core.creation(),
             entries: core.audit().len(),
         }
     }
 
+    /// No entry of this life.
+    pub fn begun(core: &NodeCore) -> Seen
+        ensures { result ≡ record { creation = creation core.now.history; entries = 0 } }
+    {
+        Seen {
+            creation: core.creation(),
+            entries: 0,
+        }
+    }
+
     /// That of the life.
-    pub fn creation(&self) -> u32 {
+    pub fn creation(&self) -> u32
+        ensures { result ≡ self.now.creation }
+    {
         self.creation
     }
 
     /// How many entries it has been told of.
-    pub fn entries(&self) -> usize {
+    pub fn entries(&self) -> usize
+        ensures { result ≡ self.now.entries }
+    {
         self.entries
+    }
+
+    /// The entries since, as far as the node keeps them.
+    pub fn unseen<'a>(&self, core: &'a NodeCore) -> Later<'a>
+        ensures { result ≡ unseen self.now core.now.history core.now.forgotten }
+    {
+        core.audit().after(self.entries)
     }
 
     /// How many entries there are since, news or not.
@@ -68,7 +98,6 @@ impl Seen {
 /// What a connection has been told.
 #[derive(Drop)]
 pub struct News {
-    seen: Seen,
     /// Those that are up as far as it knows.
     peers: Vec<Peer>,
     /// The creation of a new life, until it is told.
@@ -88,17 +117,9 @@ impl News {
         ensures { result ≡ record { peers = []; anew = None } }
     {
         News {
-            seen: Seen {
-                creation: 0,
-                entries: 0,
-            },
             peers: Vec::new(alloc),
             restarted: None,
         }
-    }
-
-    pub fn seen(&self) -> Seen {
-        self.seen
     }
 
     /// Takes the place of this one, as if it had been told the same.
@@ -112,7 +133,6 @@ impl News {
         }
         self.peers = peers;
         self.restarted = None;
-        self.seen = as_told.seen;
         Ok(())
     }
 
@@ -121,10 +141,6 @@ impl News {
         ensures { self.new ≡ record { peers = self.old.peers; anew = Some (creation core.now.history) } }
     {
         self.restarted = Some(core.creation());
-        self.seen = Seen {
-            creation: core.creation(),
-            entries: 0,
-        };
     }
 
     /// Adds that the node has begun anew, if that isn't told yet, behind the end of each peer.
@@ -142,39 +158,20 @@ impl News {
         Ok(())
     }
 
-    /// The entries that it hasn't been told of.
-    pub fn unseen<'a>(&self, core: &'a NodeCore) -> Later<'a> {
-        core.audit().after(self.seen.entries)
-    }
-
-    /// Adds which peers came and went with the unseen entries, which are seen then. Whoever it
-    /// takes for up then is up.
+    /// Adds which peers came and went with these entries, the last of the node. Whoever it takes for
+    /// up then is up.
     pub fn put_peers<E: LostLinks>(
         &mut self,
         alloc: Global,
         core: &NodeCore,
+        entries: Later<'_>,
         lost: &E,
         out: &mut Vec<u8>,
     ) -> Result<(), OutOfMemory>
         ensures told { OnOk result (TellsNews self.old out.old.items self.new out.new.items) }
         ensures up { OnOk result (list_any (has_gone core.now.history) self.new.peers ≡ false) }
     {
-        self.put_unseen(alloc, core, lost, out)?;
-        self.seen = Seen::of(core);
-        Ok(())
-    }
-
-    fn put_unseen<E: LostLinks>(
-        &mut self,
-        alloc: Global,
-        core: &NodeCore,
-        lost: &E,
-        out: &mut Vec<u8>,
-    ) -> Result<(), OutOfMemory>
-        ensures told { OnOk result (TellsNews self.old out.old.items self.new out.new.items) }
-        ensures up { OnOk result (list_any (has_gone core.now.history) self.new.peers ≡ false) }
-    {
-        self.put_entries(alloc, core, lost, out)?;
+        self.put_entries(alloc, core, entries, lost, out)?;
         self.put_ended(core, out)
     }
 
@@ -201,12 +198,13 @@ impl News {
         &mut self,
         alloc: Global,
         core: &NodeCore,
+        entries: Later<'_>,
         lost: &E,
         out: &mut Vec<u8>,
     ) -> Result<(), OutOfMemory>
         ensures { OnOk result (TellsNews self.old out.old.items self.new out.new.items) }
     {
-        for entry in self.unseen(core) {
+        for entry in entries {
             self.put_entry(alloc, core, entry, lost, out)?;
         }
         Ok(())

@@ -1,5 +1,5 @@
 //! Who is up, for connections that are still to come.
-use crate::news::{LostLinks, News};
+use crate::news::{LostLinks, News, Seen};
 use crate::notice::DownReason;
 use dist_types::OutOfMemory;
 use node_core::NodeCore;
@@ -10,6 +10,7 @@ use std::alloc::Global;
 #[derive(Drop)]
 pub struct Roster {
     news: News,
+    seen: Seen,
     /// The lines of that, which nobody reads.
     lines: Vec<u8>,
     /// How many entries it had seen when a peer had last come or gone, or a scope had stopped.
@@ -20,6 +21,7 @@ impl Roster {
     pub fn new(alloc: Global) -> Roster {
         Roster {
             news: News::new(alloc),
+            seen: Seen::NOTHING,
             lines: Vec::new(alloc),
             last_notice: 0,
         }
@@ -28,6 +30,11 @@ impl Roster {
     /// What a connection knows that has been told all.
     pub fn news(&self) -> &News {
         &self.news
+    }
+
+    /// How far it has followed the node.
+    pub fn seen(&self) -> Seen {
+        self.seen
     }
 
     /// How many entries of this life it had seen when a peer had last come or gone, or a scope had
@@ -39,13 +46,17 @@ impl Roster {
     /// Follows the node up to now, in a new life from its beginning. Where memory is wanting it does so
     /// later.
     pub fn follow(&mut self, alloc: Global, core: &NodeCore) -> Result<(), OutOfMemory> {
-        if self.news.seen().creation() != core.creation() {
+        if self.seen.creation() != core.creation() {
             self.news = News::new(alloc);
+            self.seen = Seen::NOTHING;
             self.last_notice = 0;
         }
-        let has_stop = has_stop(self.news.unseen(core));
+        let has_stop = has_stop(self.seen.unseen(core));
         self.lines.clear();
-        self.news.put_peers(alloc, core, &Untold, &mut self.lines)?;
+        let entries = self.seen.unseen(core);
+        self.news
+            .put_peers(alloc, core, entries, &Untold, &mut self.lines)?;
+        self.seen = Seen::of(core);
         if has_stop || !self.lines.is_empty() {
             self.last_notice = core.audit().len();
         }

@@ -7,23 +7,21 @@ ghost use Rattle.pg_session.specs.Answers.{Answers, Makes};
 ghost use Rattle.dist_types.specs.declared.pid.Pid.{Pid};
 ghost use Rattle.pg_session.specs.Processes.{has};
 ghost use Rattle.pg_session.specs.Calls.{Seat, GoesOn};
-ghost use Rattle.pg_session.specs.Notices.{Tells, TellsNews};
+ghost use Rattle.pg_session.specs.Notices.{TellsNews};
 ghost use Rattle.pg_session.specs.declared.request.Request.TheVariants as requests;
 
 use crate::caller::{Caller, Lack, Outcome};
 use crate::kind::Kind;
 use crate::leaving::{end_process, end_watch};
-use crate::news::{LostLinks, News, Seen};
+use crate::news::{News, Seen};
 use crate::processes::Processes;
 use crate::reading::{HELP, put_found, put_peers, put_query, put_size};
 use crate::request::{Request, put_fault, read_request};
 use crate::roster::Roster;
 use crate::rows::{MoreOrFewer, rows_of};
 use crate::stake::{keep, prepare};
-use crate::stops::put_stops;
 use crate::surroundings::{Surroundings, put_change, put_report};
-use crate::watch::{Watch, note_ages, tell_all};
-use crate::watched::{Watched, note_news, tell_noted};
+use crate::watch::Watch;
 use dist_types::OutOfMemory;
 use node_core::NodeCore;
 use node_threads::Node;
@@ -36,10 +34,11 @@ use std::sync::Wait;
 
 /// The seat of one connection.
 pub struct Session {
-    caller: Caller,
-    processes: Processes,
-    watches: Vec<Watch>,
-    news: News,
+    pub(crate) caller: Caller,
+    pub(crate) processes: Processes,
+    pub(crate) watches: Vec<Watch>,
+    pub(crate) news: News,
+    pub(crate) seen: Seen,
     is_open: bool,
     /// How many rows its processes have at most. No contract rests on it.
     rows: usize,
@@ -54,6 +53,7 @@ impl Drop for Session {
             processes: _,
             watches: _,
             news: _,
+            seen: _,
             is_open: _,
             rows: _,
             lack: _,
@@ -66,9 +66,23 @@ impl Model for Session {
 
     ghost Value = { Seat };
 
-    ghost view = { λ session. record { pass = session.caller; own = session.processes; taken = session.is_open; known = session.news } };
+    ghost view = { λ session. record {
+      pass = session.caller;
+      own = session.processes;
+      taken = session.is_open;
+      known = session.news;
+      watches = session.watches.items;
+      seen = session.seen;
+    } };
 
-    ghost invariant = { λ session. IsSeat (record { pass = session.caller; own = session.processes; taken = session.is_open; known = session.news }) };
+    ghost invariant = { λ session. IsSeat (record {
+      pass = session.caller;
+      own = session.processes;
+      taken = session.is_open;
+      known = session.news;
+      watches = session.watches.items;
+      seen = session.seen;
+    }) };
 }
 
 /// Whether the program goes on behind a line.
@@ -82,13 +96,21 @@ pub enum Next {
 impl Session {
     /// A seat that nobody has.
     pub fn new(alloc: Global, caller: Caller) -> Session
-        ensures { result ≡ record { pass = caller; own = []; taken = false; known = record { peers = []; anew = None } } }
+        ensures { result ≡ record {
+          pass = caller;
+          own = [];
+          taken = false;
+          known = record { peers = []; anew = None };
+          watches = [];
+          seen = record { creation = 0; entries = 0 };
+        } }
     {
         Session {
             caller,
             processes: Processes::new(alloc),
             watches: Vec::new(alloc),
             news: News::new(alloc),
+            seen: Seen::NOTHING,
             is_open: false,
             rows: 0,
             lack: None,
@@ -148,25 +170,34 @@ impl Session {
         core: &NodeCore,
         roster: &mut Roster,
     ) -> Result<Seen, OutOfMemory>
-        ensures ok { OnOk result (self.new ≡ record self.old { taken = true; known = self.new.known }) }
+        ensures ok { OnOk result (self.new ≡ record self.old { taken = true; known = self.new.known; seen = self.new.seen }) }
         ensures done { OnOk result (self.new.known.anew ≡ None) }
         ensures same { OnErr result (self.new ≡ self.old) }
     {
         roster.follow(alloc, core)?;
         self.news.start(alloc, roster.news())?;
+        self.seen = roster.seen();
         self.is_open = true;
-        Ok(self.news.seen())
+        Ok(self.seen)
     }
 
     /// Takes the right to call the next life, and gives back that to call the last one. Processes, monitors and peers of the last
     /// life are gone with it, which the connection is told next.
     pub fn begin_anew(&mut self, caller: Caller, core: &NodeCore) -> Caller
-        ensures next { self.new ≡ record { pass = caller; own = []; taken = self.old.taken; known = record { peers = self.old.known.peers; anew = Some (creation core.now.history) } } }
+        ensures next { self.new ≡ record {
+          pass = caller;
+          own = [];
+          taken = self.old.taken;
+          known = record { peers = self.old.known.peers; anew = Some (creation core.now.history) };
+          watches = [];
+          seen = record { creation = creation core.now.history; entries = 0 };
+        } }
         ensures last { result ≡ self.old.pass }
     {
         self.processes.clear();
         self.watches.clear();
         self.news.begin_anew(core);
+        self.seen = Seen::begun(core);
         replace(&mut self.caller, caller)
     }
 
@@ -178,6 +209,7 @@ impl Session {
             processes: _,
             watches: _,
             news: _,
+            seen: _,
             is_open: _,
             rows: _,
             lack: _,
@@ -213,6 +245,7 @@ impl Session {
         ensures once { Makes (asked_by line.now) self.old self.new }
         ensures taken { self.new.taken ≡ self.old.taken }
         ensures known { self.new.known ≡ self.old.known }
+        ensures seen { self.new.seen ≡ self.old.seen }
     {
         self.lack = None;
         if is_quiet(line) {
@@ -243,6 +276,7 @@ impl Session {
         ensures once { Makes (Some request) self.old self.new }
         ensures taken { self.new.taken ≡ self.old.taken }
         ensures known { self.new.known ≡ self.old.known }
+        ensures seen { self.new.seen ≡ self.old.seen }
     {
         match request {
             Request::Call(event) => self.call(rt, alloc, node, event, out)?,
@@ -279,6 +313,7 @@ impl Session {
         ensures once { Makes (Some (requests.Call event)) self.old self.new }
         ensures taken { self.new.taken ≡ self.old.taken }
         ensures known { self.new.known ≡ self.old.known }
+        ensures seen { self.new.seen ≡ self.old.seen }
     {
         let kind = Kind::of(&event);
         if !self.processes.has_all(kind.pids()) {
@@ -299,68 +334,13 @@ impl Session {
         answered
     }
 
-    /// Adds what has happened since the last time, as lines that come unasked. Monitors that weren't asked
-    /// since there were so many entries are asked, too: the node keeps what they need.
-    pub fn tell<R: Wait, E: LostLinks>(
-        &mut self,
-        rt: &R,
-        alloc: Global,
-        node: &Node,
-        lost: &E,
-        stale: usize,
-        out: &mut Vec<u8>,
-    ) -> Result<Seen, OutOfMemory>
-        ensures told { OnOk result (Tells self.old.pass self.old.known out.old.items self.new.pass self.new.known out.new.items) }
-        ensures done { OnOk result (self.new.known.anew ≡ None) }
-        ensures own { self.new.own ≡ self.old.own }
-        ensures taken { self.new.taken ≡ self.old.taken }
-    {
-        self.news.put_restart(out)?;
-        self.look(rt, alloc, node, lost, out)?;
-        let seen = self.news.seen();
-        note_ages(&mut self.watches, stale);
-        tell_all(
-            &mut self.watches,
-            &mut self.caller,
-            rt,
-            alloc,
-            node,
-            seen.entries(),
-            out,
-        )?;
-        Ok(seen)
-    }
-
-    /// Adds which peers came and went and which scopes stopped, and notes which monitors have something to tell.
-    fn look<R: Wait, E: LostLinks>(
-        &mut self,
-        rt: &R,
-        alloc: Global,
-        node: &Node,
-        lost: &E,
-        out: &mut Vec<u8>,
-    ) -> Result<(), OutOfMemory>
-        ensures rest { self.new ≡ record self.old { known = self.new.known } }
-        ensures told { OnOk result (TellsNews self.old.known out.old.items self.new.known out.new.items) }
-    {
-        let mut watched = Watched::of_many(rt, alloc, node, &self.watches, self.news.seen());
-        let shared = node.shared.lock(rt);
-        note_news(
-            &mut watched,
-            &mut self.watches,
-            self.news.unseen(shared.core()),
-        );
-        put_stops(&self.processes, self.news.unseen(shared.core()), out)?;
-        let told = self.news.put_peers(alloc, shared.core(), lost, out);
-        drop(shared);
-        tell_noted(watched, &mut self.watches);
-        told
-    }
-
     /// Ends a monitor of the connection: whether there was one.
     pub fn leave_monitor<R: Wait>(&mut self, rt: &R, node: &Node) -> bool
         ensures goes { GoesOn self.old.pass self.new.pass }
-        ensures rest { self.new ≡ record self.old { pass = self.new.pass } }
+        ensures rest { self.new ≡ record self.old {
+          pass = self.new.pass;
+          watches = self.new.watches;
+        } }
     {
         let Some(watch) = self.watches.pop() else {
             return false;

@@ -31,6 +31,7 @@ pub fn prepare(
 ) -> Result<Stake, OutOfMemory>
     ensures stake { IfOk result (λ stake. exit_at stake ≡ exits kind.entry) }
     ensures same { processes.new ≡ processes.old }
+    ensures watches { watches.new.items ≡ watches.old.items }
     ensures room { OnOk result (vec_len watches.new < vec_capacity watches.new) }
 {
     processes.reserve()?;

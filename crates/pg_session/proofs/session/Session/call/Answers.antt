@@ -29,6 +29,8 @@ invariant_of-self-2 g c =
       own = c.self.inside.processes;
       taken = c.self.inside.is_open;
       known = c.self.inside.news;
+      watches = c.self.inside.watches.items;
+      seen = c.self.inside.seen;
     } in
     let after : Seat = record before {
       pass = c.call-answered.new.self;
@@ -47,6 +49,8 @@ returns-clause-ok g c =
       own = c.self.inside.processes;
       taken = c.self.inside.is_open;
       known = c.self.inside.news;
+      watches = c.self.inside.watches.items;
+      seen = c.self.inside.seen;
     } in
     let after : Seat = record before {
       pass = c.call-answered.new.self;

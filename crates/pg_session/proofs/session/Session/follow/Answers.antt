@@ -11,3 +11,11 @@ returns-in_ok-put_query-in-Query-clause-ok g c =
 pub returns-in_ok-put_found-in-Audit-clause-ok : goal.returns-in_ok-put_found-in-Audit-clause-ok
 returns-in_ok-put_found-in-Audit-clause-ok g c =
     rw c.in-Audit.is (rw (← c.self-in-Audit.view_is) (refl, c.in_ok-put_found-in-Audit.ensures))
+
+pub returns-in_ok-put_size-in-Size-clause-ok : goal.returns-in_ok-put_size-in-Size-clause-ok
+returns-in_ok-put_size-in-Size-clause-ok g c =
+    rw c.in-Size.is (rw (← c.self-in-Size.view_is) (refl, c.in_ok-put_size-in-Size.ensures))
+
+pub returns-in_ok-put_peers-in-Nodes-clause-ok : goal.returns-in_ok-put_peers-in-Nodes-clause-ok
+returns-in_ok-put_peers-in-Nodes-clause-ok g c =
+    rw c.in-Nodes.is (rw (← c.self-in-Nodes.view_is) (refl, c.in_ok-put_peers-in-Nodes.ensures))

@@ -1,9 +1,18 @@
 use Rattle.pg_session.specs
-use Rattle.std.proofs.Common.{ap, ◌∙◌}
+use Rattle.std.proofs.Common.{ap, List, map, subst, ℕ, ◌∙◌, ◌≡◌}
 use specs.Calls.{Seat}
 use specs.Notices.{Known}
+use specs.Watching.{aged, AllAsked}
+use specs.declared.watch.Watch.{Watch}
+use Rattle.node_threads.specs.Calls.{Record}
 use Rattle.pg_session.proofs.Telling.{all_told, news_more, tells_then}
 use Rattle.pg_session.proofs.session.Session.tell.Goals as goal
+
+asked_alike : (p p' q : Record) (ws vs all : List Watch) (n m : ℕ) → p ≡ q → ws ≡ vs → n ≡ m
+    → AllAsked p ws n p' all → AllAsked q vs m p' all
+asked_alike p p' q ws vs all n m pass same number asked =
+    subst (λ k. AllAsked q vs k p' all) number
+    (subst (λ x. AllAsked q x n p' all) same (subst (λ x. AllAsked x ws n p' all) pass asked))
 
 pub returns-clause-told : goal.returns-clause-told
 returns-clause-told g c =
@@ -25,3 +34,29 @@ returns-clause-done g c =
     let told = c.in_ok-look.ensures.told c.self.inside.caller in
     ap (λ (k : Known). k.anew) to ∙ all_told c.put_restart.new.self c.look.new.self.known
     told.notices told.becomes c.in_ok-put_restart.ensures.done
+
+pub returns-clause-monitors : goal.returns-clause-monitors
+returns-clause-monitors g c =
+    let mid = c.look.new.self in
+    let looked = c.in_ok-look.ensures.looked in
+    let told = c.in_ok-tell_all.ensures.asked in
+    let pass = ap (λ (s : Seat). s.pass) c.self-2.view_is
+    ∙ ap (λ (s : Seat). s.pass) c.look.ensures.rest in
+    let watches = c.note_ages.ensures
+    ∙ ap (λ (s : Seat). map (aged c.args.stale) s.watches) c.self-2.view_is in
+    let entries = c.entries.ensures ∙ ap (λ (s : Seat). s.seen.entries) c.self-2.view_is in
+    rw (← c.self.view_is) (record {
+      mid = mid;
+      looked = record {
+        room = looked.room;
+        sound = looked.sound;
+        watches = looked.watches;
+        seen = looked.seen;
+      };
+      all = told.0;
+      asked =
+          asked_alike c.self-2.inside.caller c.tell_all.new.caller c.self.inside.caller _ _ told.0 _ _
+          pass watches entries told.1;
+      left = told.2;
+      seen = ap (λ (s : Seat). s.seen) c.self-2.view_is;
+    })

@@ -1,7 +1,7 @@
 use Rattle.pg_session.proofs
 use proofs.Callers.{on_ok}
 use proofs.Telling.{news_more}
-use Rattle.pg_session.proofs.news.News.put_unseen.Goals as goal
+use Rattle.pg_session.proofs.news.News.put_peers.Goals as goal
 
 pub returns-clause-told : goal.returns-clause-told
 returns-clause-told g c =
