@@ -1,3 +1,2 @@
-pub mod Behind
 pub mod LaneCalls
 pub mod Listings

@@ -1,6 +1,6 @@
 //! Where peers connect. One thread takes connections there, over all lives of the node, and hands each to one that serves links.
 use crate::lanes::Lanes;
-use crate::peer_kind::PeerKind;
+use dial_targets::PeerKind;
 use std::io;
 use std::net::{Shutdown, SocketAddr, TcpListener, TcpStream};
 use std::os::fd::OwnedFd;

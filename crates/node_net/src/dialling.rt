@@ -1,11 +1,10 @@
 //! Connections that this node opens.
-use crate::dial_fault::DialFault;
 use crate::home::Home;
 use crate::host::Host;
 use crate::lanes::Lanes;
 use crate::serving::{Opener, Served, serve_stream};
-use crate::target::Target;
 use crate::tries::{Dialled, Tries};
+use dial_targets::{DialFault, Target};
 use dist_types::NodeName;
 use node_threads::Node;
 use policy_audit::{Entry, Reply, Verdict};
@@ -156,7 +155,7 @@ fn dial<R: Host>(home: &Home<'_, R>, target: &Target) -> Dialled {
         lanes,
         ..
     } = *home;
-    let stream = match target.connector().connect(rt, lanes) {
+    let stream = match target.connect(rt, lanes.limits().setup, lanes) {
         Some(Ok(stream)) => stream,
         Some(Err(fault)) => return Dialled::Failed(fault),
         None => return Dialled::Stopped,

@@ -1,12 +1,12 @@
 //! What comes of a link, within its limits of time.
-use crate::endings::Ending;
 use crate::guard::ReflectionGuard;
 use crate::lanes::Lanes;
-use crate::limits::Looks;
 use crate::output::{Outlet, has_stood_still};
 use crate::patience::HostedLink;
 use crate::progress::Progress;
+use dial_targets::Looks;
 use dist_types::{Flags, after_kind, u16_at, u64_at};
+use link_notes::Ending;
 use otp_link::is_stock;
 use std::io::{self, ErrorKind, Read};
 use std::net::TcpStream;

@@ -1,14 +1,10 @@
 //! The lanes of a node, shared by all threads that serve its links.
 ghost use Rattle.std.specs.Prelude.{◌≡◌, IfOk};
 
-use crate::edges::Edges;
-use crate::endings::Ending;
 use crate::lane::Lane;
-use crate::limits::Limits;
 use crate::met::Met;
-use crate::notes::Notes;
-use crate::peer_kind::PeerKind;
-use crate::target::Target;
+use dial_targets::{Limits, PeerKind, Stops, Target};
+use link_notes::{Edges, Ending, Notes};
 use std::alloc::Global;
 use std::io::{self, ErrorKind};
 use std::net::{Shutdown, TcpStream};
@@ -87,6 +83,12 @@ impl Drop for Lanes<'_> {
             stock_nodes: _,
             native_nodes: _,
         } = self;
+    }
+}
+
+impl Stops for Lanes<'_> {
+    fn is_stopping<R: Wait>(&self, rt: &R) -> bool {
+        Lanes::is_stopping(self, rt)
     }
 }
 

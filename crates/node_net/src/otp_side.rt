@@ -1,7 +1,6 @@
 //! What both directions of a link with a stock node of Erlang/OTP share.
-use crate::edges::{Edges, REASONS};
-use crate::endings::Ending;
 use crate::patience::HostedLink;
+use link_notes::{Edges, Ending, REASONS};
 use otp_edge::Dropped;
 use otp_link::{LinkFault, OtpLink};
 use std::alloc::Global;

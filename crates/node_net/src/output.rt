@@ -1,7 +1,7 @@
 //! What goes out on a link: frames by its writer, and ticks by its reader.
-use crate::endings::Ending;
-use crate::limits::Limits;
 use crate::patience::{HostedLink, look};
+use dial_targets::Limits;
+use link_notes::Ending;
 use node_threads::LinkOut;
 use std::io::{self, ErrorKind, Write};
 use std::net::{Shutdown, TcpStream};

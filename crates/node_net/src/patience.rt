@@ -1,7 +1,7 @@
 //! Writes to a peer that may not read. While one stands still it is seen from time to time whether
 //! the node has the link still.
-use crate::endings::Ending;
 use crate::lanes::Lanes;
+use link_notes::Ending;
 use node_threads::Node;
 use std::io::{self, ErrorKind, Write};
 use std::net::TcpStream;

@@ -1,6 +1,6 @@
 //! How often a peer is dialled.
 use crate::backoff::Backoff;
-use crate::dial_fault::DialFault;
+use dial_targets::DialFault;
 use std::time::{Clock, Duration, SystemTime, UNIX_EPOCH};
 
 /// The milliseconds before the next dial: at once, then, and at most.

@@ -1,6 +1,6 @@
 //! One connection: a thread answers its lines, and another tells its news.
-use crate::asked::Asked;
 use dist_types::OutOfMemory;
+use pg_asked::Asked;
 use pg_session::{Next, Rights, Seen};
 use pg_streams::{self, Lines, is_too_long};
 use pg_text::put_word;

@@ -1,9 +1,8 @@
 //! The control socket: its connections ask by lines, each with a seat of its own.
-use crate::asked::Asked;
-use crate::clients::Stream;
 use crate::connection::Desk;
 use crate::door::Door;
 use crate::refusing::{refuse, refuse_here};
+use pg_asked::{Asked, Stream};
 use pg_log::Taking;
 use pg_session::{Rights, Seen};
 use pg_streams::ReadLines;

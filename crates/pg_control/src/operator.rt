@@ -1,6 +1,6 @@
 //! Standard input and output, as a connection that lasts as long as the program.
-use crate::asked::Asked;
 use crate::connection::Desk;
+use pg_asked::Asked;
 use pg_session::{Rights, Seen};
 use pg_streams::{QueuedLines, QueuedOutput, Streams};
 use std::sync::Wait;

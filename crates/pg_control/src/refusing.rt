@@ -1,5 +1,5 @@
 //! Clients for which there is no room.
-use crate::clients::Stream;
+use pg_asked::Stream;
 use pg_streams::{Hearers, hear_out, is_at_end};
 use std::io::Write;
 use std::net::Shutdown;

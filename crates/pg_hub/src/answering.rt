@@ -3,7 +3,7 @@ use crate::hub::Hub;
 use crate::reporting::Reporting;
 use dist_types::OutOfMemory;
 use node_threads::Shared;
-use pg_control::Asked;
+use pg_asked::Asked;
 use pg_session::{Lack, Next, Seen, Session};
 use std::sync::Wait;
 use std::time::Clock;

@@ -3,7 +3,7 @@
 use crate::hub::Hub;
 use crate::lost::Lost;
 use dist_types::OutOfMemory;
-use pg_control::{Asked, Clients};
+use pg_asked::{Asked, Clients};
 use pg_log::{Level, Log};
 use pg_session::{Next, Seen};
 use std::alloc::Global;

@@ -1,7 +1,7 @@
 //! Changes beside the node, as lines ask for them: of the peers to dial, and of the archive's file.
 use crate::hub::Hub;
+use dial_targets::{NotAdded, Target, TargetFault};
 use dist_types::{NodeName, OutOfMemory, TextFault};
-use node_net::{NotAdded, Target, TargetFault};
 use pg_log::{Level, text};
 use pg_session::Change;
 use pg_text::{first_word, put_bytes, put_word};

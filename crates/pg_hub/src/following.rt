@@ -1,7 +1,8 @@
 //! What follows the node's audit as it grows.
 use crate::hub::Hub;
-use crate::ledger::Look;
+use crate::lost::LinkNotes;
 use dist_types::NodeName;
+use pg_ledger::Look;
 use pg_log::{Level, Log, text};
 use policy_audit::Page;
 use std::sync::Wait;
@@ -9,7 +10,7 @@ use std::time::Clock;
 
 impl Hub {
     /// A look at the audit.
-    pub(crate) fn look<'a, 'b, R: Wait + Clock>(&'b self, rt: &'a R) -> Look<'a, 'b, R> {
+    pub(crate) fn look<'a, 'b, R: Wait + Clock>(&'b self, rt: &'a R) -> Look<'a, R, LinkNotes<'b>> {
         Look {
             rt,
             alloc: self.alloc,

@@ -1,35 +1,21 @@
 //! What happens to links, as it is logged.
-use crate::chronicle::Happening;
 use crate::hub::Hub;
-use crate::ledger::{Ledger, UpLink};
-use crate::refusals::Refusal;
 use crate::stock::log_dropped;
 use dist_types::NodeName;
-use node_net::{Edges, TakingFaults};
+use link_notes::Edges;
+use pg_ledger::{Happening, Ledger, Refusal, UpLink};
 use pg_log::{Decision, Field, Level, Log, Source, number, text};
-use pg_session::{DownReason, Seen};
+use pg_session::Seen;
+use pg_text::DownReason;
 use policy_audit::Rule;
 use std::alloc::Global;
 use std::net::SocketAddr;
 use std::sync::{Mutex, Wait};
+use std::thread;
 use std::time::{Clock, Duration};
-use std::{io, thread};
 
 /// The milliseconds between two looks at the audit: a burst costs no more looks.
 const REST: u64 = 50;
-
-/// A log that is told where no connection of a peer can be taken.
-#[derive(Drop)]
-pub struct UntakenPeers<'a, R: Wait + Clock> {
-    pub rt: &'a R,
-    pub log: &'a Log,
-}
-
-impl<R: Wait + Clock> TakingFaults for UntakenPeers<'_, R> {
-    fn note(&self, error: &io::Error) {
-        self.log.tell_untaken(self.rt, "peer", error);
-    }
-}
 
 impl Hub {
     /// Logs what happens to links, until the program ends.

@@ -1,9 +1,12 @@
 //! What is known of the links of a life beside the node, and so why they were lost.
 use crate::hub::Hub;
 use crate::signals::Signals;
+use dial_targets::PeerKind;
+use link_notes::{Ending, Notes};
 use node_core::NodeCore;
-use node_net::{Ending, Notes, PeerKind};
-use pg_session::{DownReason, LostLinks};
+use pg_ledger::KnownLinks;
+use pg_session::LostLinks;
+use pg_text::DownReason;
 use std::net::SocketAddr;
 use std::sync::Wait;
 
@@ -23,18 +26,18 @@ impl Hub {
     }
 }
 
-impl LinkNotes<'_> {
-    pub(crate) fn address<R: Wait>(&self, rt: &R, link: u32) -> Option<SocketAddr> {
+impl KnownLinks for LinkNotes<'_> {
+    fn address<R: Wait>(&self, rt: &R, link: u32) -> Option<SocketAddr> {
         self.notes.addresses.of(rt, link)
     }
 
-    pub(crate) fn kind<R: Wait>(&self, rt: &R, link: u32) -> PeerKind {
+    fn kind<R: Wait>(&self, rt: &R, link: u32) -> PeerKind {
         self.notes.edges.kind_of(rt, link)
     }
 
     /// Why a link was lost. Those that are lost at the end of a life are so because the node begins
     /// anew.
-    pub(crate) fn reason<R: Wait>(&self, rt: &R, link: u32) -> DownReason {
+    fn reason<R: Wait>(&self, rt: &R, link: u32) -> DownReason {
         if self.signals.is_turning() {
             return DownReason::Restarted;
         }

@@ -1,9 +1,8 @@
 //! What a connection is told of the node beside its rows: what is seen of it now, as a line.
 use crate::changing::put_fault;
 use crate::hub::Hub;
-use crate::ledger::Ledger;
-use crate::refusals::Refusal;
 use dist_types::{NodeName, OutOfMemory, Scope};
+use pg_ledger::{Ledger, Refusal};
 use pg_page::{DialView, LinkView, NodeView};
 use pg_session::{Change, Report, Surroundings};
 use pg_text::{put_bytes, put_number, put_word};

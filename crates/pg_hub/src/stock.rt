@@ -1,7 +1,6 @@
 //! Links to stock nodes of Erlang/OTP, as they are told of.
-use crate::ledger::Ledger;
 use dist_types::OutOfMemory;
-use node_net::Edges;
+use link_notes::Edges;
 use otp_edge::Dropped;
 use pg_log::{Level, Log, number, text};
 use pg_page::{NodeView, ReasonView};
@@ -10,13 +9,6 @@ use std::time::Clock;
 
 /// Rows of a group weren't told, since stock nodes were told too many other groups as atoms.
 const TOO_MANY_ATOMS: &str = "too_many_atoms";
-
-impl Ledger {
-    /// How many links that are up lead to stock nodes.
-    pub(crate) fn otp_links(&self) -> u64 {
-        self.links.iter().filter(|link| link.kind.is_otp()).count() as u64
-    }
-}
 
 /// Shows what wasn't carried over links to stock nodes, for each reason.
 pub(crate) fn look_at_dropped<R: Wait>(

@@ -1,12 +1,12 @@
 //! What is shown of a node's links, scopes, groups and dials, as copies.
 use crate::keeping::kept;
-use crate::ledger::{Ledger, UpLink};
+use dial_targets::{Target, Tried};
 use dist_types::{OutOfMemory, Scope};
 use node_core::{CoreFault, NodeCore, Query};
-use node_net::{Target, Tried};
 use node_threads::Node;
+use pg_ledger::{Ledger, UpLink};
 use pg_page::{DialView, GroupView, LinkView, NodeView, ReasonView, RuleView, ScopeView};
-use pg_session::DownReason;
+use pg_text::DownReason;
 use policy_audit::Reply;
 use std::alloc::Global;
 use std::sync::Wait;

@@ -1,5 +1,6 @@
 //! One life of the node: its links are served until its audit is nearly full, or memory is wanting.
-use node_net::{Arrivals, Host, Lane, Lanes, Limits, Met, Target, start_accepting, start_dialling};
+use dial_targets::{Limits, Target};
+use node_net::{Arrivals, Host, Lane, Lanes, Met, start_accepting, start_dialling};
 use pg_hub::Hub;
 use pg_log::{Level, Log, text};
 use pg_session::Seen;

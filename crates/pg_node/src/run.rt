@@ -1,15 +1,18 @@
 //! The whole run of the program.
 use anyhow::{Result, bail};
 use command_line::VERSION;
+use dial_targets::{Limits, Targets};
 use dist_types::{NodeName, TryClone};
-use node_net::{Arrivals, Host, Lane, Limits, Notes, Targets, start_taking};
-use pg_control::{Asked, Operator, start_control, start_operator};
+use link_notes::Notes;
+use node_net::{Arrivals, Host, Lane, start_taking};
+use pg_asked::Asked;
+use pg_control::{Operator, start_control, start_operator};
 use pg_http::start_pages;
-use pg_hub::{Hub, HubSettings, Keeping, Memory, Readers, UntakenPeers};
+use pg_hub::{Hub, HubSettings, Keeping, Memory, Readers};
 use pg_lives::{ArchivePlace, Closer, LifeMaker, Recorder, Site, finish, keep_on, live_on};
 use pg_log::{Field, Level, Log, number, text};
 use pg_options::{Faces, LogOptions, Options, OtpOptions};
-use pg_places::{OtpPlace, Places, Queues, open_otp, open_places, start_registering};
+use pg_places::{OtpPlace, Places, Queues, UntakenPeers, open_otp, open_places, start_registering};
 use pg_session::Seen;
 use pg_settings::given;
 use pg_streams::Streams;

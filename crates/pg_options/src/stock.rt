@@ -3,7 +3,7 @@ use crate::fault::Fault;
 use crate::usual::EPMD;
 use crate::words::{place, target};
 use clap::ArgMatches;
-use node_net::{EpmdUse, PeerKind, Target};
+use dial_targets::{EpmdUse, PeerKind, Target};
 use std::alloc::Global;
 
 /// How stock nodes of Erlang/OTP are linked.

@@ -1,7 +1,7 @@
 //! What a word at an option names.
 use crate::fault::{Fault, refused};
+use dial_targets::{Target, TargetFault, is_place};
 use dist_types::NodeName;
-use node_net::{Target, TargetFault, is_place};
 use std::alloc::Global;
 
 /// The name of a node that stands at this option.

@@ -1,5 +1,5 @@
 //! The threads that connect to peers. Nothing can end a look-up of a name or a connect, so these may outlive the run, and aren't joined.
-use node_net::Targets;
+use dial_targets::Targets;
 use std::net::{Net, TcpListener, TcpStream};
 use std::sync::{Arc, Wait};
 use std::thread;

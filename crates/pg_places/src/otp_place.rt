@@ -3,9 +3,10 @@
 use crate::places::{Listening, listen_at};
 use crate::queues::Queues;
 use anyhow::{Result, bail};
+use dial_targets::PeerKind;
 use dist_types::NodeName;
 use epmd::{Alive, AskFault, NodeKind, register};
-use node_net::{Arrivals, Host, PeerKind};
+use node_net::{Arrivals, Host};
 use pg_log::{Level, Log, number, text};
 use pg_options::OtpOptions;
 use std::alloc::Global;

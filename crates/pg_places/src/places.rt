@@ -1,7 +1,8 @@
 //! The places where peers and clients connect.
 use crate::queues::Queues;
 use anyhow::{Error, Result, anyhow};
-use node_net::{Arrivals, Host, PeerKind};
+use dial_targets::PeerKind;
+use node_net::{Arrivals, Host};
 use pg_control::{Door, DoorPlace};
 use pg_http::PageEntrance;
 use pg_log::Log;

@@ -17,7 +17,7 @@ use Rattle.node_threads.specs.Applied.{Called}
 use Rattle.node_threads.specs.Calls.{Record}
 use Rattle.node_threads.proofs.Answered.{accepted, gains_more, gains_none, refused, strange}
 use Rattle.node_threads.proofs.Answered.{unheard}
-use specs.declared.notice.DownReason.{DownReason}
+use Rattle.pg_text.specs.declared.down_reason.DownReason.{DownReason}
 use specs.declared.notice.Peer.{Peer}
 use specs.Asked.{is_fetch}
 use specs.Notices.{Becomes, BecomesAll, change, changes_in, changes_of, down, ended, fetched, gone}

@@ -15,8 +15,8 @@ use Rattle.node_threads.specs.declared.fault.CallFault.{CallFault}
 use Rattle.node_threads.specs.declared.pass.Call.{Call}
 use Rattle.node_threads.specs.Calls.{Record, Gains}
 use Rattle.pg_text.specs.Answers.{told_text}
-use Rattle.pg_session.specs.declared.notice.DownReason.{DownReason}
-use Rattle.pg_session.specs.declared.notice.DownReason.TheVariants as reasons
+use Rattle.pg_text.specs.declared.down_reason.DownReason.{DownReason}
+use Rattle.pg_text.specs.DownReasons.{reason_word}
 use Rattle.pg_session.specs.declared.notice.Peer.{Peer}
 use Rattle.pg_session.specs.Asked.{is_fetch}
 
@@ -28,15 +28,6 @@ pub data Notice : Type 0 where
   down : List ℕ → ℕ → DownReason → Notice
   stopped : List ℕ → Notice
   restarted : ℕ → Notice
-
-abbrev pub reason_word : DownReason → List ℕ
-reason_word reasons.Closed = codes "closed"
-reason_word reasons.Silent = codes "silent"
-reason_word reasons.Slow = codes "slow"
-reason_word reasons.Replaced = codes "replaced"
-reason_word reasons.Unreadable = codes "unreadable"
-reason_word reasons.Disconnected = codes "disconnected"
-reason_word reasons.Restarted = codes "restarted"
 
 abbrev pub notice_line : Notice → List ℕ
 notice_line (change monitor u) = codes "! " ++ told_text monitor u ++ codes "\n"

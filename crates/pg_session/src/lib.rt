@@ -24,7 +24,6 @@ mod watched;
 pub use caller::{Caller, Lack};
 pub use laws::untouched_tells_nothing;
 pub use news::{LostLinks, Seen};
-pub use notice::DownReason;
 pub use rights::Rights;
 pub use roster::Roster;
 pub use session::{Next, Session};

@@ -5,10 +5,11 @@ ghost use Rattle.policy_audit.specs.History.{creation};
 ghost use Rattle.pg_session.specs.Notices.{Known, TellsNews, is_named, has_gone};
 ghost use Rattle.pg_session.specs.Seen.{seen_of, unseen};
 
-use crate::notice::{DownReason, Peer, put_all_down, put_down, put_life, put_up};
+use crate::notice::{Peer, put_all_down, put_down, put_life, put_up};
 use dist_types::{NodeName, OutOfMemory, TryClone};
 use node_core::NodeCore;
 use node_threads::Shared;
+use pg_text::DownReason;
 use policy_audit::{Entry, Event, Later, Reply, Verdict};
 use std::alloc::Global;
 use std::marker::Model;

@@ -1,57 +1,11 @@
 //! Lines that come unasked.
 ghost use Rattle.std.specs.Prelude.{◌≡◌, ◌++◌, [], map, OnOk, Some, None};
 ghost use Rattle.std.specs.List.{flat_map};
-ghost use Rattle.pg_session.specs.Notices.{notice_line, reason_word, up, stopped, gone, TellsNews};
+ghost use Rattle.pg_session.specs.Notices.{notice_line, up, stopped, gone, TellsNews};
 
 use dist_types::{NodeName, OutOfMemory, Scope, TryClone};
-use pg_text::{put_bytes, put_number, put_numbered_line, put_word};
+use pg_text::{DownReason, put_bytes, put_number, put_numbered_line, put_word};
 use std::alloc::Global;
-
-/// Why a peer is down.
-#[derive(Clone, Copy, Debug, PartialEq, Eq)]
-pub enum DownReason {
-    /// The peer or the network closed the connection.
-    Closed,
-    /// Nothing came for the tick time.
-    Silent,
-    /// A write stood still for so long, or too many frames waited.
-    Slow,
-    /// A newer link of that name took its place.
-    Replaced,
-    /// What came can't be read, or is more than is taken.
-    Unreadable,
-    /// By a Disconnect of this node.
-    Disconnected,
-    /// This node begins anew.
-    Restarted,
-}
-
-impl DownReason {
-    /// All of them, each once.
-    pub const ALL: [DownReason; 7] = [
-        DownReason::Closed,
-        DownReason::Silent,
-        DownReason::Slow,
-        DownReason::Replaced,
-        DownReason::Unreadable,
-        DownReason::Disconnected,
-        DownReason::Restarted,
-    ];
-
-    pub fn word(self) -> &'static str
-        ensures { result.now ≡ reason_word self }
-    {
-        match self {
-            DownReason::Closed => "closed",
-            DownReason::Silent => "silent",
-            DownReason::Slow => "slow",
-            DownReason::Replaced => "replaced",
-            DownReason::Unreadable => "unreadable",
-            DownReason::Disconnected => "disconnected",
-            DownReason::Restarted => "restarted",
-        }
-    }
-}
 
 /// A peer that is up.
 #[derive(Debug, Drop)]

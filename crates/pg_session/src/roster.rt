@@ -1,8 +1,8 @@
 //! Who is up, for connections that are still to come.
 use crate::news::{LostLinks, News, Seen};
-use crate::notice::DownReason;
 use dist_types::OutOfMemory;
 use node_core::NodeCore;
+use pg_text::DownReason;
 use policy_audit::{Event, Later};
 use std::alloc::Global;
 

@@ -3,6 +3,7 @@ pub mod WordsLeft
 pub mod Words
 pub mod Arguments
 pub mod Commands
+pub mod DownReasons
 pub mod Faults
 pub mod Kinds
 pub mod Answers

@@ -7,6 +7,7 @@ mod arguments;
 mod asked;
 mod command;
 mod diagnosis;
+mod down_reason;
 mod event_kind;
 mod link_commands;
 mod node_commands;
@@ -21,6 +22,7 @@ pub use arguments::{both, each, first, named, only};
 pub use asked::{moved_pids, query_of, speaks_for_link};
 pub use command::{Command, LineFault, nothing, parse};
 pub use diagnosis::{Diagnosis, FORMS, Reason, diagnose};
+pub use down_reason::DownReason;
 pub use event_kind::kind;
 pub use printed::{
     Printed, put_bytes, put_each, put_number, put_numbered_line, put_told, put_word,

@@ -4,7 +4,7 @@ use Rattle.std.proofs.Common.{codes, decimal, None, refl, Some, subst, [], ◌++
 use specs.Notices.{restarted}
 use proofs.Callers.{on_ok}
 use proofs.Telling.{in_line, news_all_gone, news_more, news_one}
-use specs.declared.notice.DownReason.TheVariants as reasons
+use Rattle.pg_text.specs.declared.down_reason.DownReason.TheVariants as reasons
 use Rattle.pg_session.proofs.notice.put_life.Goals as goal
 
 pub returns : goal.returns

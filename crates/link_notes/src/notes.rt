@@ -2,8 +2,8 @@
 use crate::addresses::Addresses;
 use crate::edges::Edges;
 use crate::endings::Endings;
-use crate::limits::Limits;
 use crate::writers::Writers;
+use dial_targets::Limits;
 use dist_types::OutOfMemory;
 use std::alloc::Global;
 use std::sync::Wait;

@@ -30,7 +30,7 @@ impl Endings {
     }
 
     /// Says why a link ends, before the node is told that it is lost. What was said first stays.
-    pub(crate) fn note<R: Wait>(&self, rt: &R, link: u32, ending: Ending) {
+    pub fn note<R: Wait>(&self, rt: &R, link: u32, ending: Ending) {
         let mut last = self.last.lock(rt);
         if last.of(link).is_none() {
             last.note(link, ending);

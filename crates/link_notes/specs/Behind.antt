@@ -2,7 +2,7 @@
 use Rattle.std.specs.Prelude.{ℕ, cond, List, Option, Some, None, length, max, fold}
 use Rattle.policy_audit.specs.History.{History}
 use Rattle.policy_audit.specs.Owed.{waiting, is_kept}
-use Rattle.node_net.specs.declared.writers.Writer.{Writer}
+use Rattle.link_notes.specs.declared.writers.Writer.{Writer}
 
 -- those for the link of this writer, where it gets on
 abbrev pub frames_behind : History → Option Writer → ℕ

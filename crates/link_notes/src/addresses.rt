@@ -17,7 +17,8 @@ impl Addresses {
         Ok(Addresses { last })
     }
 
-    pub(crate) fn note<R: Wait>(&self, rt: &R, link: u32, address: SocketAddr) {
+    /// Notes where the other end of a link is. The oldest makes room.
+    pub fn note<R: Wait>(&self, rt: &R, link: u32, address: SocketAddr) {
         self.last.lock(rt).note(link, address);
     }
 

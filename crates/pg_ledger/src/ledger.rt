@@ -1,12 +1,11 @@
 //! What the audit of a life has said so far that is reported.
 use crate::census::Census;
 use crate::chronicle::Chronicle;
-use crate::lost::LinkNotes;
 use crate::refusals::Refusals;
+use dial_targets::PeerKind;
 use dist_types::{NodeName, OutOfMemory, Scope, TryClone};
 use node_core::NodeCore;
-use node_net::PeerKind;
-use pg_session::DownReason;
+use pg_text::DownReason;
 use policy_audit::{Entry, Event, Reply, Verdict};
 use std::alloc::Global;
 use std::net::SocketAddr;
@@ -14,17 +13,17 @@ use std::sync::Wait;
 use std::time::{Clock, Instant};
 
 /// A link that is up.
-pub(crate) struct UpLink {
+pub struct UpLink {
     /// The number of the entry that opened it.
-    pub(crate) number: u32,
-    pub(crate) peer: NodeName,
-    pub(crate) creation: u32,
-    pub(crate) is_visible: bool,
+    pub number: u32,
+    pub peer: NodeName,
+    pub creation: u32,
+    pub is_visible: bool,
     /// Which nodes it leads to.
-    pub(crate) kind: PeerKind,
-    pub(crate) address: Option<SocketAddr>,
+    pub kind: PeerKind,
+    pub address: Option<SocketAddr>,
     /// When it was seen up first.
-    pub(crate) since: Option<Instant>,
+    pub since: Option<Instant>,
 }
 
 impl Drop for UpLink {
@@ -41,35 +40,47 @@ impl Drop for UpLink {
     }
 }
 
-/// Who looks at the audit, and knows of links what the node doesn't.
-#[derive(Drop)]
-pub(crate) struct Look<'a, 'b, R: Wait + Clock> {
-    pub(crate) rt: &'a R,
-    pub(crate) alloc: Global,
-    pub(crate) links: LinkNotes<'b>,
+/// Who knows of links what the audit doesn't say.
+pub trait KnownLinks {
+    /// Where the other end of a link is, if that is known.
+    fn address<R: Wait>(&self, rt: &R, link: u32) -> Option<SocketAddr>;
+
+    /// Which nodes a link leads to.
+    fn kind<R: Wait>(&self, rt: &R, link: u32) -> PeerKind;
+
+    /// Why a link was lost.
+    fn reason<R: Wait>(&self, rt: &R, link: u32) -> DownReason;
 }
 
-impl<R: Wait + Clock> Look<'_, '_, R> {
+/// Who looks at the audit.
+#[derive(Drop)]
+pub struct Look<'a, R: Wait + Clock, L: KnownLinks + Copy> {
+    pub rt: &'a R,
+    pub alloc: Global,
+    pub links: L,
+}
+
+impl<R: Wait + Clock, L: KnownLinks + Copy> Look<'_, R, L> {
     fn now(&self) -> Option<Instant> {
         Instant::now(self.rt).ok()
     }
 }
 
 /// What the audit of a life has said so far.
-pub(crate) struct Ledger {
+pub struct Ledger {
     /// In the order in which they came up.
-    pub(crate) links: Vec<UpLink>,
+    pub links: Vec<UpLink>,
     /// The scopes that run, ascending.
-    pub(crate) scopes: Vec<Scope>,
+    pub scopes: Vec<Scope>,
     /// The names that may connect, ascending; all may, where there are none.
-    pub(crate) allowed: Vec<NodeName>,
-    pub(crate) refusals: Refusals,
+    pub allowed: Vec<NodeName>,
+    pub refusals: Refusals,
     /// What has happened to links, for the log.
-    pub(crate) chronicle: Chronicle,
+    pub chronicle: Chronicle,
     /// How many rows scopes have, what was refused by which rule, and how links have ended.
-    pub(crate) census: Census,
+    pub census: Census,
     /// How many events were refused.
-    pub(crate) refused: usize,
+    pub refused: usize,
     /// How much of the audit was looked at, and of which life.
     entries: usize,
     creation: u32,
@@ -92,7 +103,7 @@ impl Drop for Ledger {
 }
 
 impl Ledger {
-    pub(crate) fn new(alloc: Global) -> Ledger {
+    pub fn new(alloc: Global) -> Ledger {
         Ledger {
             links: Vec::new(alloc),
             scopes: Vec::new(alloc),
@@ -107,15 +118,20 @@ impl Ledger {
     }
 
     /// Whether a link of this peer is up.
-    pub(crate) fn is_up(&self, peer: &NodeName) -> bool {
+    pub fn is_up(&self, peer: &NodeName) -> bool {
         self.links.iter().any(|link| link.peer == *peer)
+    }
+
+    /// How many links that are up lead to stock nodes.
+    pub fn otp_links(&self) -> u64 {
+        self.links.iter().filter(|link| link.kind.is_otp()).count() as u64
     }
 
     /// Follows the node up to now, in a new life from its beginning. Where memory is wanting it
     /// goes on there the next time.
-    pub(crate) fn follow<R: Wait + Clock>(
+    pub fn follow<R: Wait + Clock, L: KnownLinks + Copy>(
         &mut self,
-        look: &Look<'_, '_, R>,
+        look: &Look<'_, R, L>,
         core: &NodeCore,
     ) -> Result<(), OutOfMemory> {
         if self.creation != core.creation() {
@@ -163,9 +179,9 @@ impl Ledger {
         }
     }
 
-    fn note<R: Wait + Clock>(
+    fn note<R: Wait + Clock, L: KnownLinks + Copy>(
         &mut self,
-        look: &Look<'_, '_, R>,
+        look: &Look<'_, R, L>,
         entry: &Entry,
     ) -> Result<(), OutOfMemory> {
         match &entry.verdict {
@@ -192,9 +208,9 @@ impl Ledger {
         }
     }
 
-    fn note_accepted<R: Wait + Clock>(
+    fn note_accepted<R: Wait + Clock, L: KnownLinks + Copy>(
         &mut self,
-        look: &Look<'_, '_, R>,
+        look: &Look<'_, R, L>,
         event: &Event,
         reply: &Reply,
     ) -> Result<(), OutOfMemory> {
@@ -218,7 +234,11 @@ impl Ledger {
         }
     }
 
-    fn note_lost<R: Wait + Clock>(&mut self, look: &Look<'_, '_, R>, link: u32) {
+    fn note_lost<R: Wait + Clock, L: KnownLinks + Copy>(
+        &mut self,
+        look: &Look<'_, R, L>,
+        link: u32,
+    ) {
         if let Some(place) = self.links.iter().position(|known| known.number == link) {
             let reason = look.links.reason(look.rt, link);
             self.end(place, reason);
@@ -233,9 +253,9 @@ impl Ledger {
     }
 
     /// Notes a link that has come up, if the reply says so.
-    fn note_up<R: Wait + Clock>(
+    fn note_up<R: Wait + Clock, L: KnownLinks + Copy>(
         &mut self,
-        look: &Look<'_, '_, R>,
+        look: &Look<'_, R, L>,
         number: u32,
         reply: &Reply,
     ) -> Result<(), OutOfMemory> {

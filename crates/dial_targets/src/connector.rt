@@ -1,13 +1,18 @@
 //! Connects to a peer. Nothing can end a look-up of a name or a connect, so a thread of its own makes them, and may outlive the links.
 use crate::dial_fault::DialFault;
 use crate::epmd_place::{EpmdPlace, connect};
-use crate::lanes::Lanes;
 use std::net::{Net, TcpListener, TcpStream};
 use std::sync::{Condvar, CondvarTimeouts, Mutex, Wait};
 use std::time::{Clock, Duration};
 
-/// The milliseconds between two looks whether the lanes are stopping.
+/// The milliseconds between two looks whether the stop has come.
 const LOOK: u64 = 50;
+
+/// Who waits for a connection, until a stop.
+pub trait Stops {
+    /// Whether the stop has come.
+    fn is_stopping<R: Wait>(&self, rt: &R) -> bool;
+}
 
 /// What lies behind the lock.
 #[derive(Drop)]
@@ -94,17 +99,18 @@ impl Connector {
         self.moved.notify_all();
     }
 
-    /// A connection, within the time of a handshake for each address, or why no address answers;
-    /// none after the stop, and after the end.
-    pub(crate) fn connect<R: Wait + Clock>(
+    /// A connection, within this time for each address, or why no address answers; none after the
+    /// stop, and after the end.
+    pub(crate) fn connect<R: Wait + Clock, S: Stops>(
         &self,
         rt: &R,
-        lanes: &Lanes<'_>,
+        time: Duration,
+        stop: &S,
     ) -> Option<Result<TcpStream, DialFault>> {
-        self.wish(rt, lanes.limits().setup);
+        self.wish(rt, time);
         let look = Duration::from_millis(LOOK);
         for _ in rt.forever() {
-            if lanes.is_stopping(rt) {
+            if stop.is_stopping(rt) {
                 return None;
             }
             let state = self.state.lock(rt);
@@ -121,7 +127,7 @@ impl Connector {
         unreachable!()
     }
 
-    /// Asks for a connection. One that was made for other lanes is closed.
+    /// Asks for a connection. One that was made for an earlier wish is closed.
     fn wish<R: Wait>(&self, rt: &R, time: Duration) {
         let mut state = self.state.lock(rt);
         state.made = None;

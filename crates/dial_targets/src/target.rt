@@ -1,5 +1,5 @@
 //! A peer to dial, and how its dials go.
-use crate::connector::{Connector, Goal};
+use crate::connector::{Connector, Goal, Stops};
 use crate::dial_fault::DialFault;
 use crate::epmd_place::EpmdPlace;
 use crate::peer_kind::PeerKind;
@@ -8,7 +8,7 @@ use std::alloc::Global;
 use std::net::{Net, TcpListener, TcpStream};
 use std::sync::atomic::{AtomicBool, Ordering};
 use std::sync::{Mutex, Wait};
-use std::time::Instant;
+use std::time::{Clock, Duration, Instant};
 use thiserror::Error;
 
 /// Why a word names no peer to dial.
@@ -164,8 +164,15 @@ impl Target {
         self.place.as_str()
     }
 
-    pub(crate) fn connector(&self) -> &Connector {
-        &self.connector
+    /// A connection to the place, which `connect_all` makes, within this time for each address of
+    /// it, or why none answers; none after the stop, and after the target's end.
+    pub fn connect<R: Wait + Clock, S: Stops>(
+        &self,
+        rt: &R,
+        time: Duration,
+        stop: &S,
+    ) -> Option<Result<TcpStream, DialFault>> {
+        self.connector.connect(rt, time, stop)
     }
 
     /// Connects to the place whenever that is wanted, until the target's end.
@@ -186,12 +193,13 @@ impl Target {
         self.connector.end(rt);
     }
 
-    pub(crate) fn has_ended(&self) -> bool {
+    /// Whether it is dialled no more.
+    pub fn has_ended(&self) -> bool {
         self.has_ended.load(Ordering::SeqCst)
     }
 
     /// Links to the peer ended early, one after the other, though it lived on.
-    pub(crate) fn note_unsteady(&self) {
+    pub fn note_unsteady(&self) {
         self.is_unsteady.store(true, Ordering::SeqCst);
     }
 
@@ -215,21 +223,21 @@ impl Target {
     }
 
     /// A dial is begun.
-    pub(crate) fn begin<R: Wait>(&self, rt: &R) {
+    pub fn begin<R: Wait>(&self, rt: &R) {
         let mut state = self.state.lock(rt);
         state.tried.times = state.tried.times.saturating_add(1);
         state.tried.next = None;
     }
 
     /// A link to the peer is up.
-    pub(crate) fn come_up<R: Wait>(&self, rt: &R) {
+    pub fn come_up<R: Wait>(&self, rt: &R) {
         let mut state = self.state.lock(rt);
         state.tried.fault = None;
         state.tried.next = None;
     }
 
     /// A dial has ended so. The next one is due then.
-    pub(crate) fn rest<R: Wait>(&self, rt: &R, fault: Option<DialFault>, next: Option<Instant>) {
+    pub fn rest<R: Wait>(&self, rt: &R, fault: Option<DialFault>, next: Option<Instant>) {
         let mut state = self.state.lock(rt);
         state.tried.fault = fault;
         state.tried.next = next;

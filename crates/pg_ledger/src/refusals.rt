@@ -15,14 +15,14 @@ const KEPT: usize = 16;
 const LINKS: usize = 64;
 
 /// An event that was refused.
-pub(crate) struct Refusal {
-    pub(crate) entry: u32,
+pub struct Refusal {
+    pub entry: u32,
     /// The kind of the event, as the audit tells it.
-    pub(crate) kind: &'static str,
-    pub(crate) rule: Rule,
-    pub(crate) peer: Option<NodeName>,
+    pub kind: &'static str,
+    pub rule: Rule,
+    pub peer: Option<NodeName>,
     /// Where the other end is.
-    pub(crate) address: Option<SocketAddr>,
+    pub address: Option<SocketAddr>,
 }
 
 impl Drop for Refusal {
@@ -61,14 +61,14 @@ struct Begun {
 }
 
 #[derive(Drop)]
-pub(crate) struct Refusals {
+pub struct Refusals {
     /// The oldest first.
-    pub(crate) last: VecDeque<Refusal>,
+    pub last: VecDeque<Refusal>,
     begun: VecDeque<Begun>,
 }
 
 impl Refusals {
-    pub(crate) fn new(alloc: Global) -> Refusals {
+    pub fn new(alloc: Global) -> Refusals {
         Refusals {
             last: VecDeque::new(alloc),
             begun: VecDeque::new(alloc),
@@ -76,12 +76,7 @@ impl Refusals {
     }
 
     /// Notes what an accepted event says of a link that isn't up.
-    pub(crate) fn note(
-        &mut self,
-        alloc: Global,
-        event: &Event,
-        reply: &Reply,
-    ) -> Result<(), OutOfMemory> {
+    pub fn note(&mut self, alloc: Global, event: &Event, reply: &Reply) -> Result<(), OutOfMemory> {
         match (event, reply) {
             (Event::Dial(peer, _), Reply::Link(link)) => {
                 let peer = peer.try_clone(alloc)?;
@@ -118,7 +113,7 @@ impl Refusals {
     }
 
     /// Notes a refused event of a link whose other end is there, while these are up.
-    pub(crate) fn refuse(
+    pub fn refuse(
         &mut self,
         alloc: Global,
         entry: &Entry,

@@ -2,8 +2,8 @@ use Rattle.std.proofs.Common.{ap, rules, tests, unwrap_or, ◌∙◌}
 use Rattle.std.proofs.lemmas.Iterator.{YieldsList-from_map, YieldsList-from_slice}
 use Rattle.std.proofs.lemmas.Iterator.Consumers.{reduce_from_yields_List}
 use Rattle.std.proofs.lemmas.List.Folds.{max_of_map}
-use Rattle.node_net.specs.Behind.{frames_behind}
-use Rattle.node_net.proofs.writers.most_behind.Goals as goal
+use Rattle.link_notes.specs.Behind.{frames_behind}
+use Rattle.link_notes.proofs.writers.most_behind.Goals as goal
 
 pub returns : goal.returns
 returns c =

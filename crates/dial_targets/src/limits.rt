@@ -3,7 +3,7 @@ use crate::peer_kind::PeerKind;
 use std::time::Duration;
 
 /// In how many parts the time is cut that a peer may be silent.
-pub(crate) const PULSES: u32 = 8;
+const PULSES: u32 = 8;
 
 /// After so many milliseconds it is looked whether a stock node is to be asked again.
 const ASKING: u64 = 500;
@@ -30,12 +30,12 @@ impl Default for Limits {
 
 impl Limits {
     /// Between two looks at a link that is up.
-    pub(crate) fn pulse(&self) -> Duration {
+    pub fn pulse(&self) -> Duration {
         self.tick / PULSES
     }
 
     /// How often the reader of a link looks whether something has come.
-    pub(crate) fn looks(&self, kind: PeerKind) -> Looks {
+    pub fn looks(&self, kind: PeerKind) -> Looks {
         let pulse = self.pulse();
         if !kind.is_otp() {
             return Looks {
@@ -54,7 +54,7 @@ impl Limits {
 
 /// How long a reader waits at once, and how often in a row for nothing before the link is lost.
 #[derive(Clone, Copy, Debug)]
-pub(crate) struct Looks {
-    pub(crate) time: Duration,
-    pub(crate) most: u32,
+pub struct Looks {
+    pub time: Duration,
+    pub most: u32,
 }

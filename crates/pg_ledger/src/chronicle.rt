@@ -2,7 +2,7 @@
 use crate::ledger::UpLink;
 use crate::refusals::Refusal;
 use dist_types::{NodeName, OutOfMemory, TryClone};
-use pg_session::DownReason;
+use pg_text::DownReason;
 use std::alloc::Global;
 use std::collections::VecDeque;
 use std::net::SocketAddr;
@@ -12,7 +12,7 @@ const KEPT: usize = 256;
 
 /// What has happened to a link.
 #[derive(Drop)]
-pub(crate) enum Happening {
+pub enum Happening {
     /// A peer has come up: its name, its creation, the kind of its link, and where it is.
     Up(NodeName, u32, &'static str, Option<SocketAddr>),
     Down(UpLink, DownReason),
@@ -21,20 +21,20 @@ pub(crate) enum Happening {
 
 /// What has happened to links, the oldest first, until it is logged. What finds no room is counted.
 #[derive(Drop)]
-pub(crate) struct Chronicle {
+pub struct Chronicle {
     happened: VecDeque<Happening>,
     lost: u64,
 }
 
 impl Chronicle {
-    pub(crate) fn new(alloc: Global) -> Chronicle {
+    pub fn new(alloc: Global) -> Chronicle {
         Chronicle {
             happened: VecDeque::new(alloc),
             lost: 0,
         }
     }
 
-    pub(crate) fn note_up(&mut self, alloc: Global, link: &UpLink) {
+    pub fn note_up(&mut self, alloc: Global, link: &UpLink) {
         match link.peer.try_clone(alloc) {
             Ok(peer) => self.note(Happening::Up(
                 peer,
@@ -46,11 +46,11 @@ impl Chronicle {
         }
     }
 
-    pub(crate) fn note_down(&mut self, link: UpLink, reason: DownReason) {
+    pub fn note_down(&mut self, link: UpLink, reason: DownReason) {
         self.note(Happening::Down(link, reason));
     }
 
-    pub(crate) fn note_refused(&mut self, alloc: Global, refusal: &Refusal) {
+    pub fn note_refused(&mut self, alloc: Global, refusal: &Refusal) {
         match refusal.try_clone(alloc) {
             Ok(refusal) => self.note(Happening::Refused(refusal)),
             Err(OutOfMemory) => self.lost = self.lost.saturating_add(1),
@@ -64,12 +64,12 @@ impl Chronicle {
     }
 
     /// What is to be logged next.
-    pub(crate) fn take(&mut self) -> Option<Happening> {
+    pub fn take(&mut self) -> Option<Happening> {
         self.happened.pop_front()
     }
 
     /// How much found no room since this was asked last.
-    pub(crate) fn take_lost(&mut self) -> u64 {
+    pub fn take_lost(&mut self) -> u64 {
         let lost = self.lost;
         self.lost = 0;
         lost

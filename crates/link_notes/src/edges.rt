@@ -1,6 +1,6 @@
 //! What all links with stock nodes of Erlang/OTP share, over all lives of the node.
 use crate::last_noted::LastNoted;
-use crate::peer_kind::PeerKind;
+use dial_targets::PeerKind;
 use dist_types::OutOfMemory;
 use otp_edge::{Dropped, Life};
 use std::alloc::Global;
@@ -8,7 +8,7 @@ use std::sync::atomic::{AtomicBool, AtomicU64, Ordering};
 use std::sync::{Mutex, MutexGuard, Wait};
 
 /// How many reasons there are to drop something.
-pub(crate) const REASONS: usize = Dropped::ALL.len();
+pub const REASONS: usize = Dropped::ALL.len();
 
 /// What all links with stock nodes share: the groups that these were told as atoms, and how often
 /// something was dropped. Its locks are innermost ones.
@@ -38,7 +38,8 @@ impl Edges {
         self.in_parts.store(in_parts, Ordering::SeqCst);
     }
 
-    pub(crate) fn in_parts(&self) -> bool {
+    /// Whether the node takes messages in parts.
+    pub fn in_parts(&self) -> bool {
         self.in_parts.load(Ordering::SeqCst)
     }
 
@@ -47,7 +48,8 @@ impl Edges {
         self.kinds.lock(rt).of(link).unwrap_or(PeerKind::Native)
     }
 
-    pub(crate) fn note<R: Wait>(&self, rt: &R, link: u32, kind: PeerKind) {
+    /// Notes which nodes a link leads to.
+    pub fn note<R: Wait>(&self, rt: &R, link: u32, kind: PeerKind) {
         self.kinds.lock(rt).note(link, kind);
     }
 
@@ -56,12 +58,13 @@ impl Edges {
         self.kinds.lock(rt).clear();
     }
 
-    pub(crate) fn life<R: Wait>(&self, rt: &R) -> MutexGuard<'_, Life> {
+    /// The groups that stock nodes were told as atoms.
+    pub fn life<R: Wait>(&self, rt: &R) -> MutexGuard<'_, Life> {
         self.life.lock(rt)
     }
 
     /// Counts what was dropped on a link for a reason.
-    pub(crate) fn count<R: Wait>(&self, rt: &R, reason: Dropped, more: u64) {
+    pub fn count<R: Wait>(&self, rt: &R, reason: Dropped, more: u64) {
         let mut dropped = self.dropped.lock(rt);
         let place = reason as usize;
         dropped[place] = dropped[place].saturating_add(more);
@@ -73,7 +76,7 @@ impl Edges {
     }
 
     /// Notes how often rows of a group weren't told: whether that is news.
-    pub(crate) fn note_refused_atoms(&self, times: u64) -> bool {
+    pub fn note_refused_atoms(&self, times: u64) -> bool {
         self.refused_atoms.swap(times, Ordering::SeqCst) == 0 && times > 0
     }
 

@@ -1,9 +1,9 @@
 //! The writers of links, for who would rather wait than let too many frames gather for a peer that
 //! reads.
 ghost use Rattle.std.specs.Prelude.{◌≡◌};
-ghost use Rattle.node_net.specs.Behind.{most_behind, frames_behind};
+ghost use Rattle.link_notes.specs.Behind.{most_behind, frames_behind};
 
-use crate::limits::Limits;
+use dial_targets::Limits;
 use node_core::NodeCore;
 use std::sync::atomic::{AtomicBool, Ordering};
 use std::sync::{Mutex, Wait};
@@ -74,7 +74,7 @@ impl Writers {
     }
 
     /// The writer of a link begins. Where there is no place, nobody waits for it.
-    pub(crate) fn enter<R: Wait>(&self, rt: &R, link: u32) {
+    pub fn enter<R: Wait>(&self, rt: &R, link: u32) {
         let mut state = self.state.lock(rt);
         if let Some(place) = state.writers.iter().position(|writer| writer.is_none()) {
             state.writers[place] = Some(Writer {
@@ -86,7 +86,7 @@ impl Writers {
     }
 
     /// The writer of a link has ended.
-    pub(crate) fn leave<R: Wait>(&self, rt: &R, link: u32) {
+    pub fn leave<R: Wait>(&self, rt: &R, link: u32) {
         let mut state = self.state.lock(rt);
         for writer in state.writers.iter_mut() {
             if is_of(writer, link) {
@@ -96,7 +96,7 @@ impl Writers {
     }
 
     /// Notes whether the writer of a link stands still.
-    pub(crate) fn note<R: Wait>(&self, rt: &R, link: u32, stands_still: bool) {
+    pub fn note<R: Wait>(&self, rt: &R, link: u32, stands_still: bool) {
         let mut state = self.state.lock(rt);
         for writer in state.writers.iter_mut() {
             if is_of(writer, link) {

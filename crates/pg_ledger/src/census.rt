@@ -1,7 +1,7 @@
 //! How many rows each scope has, how many events each rule has refused, and how often links have
 //! ended, as the audit of a life tells it.
 use dist_types::{OutOfMemory, Scope, TryClone};
-use pg_session::DownReason;
+use pg_text::DownReason;
 use policy_audit::{Change, Entry, Rule, Verdict};
 use std::alloc::Global;
 
@@ -14,25 +14,25 @@ struct ScopeRows {
 
 /// How many events a rule has refused.
 #[derive(Clone, Copy, Debug, Drop)]
-pub(crate) struct RuleTimes {
-    pub(crate) rule: Rule,
-    pub(crate) times: u64,
+pub struct RuleTimes {
+    pub rule: Rule,
+    pub times: u64,
 }
 
 /// How many reasons there are for the end of a link.
 const REASONS: usize = DownReason::ALL.len();
 
 #[derive(Drop)]
-pub(crate) struct Census {
+pub struct Census {
     scopes: Vec<ScopeRows>,
     /// By their numbers, ascending.
-    pub(crate) refused: Vec<RuleTimes>,
+    pub refused: Vec<RuleTimes>,
     /// How often links have ended, by the reason, as all are listed.
-    pub(crate) downs: [u64; REASONS],
+    pub downs: [u64; REASONS],
 }
 
 impl Census {
-    pub(crate) fn new(alloc: Global) -> Census {
+    pub fn new(alloc: Global) -> Census {
         Census {
             scopes: Vec::new(alloc),
             refused: Vec::new(alloc),
@@ -41,7 +41,7 @@ impl Census {
     }
 
     /// How often processes are in groups of the scope.
-    pub(crate) fn rows_of(&self, scope: &Scope) -> usize {
+    pub fn rows_of(&self, scope: &Scope) -> usize {
         match self.scopes.iter().find(|counted| counted.scope == *scope) {
             Some(counted) => counted.rows,
             None => 0,
@@ -49,7 +49,7 @@ impl Census {
     }
 
     /// Counts what an entry says. Without memory for it nothing is counted.
-    pub(crate) fn note(&mut self, alloc: Global, entry: &Entry) -> Result<(), OutOfMemory> {
+    pub fn note(&mut self, alloc: Global, entry: &Entry) -> Result<(), OutOfMemory> {
         let changes = entry.change.as_slice();
         for change in changes {
             self.make_room(alloc, &change.scope)?;
@@ -86,7 +86,7 @@ impl Census {
     }
 
     /// Counts the end of a link.
-    pub(crate) fn note_down(&mut self, reason: DownReason) {
+    pub fn note_down(&mut self, reason: DownReason) {
         for (known, times) in DownReason::ALL.iter().zip(self.downs.iter_mut()) {
             if *known == reason {
                 *times = times.saturating_add(1);

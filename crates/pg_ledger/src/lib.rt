@@ -1,0 +1,14 @@
+//! What the audit of a life has said so far that operators are shown: links, scopes, names, refusals, counts, and names that two nodes have.
+#![tactic(auto)]
+
+mod census;
+mod chronicle;
+mod ledger;
+mod refusals;
+mod twins;
+
+pub use census::{Census, RuleTimes};
+pub use chronicle::{Chronicle, Happening};
+pub use ledger::{KnownLinks, Ledger, Look, UpLink};
+pub use refusals::{Refusal, Refusals};
+pub use twins::Twins;
