@@ -29,7 +29,7 @@ impl Hub {
 
     /// Lets them follow, and takes out of the node the pages that it needs no more, behind these: the
     /// creation of the life that they are of.
-    pub fn hand_out<R: Wait + Clock>(&self, rt: &R, pages: &mut Vec<Page>) -> u32 {
+    pub(crate) fn hand_out<R: Wait + Clock>(&self, rt: &R, pages: &mut Vec<Page>) -> u32 {
         let (creation, found) = self.follow_all(rt, Some(pages));
         if let Some(name) = found {
             warn_of_twins(rt, &self.log, &name);

@@ -66,13 +66,13 @@ impl Keeping {
     }
 
     /// So many entries are in the archive, and so many were to be and aren't.
-    pub fn note_archived(&self, archived: u64, lost: u64) {
+    pub(crate) fn note_archived(&self, archived: u64, lost: u64) {
         self.archived.store(archived, Ordering::SeqCst);
         self.lost.store(lost, Ordering::SeqCst);
     }
 
     /// How often the archive was to be opened anew.
-    pub fn reopens(&self) -> u32 {
+    pub(crate) fn reopens(&self) -> u32 {
         self.reopens.load(Ordering::SeqCst)
     }
 

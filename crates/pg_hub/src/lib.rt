@@ -2,6 +2,7 @@
 #![tactic(auto)]
 
 mod answering;
+mod archiving;
 mod asked;
 mod brake;
 mod changing;
@@ -14,7 +15,6 @@ mod logging;
 mod lost;
 mod memory;
 mod notices;
-mod page_queue;
 mod promises;
 mod readers;
 mod reporting;
@@ -28,6 +28,5 @@ pub use brake::{LetThrough, Promise};
 pub use hub::{House, Hub, HubSettings, is_nearly_full};
 pub use keeping::Keeping;
 pub use memory::Memory;
-pub use page_queue::PageQueue;
 pub use readers::Readers;
 pub use signals::Signals;

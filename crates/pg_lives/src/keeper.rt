@@ -1,5 +1,5 @@
 //! A thread that takes out of the node what it keeps no more.
-use crate::closing::Closer;
+use pg_closer::Closer;
 use pg_hub::Hub;
 use std::sync::Wait;
 use std::thread;

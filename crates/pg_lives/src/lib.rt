@@ -1,18 +1,13 @@
 //! The lives of a node: each serves links until its audit has come to the last of its numbers, or memory is wanting; the next one takes
-//! its place behind the same lock, and it is closed behind that. Meanwhile entries that it keeps no more go to the archive.
+//! its place behind the same lock, and it is closed behind that.
 #![tactic(auto)]
 
-mod closing;
 mod keeper;
 mod life;
 mod lives;
-mod recorder;
-mod reserve;
 mod turn;
 
-pub use closing::Closer;
 pub use keeper::keep_on;
 pub use life::Site;
 pub use lives::{finish, live_on};
-pub use recorder::{ArchivePlace, Recorder};
 pub use turn::LifeMaker;

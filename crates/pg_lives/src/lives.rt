@@ -1,9 +1,9 @@
 //! One life after another, until the end of the program.
-use crate::closing::{Closer, EndedLife, not_closed};
 use crate::life::{Site, live};
 use crate::turn::{LifeMaker, last};
 use anyhow::{Result, bail};
 use node_net::{Host, Lane};
+use pg_closer::{Closer, EndedLife, not_closed};
 use pg_hub::Hub;
 use pg_log::{Level, Log, number};
 use std::alloc::Global;

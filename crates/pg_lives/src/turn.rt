@@ -1,5 +1,4 @@
 //! From one life of the node to the next.
-use crate::closing::EndedLife;
 use crate::life::LANES;
 use anyhow::{Result, bail};
 use cookie_digest::ChallengeSource;
@@ -8,6 +7,7 @@ use node_core::NodeCore;
 use node_net::Lane;
 use node_threads::{Node, Pass};
 use pg_archive::Life;
+use pg_closer::EndedLife;
 use pg_hub::{House, Hub, HubSettings, is_nearly_full};
 use pg_session::{Caller, Session};
 use pg_settings::{held, say_all};

@@ -1,11 +1,11 @@
-//! What is done behind the node: lives that have ended are closed, and entries that it keeps no more go to the archive. A thread of
-//! its own does both, so that all stands there in order.
+//! The thread behind a node: it writes pages, and closes lives that have ended behind theirs.
+use crate::archived::Archived;
+use crate::page_queue::PageQueue;
 use crate::recorder::Recorder;
 use crate::reserve::Reserve;
 use anyhow::{Error, Result, anyhow};
 use node_threads::{CloseRule, Node, Pass};
 use pg_archive::Life;
-use pg_hub::{Hub, Keeping, PageQueue};
 use pg_log::Log;
 use policy_audit::{PAGE_SIZE, Page};
 use std::alloc::Global;
@@ -152,10 +152,10 @@ impl<'a> Closer<'a> {
 
     /// Takes pages out of the node, which are written next; without an archive they are let go: whether there were any. The lock is
     /// held meanwhile, so that no life is put in before its pages.
-    pub fn take_pages<R: Wait + Clock>(&self, rt: &R, hub: &Hub) -> bool {
+    pub fn take_pages<R: Wait + Clock, N: Archived>(&self, rt: &R, node: &N) -> bool {
         let mut pages = Vec::new(self.alloc);
         let mut state = self.state.lock(rt);
-        let creation = hub.hand_out(rt, &mut pages);
+        let creation = node.hand_out(rt, &mut pages);
         let are_some = !pages.is_empty();
         if !are_some || self.archive.is_none() {
             return are_some;
@@ -224,12 +224,12 @@ impl<'a> Closer<'a> {
     }
 
     /// Does what is put in, until the end. A life that isn't closed ends the program.
-    pub fn work<R: Wait + Clock>(&self, rt: &R, hub: &Hub) {
+    pub fn work<R: Wait + Clock, N: Archived>(&self, rt: &R, node: &N) {
         for _ in rt.forever() {
-            let may_write = self.look(rt, &hub.log, &hub.keeping);
+            let may_write = self.look(rt, node);
             match self.take(rt, may_write) {
-                Task::Write(page) => self.write(rt, &hub.log, &hub.keeping, &page),
-                Task::Close(life) => self.close_one(rt, hub, life),
+                Task::Write(page) => self.write(rt, node, &page),
+                Task::Close(life) => self.close_one(rt, node, life),
                 Task::Look => {}
                 Task::End => return,
             }
@@ -244,43 +244,43 @@ impl<'a> Closer<'a> {
     }
 
     /// Opens the archive's file anew if that is asked for, and writes what waits there: whether it takes more.
-    fn look<R: Wait + Clock>(&self, rt: &R, log: &Log, keeping: &Keeping) -> bool {
+    fn look<R: Wait + Clock, N: Archived>(&self, rt: &R, node: &N) -> bool {
         let Some(archive) = &self.archive else {
             return true;
         };
         let lost = self.take_lost(rt);
         let mut archive = archive.lock(rt);
         archive.count_lost(lost.saturating_mul(PAGE));
-        let is_open = archive.reopen(rt, self.alloc, keeping.reopens(), log);
-        let may_write = is_open && archive.flush(rt, self.alloc, log);
-        archive.tell(keeping);
+        let is_open = archive.reopen(rt, self.alloc, node.reopens(), node.log());
+        let may_write = is_open && archive.flush(rt, self.alloc, node.log());
+        archive.tell(node);
         may_write
     }
 
-    fn write<R: Wait + Clock>(&self, rt: &R, log: &Log, keeping: &Keeping, page: &Page) {
+    fn write<R: Wait + Clock, N: Archived>(&self, rt: &R, node: &N, page: &Page) {
         if let Some(archive) = &self.archive {
             let mut archive = archive.lock(rt);
-            archive.write(rt, self.alloc, page.as_slice(), log);
-            archive.tell(keeping);
+            archive.write(rt, self.alloc, page.as_slice(), node.log());
+            archive.tell(node);
         }
     }
 
-    fn close_one<R: Wait + Clock>(&self, rt: &R, hub: &Hub, mut life: EndedLife) {
+    fn close_one<R: Wait + Clock, N: Archived>(&self, rt: &R, node: &N, mut life: EndedLife) {
         let next = life.next.take();
-        let closed = self.close(rt, hub.alloc, life, &hub.log);
+        let closed = self.close(rt, self.alloc, life, node.log());
         let has_failed = closed.is_err();
         if let Some(next) = next {
-            self.turn(rt, hub, &next);
+            self.turn(rt, node, &next);
         }
         self.reserve.take(rt);
         self.note(rt, closed);
         if has_failed {
-            hub.quit(rt);
+            node.quit(rt);
         }
     }
 
     /// What is written from now on is of the next life.
-    fn turn<R: Wait>(&self, rt: &R, hub: &Hub, next: &Life) {
+    fn turn<R: Wait, N: Archived>(&self, rt: &R, node: &N, next: &Life) {
         let mut state = self.state.lock(rt);
         let none = PageQueue::new(self.alloc, self.most);
         state.pages = replace(&mut state.later, none);
@@ -289,7 +289,7 @@ impl<'a> Closer<'a> {
         if let Some(archive) = &self.archive {
             let is_begun = archive.lock(rt).begin(next);
             if is_begun.is_err() {
-                hub.want_memory(rt);
+                node.want_memory(rt);
             }
         }
     }

@@ -1,9 +1,9 @@
 //! The archive of a node: its entries as lines of a file, in order, each once.
+use crate::archived::Archived;
 use anyhow::{Result, bail};
 use archive_files::{Archive, ArchiveFiles, Opened, open};
 use dist_types::OutOfMemory;
 use pg_archive::Life;
-use pg_hub::Keeping;
 use pg_log::{Level, Log, number, text};
 use policy_audit::{Audit, Entry};
 use std::alloc::Global;
@@ -157,9 +157,9 @@ impl<'a> Recorder<'a> {
         }
     }
 
-    /// Tells how many entries are in the archive, and how many aren't.
-    pub fn tell(&self, keeping: &Keeping) {
-        keeping.note_archived(self.archive.archived(), self.archive.lost());
+    /// Tells the node how many entries are in the archive, and how many aren't.
+    pub fn tell<N: Archived>(&self, node: &N) {
+        node.note_archived(self.archive.archived(), self.archive.lost());
     }
 
     /// An error where entries are lost, one among them of which the file has a part.
