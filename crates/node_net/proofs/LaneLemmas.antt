@@ -26,7 +26,8 @@ use Rattle.node_threads.specs.Serving.{HasRead, HasWritten}
 use Rattle.node_threads.specs.Drawing.{challenges, challenges_in, Draws}
 use Rattle.node_threads.proofs.Openings.{draws_one, draws_then, read_calls, written_calls}
 use Rattle.node_threads.proofs.Answered.{accepted, Adds, gains_none, refused, strange, unheard}
-use specs.LaneCalls.{AreOf, IsLane, IsLinkEvent, IsOpening, link_opened, Opens, own_links, Pair}
+use specs.LaneCalls.{AreOf, IsLane, IsLinkEvent, IsOpening, link_opened, Opens, OpensNext}
+use specs.LaneCalls.{own_links, Pair}
 use specs.LaneCalls.{words_of}
 use Rattle.policy_audit.specs.declared.entry.Verdict.TheVariants as verdicts
 
@@ -194,6 +195,27 @@ module _ (lane lane' : Pair) (e : Event) (told : Option ℕ) (opens : Opens e to
               (challenges r ++ lane.challenge ∷ []) (lane'.challenge ∷ []) is.drawn.1
               (draws_one (words_of lane.left) (words_of lane'.left) lane'.challenge drawn)),
         )
+  ]
+
+  -- it has drawn for its call
+  pub opened_next : length lane.reader.calls < length lane'.reader.calls
+      → (lane'.challenge, words_of lane'.left) ≡ next_u32 (words_of lane.left) → OpensNext lane lane'
+  opened_next many drawn = elim opens.at_most_one [
+    | inl none ↦ absurd (omega (arith, many, counted, ap (λ (cs : List Call). length cs) none))
+    | inr one ↦ (
+      opens.more,
+      opens.gains,
+      writer,
+      rw one.1 (refl, draws_one (words_of lane.left) (words_of lane'.left) lane'.challenge drawn),
+    )
+  ]
+
+  -- it has made no call, and drawn nothing
+  pub kept_next : length lane'.reader.calls ≤ length lane.reader.calls
+      → lane'.challenge ≡ lane.challenge → lane'.left ≡ lane.left → OpensNext lane lane'
+  kept_next few kept left = elim opens.at_most_one [
+    | inl none ↦ (opens.more, opens.gains, writer, rw none (kept, left))
+    | inr one ↦ absurd (omega (arith, few, counted, ap (λ (cs : List Call). length cs) one.1))
   ]
 
 -- ---- a link that is served

@@ -74,6 +74,18 @@ pub record IsBegun (reader : Record) (writer : Record) (source : ChaCha) (lane :
   pub writer_is : lane.writer ≡ writer
   pub drawn : Draws (words_of source) (lane.challenge ∷ []) (words_of lane.left)
 
+-- without a call neither the challenge nor the generator changes; behind one call the next word of
+-- the same generator is for the next link
+abbrev pub DrawsFor : List Call → Pair → Pair → Type 0
+DrawsFor [] lane lane' = (lane'.challenge ≡ lane.challenge) × (lane'.left ≡ lane.left)
+DrawsFor (c ∷ calls) lane lane' =
+    (calls ≡ []) × Draws (words_of lane.left) (lane'.challenge ∷ []) (words_of lane'.left)
+
+-- the reader has made one call or none, and drawn for it
+abbrev pub OpensNext : Pair → Pair → Type 0
+OpensNext lane lane' = (more : List Call) × Gains lane.reader more lane'.reader
+    × (lane'.writer ≡ lane.writer) × DrawsFor more lane lane'
+
 -- one of the passes has been used before
 abbrev pub IsUsed : Record → Record → Type 0
 IsUsed reader writer = ((reader.calls ≡ []) × (writer.calls ≡ [])) → ⊥

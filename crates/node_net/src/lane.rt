@@ -1,7 +1,7 @@
 //! A lane: two passes that serve one link after another.
 ghost use Rattle.std.specs.Prelude.{◌≡◌, ℕ, IfOk, IfErr, IfSome};
 ghost use Rattle.std.specs.List.{Contains};
-ghost use Rattle.node_net.specs.LaneCalls.{IsLane, IsBegun, IsUsed, IsOpening, Opens, own_links};
+ghost use Rattle.node_net.specs.LaneCalls.{IsLane, IsBegun, IsUsed, IsOpening, Opens, OpensNext, own_links};
 
 use cookie_digest::ChallengeSource;
 use node_threads::{Connection, Gate, LinkOut, Node, Pair, Pass, serve_link};
@@ -107,7 +107,8 @@ impl Lane {
     /// Opens a link with its challenge: its number, unless the node refuses it. A call that makes an entry uses the challenge up.
     pub(crate) fn open<R: Wait>(&mut self, rt: &R, node: &Node, event: Event) -> Option<u32>
         requires opening { IsOpening self.old.challenge event }
-        ensures { IfSome result (Contains (own_links self.new.reader.calls)) }
+        ensures own { IfSome result (Contains (own_links self.new.reader.calls)) }
+        ensures next { OpensNext self.old self.new }
     {
         let before = self.reader.count();
         let link = open_link(&mut self.reader, rt, node, event);
@@ -132,6 +133,7 @@ impl Lane {
         W: LinkOut + Send + Drop,
         G: Gate,
         requires own { Contains (own_links self.reader.calls) connection.link }
+        ensures kept { (result.challenge ≡ self.challenge) × (result.left ≡ self.left) }
     {
         let Lane {
             reader,

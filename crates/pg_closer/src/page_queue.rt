@@ -1,5 +1,5 @@
 //! Pages that were handed out of an audit, until they are written.
-ghost use Rattle.std.specs.Prelude.{◌≡◌, ◌++◌, ◌∷◌, [], IfOk, IfErr, IfNone, OnErr, option_to_list};
+ghost use Rattle.std.specs.Prelude.{◌≡◌, ◌++◌, ◌∷◌, ◌≤◌, [], length, IfOk, IfErr, IfNone, OnErr, OnSome, option_to_list};
 
 use policy_audit::Page;
 use std::alloc::Global;
@@ -16,18 +16,17 @@ pub struct PageQueue {
 }
 
 impl Model for PageQueue {
-    ghost use Rattle.std.specs.Prelude.{List};
-    ghost use Rattle.policy_audit.specs.declared.entry.Entry.{Entry};
+    ghost use Rattle.pg_closer.specs.Waiting.{Waiting};
 
-    ghost Value = { List (List Entry) };
+    ghost Value = { Waiting };
 
-    ghost view = { λ queue. queue.pages.items };
+    ghost view = { λ queue. record { pages = queue.pages.items; most = queue.most } };
 }
 
 impl PageQueue {
     /// None wait, and so many may.
     pub fn new(alloc: Global, most: usize) -> PageQueue
-        ensures { result ≡ [] }
+        ensures { result ≡ record { pages = []; most = most } }
     {
         PageQueue {
             pages: VecDeque::new(alloc),
@@ -36,7 +35,9 @@ impl PageQueue {
     }
 
     /// How many wait.
-    pub fn len(&self) -> usize {
+    pub fn len(&self) -> usize
+        ensures { result ≡ length self.now.pages }
+    {
         self.pages.len()
     }
 
@@ -44,7 +45,12 @@ impl PageQueue {
     /// no more. Without memory the page comes back itself.
     pub fn add(&mut self, page: Page) -> Result<Option<Page>, Page>
         ensures order { IfOk result (λ oldest.
-            self.old ++ page ∷ [] ≡ option_to_list oldest ++ self.new) }
+            self.old.pages ++ page ∷ [] ≡ option_to_list oldest ++ self.new.pages) }
+        ensures full { IfOk result (λ oldest.
+            OnSome oldest (self.old.most ≤ length self.old.pages)) }
+        ensures room { IfOk result (λ oldest.
+            IfNone oldest (length self.new.pages ≤ self.old.most)) }
+        ensures most { self.new.most ≡ self.old.most }
         ensures memory { IfErr result (λ back. back ≡ page) }
         ensures same { OnErr result (self.new ≡ self.old) }
     {
@@ -57,8 +63,9 @@ impl PageQueue {
 
     /// Takes the oldest one out.
     pub fn take(&mut self) -> Option<Page>
-        ensures order { self.old ≡ option_to_list result ++ self.new }
-        ensures none { IfNone result (self.old ≡ []) }
+        ensures order { self.old.pages ≡ option_to_list result ++ self.new.pages }
+        ensures none { IfNone result (self.old.pages ≡ []) }
+        ensures most { self.new.most ≡ self.old.most }
     {
         self.pages.pop_front()
     }
