@@ -1,7 +1,7 @@
 //! Calls that may tell peers wait while frames gather faster than they are written, so that a burst
 //! ends no link of a peer that reads. What is let through counts as if it waited until the next look
 //! at the links, so that all that find room have it, and few calls need a look.
-ghost use Rattle.std.specs.Prelude.{◌≡◌, ◌/◌};
+ghost use Rattle.std.specs.Prelude.{◌≡◌, ◌/◌, ℕ};
 ghost use Rattle.std.specs.Str.{bytes_eq};
 ghost use Rattle.pg_hub.specs.Brake.{frames_of, frames_for, frames_of_an_exit, named_in};
 ghost use Rattle.pg_hub.specs.Brake.{moves, announces};
@@ -155,7 +155,9 @@ fn is(word: &[u8], text: &str) -> bool
 
 impl Hub {
     /// What the call of a line of this seat may owe.
-    pub fn promise_of_line<R: Wait>(&self, rt: &R, seat: usize, line: &[u8]) -> Promise {
+    pub fn promise_of_line<R: Wait>(&self, rt: &R, seat: usize, line: &[u8]) -> Promise
+        ensures { (rows : ℕ) × (result ≡ frames_of line.now rows) }
+    {
         let (word, _) = first_word(line);
         let rows = if is(word, "exit") {
             self.rows_of(rt, seat)
