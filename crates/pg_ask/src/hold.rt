@@ -37,23 +37,27 @@ impl Hold {
             return Ok(said.status());
         }
         bell.answer(rt);
+        let mut process = talk.take_line();
         for _ in rt.forever() {
-            if talk.next()? == Said::News && self.is_out(talk.line.as_slice()) {
-                let said = self.join(talk)?;
-                if said != Said::Done {
-                    return Ok(said.status());
-                }
+            if talk.next()? != Said::News {
+                continue;
             }
+            if talk.line.as_slice() == self.stopped.as_bytes() {
+                // It lives on without its group, and would count for nothing.
+                talk.ask(line_of(self.alloc, "exit ", process.as_slice())?.as_str())?;
+            } else if !talk.line.starts_with(b"! restarted ") {
+                continue;
+            }
+            let said = self.join(talk)?;
+            if said != Said::Done {
+                return Ok(said.status());
+            }
+            process = talk.take_line();
         }
         unreachable!()
     }
 
-    /// Whether the process is out of the group behind this line.
-    fn is_out(&self, line: &[u8]) -> bool {
-        line.starts_with(b"! restarted ") || line == self.stopped.as_bytes()
-    }
-
-    /// Spawns a process that joins, and shows it; or shows why it can't.
+    /// Spawns a process that joins, and shows it, which is then the last line; or shows why it can't.
     fn join<R: Print>(&self, talk: &mut Talk<'_, R>) -> Result<Said, Fault> {
         let mut said = self.try_join(talk)?;
         for _ in 0..TRIES {
@@ -79,20 +83,20 @@ impl Hold {
             return Ok(spawned);
         }
         let process = talk.take_line();
-        let line = self.join_of(process.as_slice())?;
+        let line = line_of(self.alloc, self.join.as_str(), process.as_slice())?;
         let said = talk.ask(line.as_str())?;
         if said == Said::Done {
             talk.line = process;
         }
         Ok(said)
     }
+}
 
-    /// The line for a process to join, by the answer that named it.
-    fn join_of(&self, answer: &[u8]) -> Result<String, Fault> {
-        let text = str::from_utf8(answer).unwrap_or("");
-        match text.strip_prefix("pid ") {
-            Some(pid) => Ok(format!(in self.alloc; "{}{pid}\n", self.join)?),
-            None => Err(Fault::of(anyhow!("the process has no name"))),
-        }
+/// A line of these words and a process, by the answer that named it.
+fn line_of(alloc: Global, words: &str, answer: &[u8]) -> Result<String, Fault> {
+    let text = str::from_utf8(answer).unwrap_or("");
+    match text.strip_prefix("pid ") {
+        Some(pid) => Ok(format!(in alloc; "{words}{pid}\n")?),
+        None => Err(Fault::of(anyhow!("the process has no name"))),
     }
 }

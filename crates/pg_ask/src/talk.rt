@@ -86,24 +86,33 @@ impl<'a, R: Print> Talk<'a, R> {
         replace(&mut self.line, Vec::new(self.alloc))
     }
 
-    /// Shows the last line.
-    pub fn print(&mut self) -> Result<(), Fault> {
-        if self.show.is_json {
-            match json_of(self.alloc, self.line.as_slice()) {
-                Ok(text) => self.line = text,
-                Err(fault) => return Err(Fault::of(anyhow!("{fault}"))),
-            }
-        }
-        self.line.push(b'\n')?;
-        match self.put_out() {
+    /// Shows the last line, which stays as it came.
+    pub fn print(&self) -> Result<(), Fault> {
+        let shown = self.shown()?;
+        match self.put_out(shown.as_slice()) {
             Ok(()) => Ok(()),
             Err(error) => Err(Fault::of_output(error)),
         }
     }
 
-    fn put_out(&self) -> io::Result<()> {
+    /// The last line as it is shown, with its line feed.
+    fn shown(&self) -> Result<Vec<u8>, Fault> {
+        let line = self.line.as_slice();
+        let mut shown = if self.show.is_json {
+            match json_of(self.alloc, line) {
+                Ok(text) => text,
+                Err(fault) => return Err(Fault::of(anyhow!("{fault}"))),
+            }
+        } else {
+            line.to_vec(self.alloc)?
+        };
+        shown.push(b'\n')?;
+        Ok(shown)
+    }
+
+    fn put_out(&self, bytes: &[u8]) -> io::Result<()> {
         let mut writer = io::writer(self.rt);
-        writer.write_all(self.line.as_slice())?;
+        writer.write_all(bytes)?;
         writer.flush()
     }
 }

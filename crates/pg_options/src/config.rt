@@ -1,4 +1,5 @@
 //! A file of settings: the options' names as keys, in TOML. What the command line says goes first.
+use crate::cookies::{IS_OPEN, is_open};
 use crate::fault::{Fault, misused, unread};
 use crate::rows::{ROWS, Takes};
 use anyhow::anyhow;
@@ -34,6 +35,8 @@ impl<T: Drop> From<AllocFailed<T>> for Unset {
 struct File<'a> {
     path: &'a str,
     text: &'a str,
+    /// Whether others can read it, or its group write it.
+    is_open: bool,
 }
 
 /// The words of the command line, and behind them, as words, what the file of `--config` says that
@@ -58,24 +61,28 @@ fn add_file<R: Files>(
     path: &str,
     words: &mut Vec<String>,
 ) -> Result<(), Fault> {
-    match fs::read(&(rt, alloc), path) {
-        Ok(bytes) => add_bytes(alloc, matches, path, bytes.as_slice(), words),
-        Err(error) => Err(unread("--config", path, error)),
-    }
-}
-
-fn add_bytes(
-    alloc: Global,
-    matches: &ArgMatches<'_>,
-    path: &str,
-    bytes: &[u8],
-    words: &mut Vec<String>,
-) -> Result<(), Fault> {
-    let Ok(text) = str::from_utf8(bytes) else {
+    let (bytes, is_open) = match (fs::read(&(rt, alloc), path), is_open(rt, path)) {
+        (Ok(bytes), Ok(is_open)) => (bytes, is_open),
+        (Err(error), _) | (_, Err(error)) => return Err(unread("--config", path, error)),
+    };
+    let Ok(text) = str::from_utf8(bytes.as_slice()) else {
         return Err(misused(anyhow!("--config: {path:.60}: it isn't UTF-8")));
     };
-    let file = File { path, text };
-    match toml::table_from_str(alloc, text) {
+    let file = File {
+        path,
+        text,
+        is_open,
+    };
+    add_text(alloc, matches, file, words)
+}
+
+fn add_text(
+    alloc: Global,
+    matches: &ArgMatches<'_>,
+    file: File<'_>,
+    words: &mut Vec<String>,
+) -> Result<(), Fault> {
+    match toml::table_from_str(alloc, file.text) {
         Ok(table) => add_table(alloc, matches, file, &table, words),
         Err(error) if error.is_memory() => Err(Fault::of_memory()),
         Err(error) => Err(unparsed(file, &error)),
@@ -83,7 +90,7 @@ fn add_bytes(
 }
 
 fn unparsed(file: File<'_>, error: &TomlError) -> Fault {
-    let File { path, text } = file;
+    let File { path, text, .. } = file;
     let start = match error.span() {
         Some(span) => span.start,
         None => 0,
@@ -123,7 +130,12 @@ fn add_table(
     words: &mut Vec<String>,
 ) -> Result<(), Fault> {
     for (key, value) in table {
-        if let Err(unset) = add(alloc, matches, key.as_str(), value, words) {
+        let added = if file.is_open && key.as_str() == "cookie" && !is_said(matches, "cookie") {
+            Err(Unset::Wrong(IS_OPEN))
+        } else {
+            add(alloc, matches, key.as_str(), value, words)
+        };
+        if let Err(unset) = added {
             return Err(untaken(file, key.as_str(), unset));
         }
     }
@@ -131,7 +143,7 @@ fn add_table(
 }
 
 fn untaken(file: File<'_>, key: &str, unset: Unset) -> Fault {
-    let File { path, text } = file;
+    let File { path, text, .. } = file;
     let reason = match unset {
         Unset::OutOfMemory => return Fault::of_memory(),
         Unset::Wrong(reason) => reason,

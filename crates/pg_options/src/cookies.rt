@@ -13,6 +13,9 @@ use std::os::unix::fs::PermissionsExt;
 /// The bits of a file's mode that let its group write it, or others do anything with it.
 const OTHERS: u32 = 0o037;
 
+/// Why a file with such a mode isn't taken for a secret.
+pub const IS_OPEN: &str = "others can read this file, or its group write it (chmod 600)";
+
 pub fn own_cookie<R: Files>(
     rt: &R,
     alloc: Global,
@@ -36,15 +39,12 @@ fn shown_cookie(alloc: Global, text: &str) -> Result<Cookie, Fault> {
     }
 }
 
-/// The cookie in a file, which ends with its first line. Others than the owner and the group, which may read it, may have no right
-/// to the file. A fault names the option.
+/// The cookie in a file, which is its only line. Others than the owner and the group, which may read
+/// it, may have no right to the file. A fault names the option.
 fn read_cookie<R: Files>(rt: &R, alloc: Global, option: &str, path: &str) -> Result<Cookie, Fault> {
-    match mode_of(rt, path) {
-        Ok(mode) if mode & OTHERS == 0 => {}
-        Ok(_) => {
-            let reason = "others can read this file, or its group write it (chmod 600)";
-            return Err(unfit(option, path, reason));
-        }
+    match is_open(rt, path) {
+        Ok(false) => {}
+        Ok(true) => return Err(unfit(option, path, IS_OPEN)),
         Err(error) => return Err(unread(option, path, error)),
     }
     match fs::read(&(rt, alloc), path) {
@@ -53,12 +53,17 @@ fn read_cookie<R: Files>(rt: &R, alloc: Global, option: &str, path: &str) -> Res
     }
 }
 
-fn mode_of<R: Files>(rt: &R, path: &str) -> io::Result<u32> {
-    Ok(fs::metadata(rt, path)?.permissions().mode())
+/// Whether others can read a file, or its group write it.
+pub fn is_open<R: Files>(rt: &R, path: &str) -> io::Result<bool> {
+    Ok(fs::metadata(rt, path)?.permissions().mode() & OTHERS != 0)
 }
 
 fn parse_cookie(alloc: Global, option: &str, path: &str, text: &[u8]) -> Result<Cookie, Fault> {
-    match Cookie::parse(alloc, first_line(text)) {
+    let (line, rest) = first_line(text);
+    if !rest.iter().all(|byte| ends_line(*byte)) {
+        return Err(unfit(option, path, "more than one line"));
+    }
+    match Cookie::parse(alloc, line) {
         Ok(cookie) => Ok(cookie),
         Err(fault) => Err(unfit(option, path, fault)),
     }
@@ -69,13 +74,18 @@ fn unfit<D: Display + Drop>(option: &str, path: &str, reason: D) -> Fault {
     failed(anyhow!("{option}: {path:.60}: {reason}"))
 }
 
-fn first_line(text: &[u8]) -> &[u8] {
+/// The first line, and what stands behind it.
+fn first_line(text: &[u8]) -> (&[u8], &[u8]) {
     for (i, byte) in text.iter().enumerate() {
-        if *byte == b'\n' || *byte == b'\r' {
-            return &text[..i];
+        if ends_line(*byte) {
+            return text.split_at(i);
         }
     }
-    text
+    (text, &[])
+}
+
+fn ends_line(byte: u8) -> bool {
+    byte == b'\n' || byte == b'\r'
 }
 
 /// Adds the cookies for single peers.

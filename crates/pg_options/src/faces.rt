@@ -71,13 +71,18 @@ fn mode_of(option: &str, word: &str) -> Result<u32, Fault> {
 
 /// The address of the page: one of this machine alone, unless it may be any.
 fn http<'a>(matches: &ArgMatches<'a>) -> Result<Option<&'a str>, Fault> {
+    let is_anywhere = matches.get_flag("http-anywhere");
     let Some(word) = matches.get_str("http") else {
-        return Ok(None);
+        return if is_anywhere {
+            Err(alone("http-anywhere", "http"))
+        } else {
+            Ok(None)
+        };
     };
     let Ok(address) = SocketAddr::parse_ascii(word.as_bytes()) else {
         return Err(refused("--http", "no ADDR:PORT", word));
     };
-    if address.ip().is_loopback() || matches.get_flag("http-anywhere") {
+    if address.ip().is_loopback() || is_anywhere {
         return Ok(Some(word));
     }
     let reason = "others than this machine reach it; --http-anywhere lets them";

@@ -1,7 +1,8 @@
 //! How stock nodes of Erlang/OTP are linked.
-use crate::fault::Fault;
+use crate::fault::{Fault, misused};
 use crate::usual::EPMD;
 use crate::words::{place, target};
+use anyhow::anyhow;
 use clap::ArgMatches;
 use dial_targets::{EpmdUse, PeerKind, Target};
 use std::alloc::Global;
@@ -19,11 +20,30 @@ pub struct OtpOptions<'a> {
 
 /// How stock nodes are linked, as the command line says.
 pub fn read_otp<'a>(matches: &ArgMatches<'a>) -> Result<OtpOptions<'a>, Fault> {
+    let listen = place("--otp-listen", matches.get_str("otp-listen"))?;
+    let epmd = matches.get_one::<u16>("epmd");
+    let is_linked = listen.is_some() || matches.get_strs("otp-dial").is_some();
+    if let Some(option) = idle(matches, epmd)
+        && !is_linked
+    {
+        return Err(misused(anyhow!("--{option}: there is no --otp-listen and no --otp-dial")));
+    }
     Ok(OtpOptions {
-        listen: place("--otp-listen", matches.get_str("otp-listen"))?,
+        listen,
         kind: kind(matches),
-        epmd: matches.get_one::<u16>("epmd"),
+        epmd,
     })
+}
+
+/// An option that says more of links with stock nodes, if one is given.
+fn idle(matches: &ArgMatches<'_>, epmd: Option<u16>) -> Option<&'static str> {
+    if matches.get_flag("otp-visible") {
+        Some("otp-visible")
+    } else if epmd.is_some() {
+        Some("epmd")
+    } else {
+        None
+    }
 }
 
 fn kind(matches: &ArgMatches<'_>) -> PeerKind {
