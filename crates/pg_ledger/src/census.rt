@@ -1,5 +1,7 @@
 //! How many rows each scope has, how many events each rule has refused, and how often links have
 //! ended, as the audit of a life tells it.
+ghost use Rattle.std.specs.Prelude.{◌≤◌, IfErr, vec_len};
+
 use dist_types::{OutOfMemory, Scope, TryClone};
 use pg_text::DownReason;
 use policy_audit::{Change, Entry, Rule, Verdict};
@@ -48,33 +50,42 @@ impl Census {
         }
     }
 
-    /// Counts what an entry says. Without memory for it nothing is counted.
-    pub fn note(&mut self, alloc: Global, entry: &Entry) -> Result<(), OutOfMemory> {
+    /// Makes room to count an entry. To do so twice is the same.
+    pub fn make_room(&mut self, alloc: Global, entry: &Entry) -> Result<(), OutOfMemory> {
         let changes = entry.change.as_slice();
+        if !changes.is_empty() {
+            // One that has no rows has stopped, or is counted anew.
+            self.scopes.retain(|counted| counted.rows > 0);
+        }
         for change in changes {
-            self.make_room(alloc, &change.scope)?;
+            self.make_room_for(alloc, &change.scope)?;
         }
         if let Verdict::Refused(rule) = &entry.verdict {
-            self.refuse(*rule)?;
-        }
-        for change in changes {
-            self.count(change);
+            self.make_room_for_rule(*rule)?;
         }
         Ok(())
     }
 
-    fn make_room(&mut self, alloc: Global, scope: &Scope) -> Result<(), OutOfMemory> {
+    /// Counts what an entry says for which room was made.
+    pub fn count(&mut self, entry: &Entry) {
+        for change in entry.change.as_slice() {
+            self.count_rows(change);
+        }
+        if let Verdict::Refused(rule) = &entry.verdict {
+            self.count_refused(*rule);
+        }
+    }
+
+    fn make_room_for(&mut self, alloc: Global, scope: &Scope) -> Result<(), OutOfMemory> {
         if self.scopes.iter().any(|counted| counted.scope == *scope) {
             return Ok(());
         }
-        // One that has no rows has stopped, or may be counted anew.
-        self.scopes.retain(|counted| counted.rows > 0);
         let scope = scope.try_clone(alloc)?;
         self.scopes.push(ScopeRows { scope, rows: 0 })?;
         Ok(())
     }
 
-    fn count(&mut self, change: &Change) {
+    fn count_rows(&mut self, change: &Change) {
         for counted in self.scopes.iter_mut() {
             if counted.scope == change.scope {
                 for group in change.groups.as_slice() {
@@ -94,18 +105,25 @@ impl Census {
         }
     }
 
-    fn refuse(&mut self, rule: Rule) -> Result<(), OutOfMemory> {
-        match self
-            .refused
-            .binary_search_by(|known| known.rule.number().cmp(&rule.number()))
-        {
-            Ok(place) => {
-                if let Some(known) = self.refused.get_mut(place) {
-                    known.times = known.times.saturating_add(1);
-                }
-            }
-            Err(place) => self.refused.insert(place, RuleTimes { rule, times: 1 })?,
+    fn make_room_for_rule(&mut self, rule: Rule) -> Result<(), OutOfMemory> {
+        if let Err(place) = self.place_of(rule) {
+            self.refused.insert(place, RuleTimes { rule, times: 0 })?;
         }
         Ok(())
+    }
+
+    fn count_refused(&mut self, rule: Rule) {
+        if let Ok(place) = self.place_of(rule)
+            && let Some(known) = self.refused.get_mut(place)
+        {
+            known.times = known.times.saturating_add(1);
+        }
+    }
+
+    fn place_of(&self, rule: Rule) -> Result<usize, usize>
+        ensures { IfErr result (λ place. place ≤ vec_len self.now.refused) }
+    {
+        self.refused
+            .binary_search_by(|known| known.rule.number().cmp(&rule.number()))
     }
 }

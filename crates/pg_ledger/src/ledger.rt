@@ -1,4 +1,13 @@
 //! What the audit of a life has said so far that is reported.
+ghost use Rattle.std.specs.Prelude.{◌≡◌, ◌==◌, cond, List, [], OnOk, OnErr};
+ghost use Rattle.std.specs.List.{list_any};
+ghost use Rattle.dist_types.specs.Listing.{same};
+ghost use Rattle.policy_audit.specs.declared.entry.Entry.{Entry};
+ghost use Rattle.policy_audit.specs.History.{History, creation};
+ghost use Rattle.pg_ledger.specs.Telling.{NotesEntry, nothing, told_of};
+ghost use Rattle.pg_ledger.specs.Following.{IsBehind, IsBetween, NotesBut};
+
+use crate::account::Account;
 use crate::census::Census;
 use crate::chronicle::Chronicle;
 use crate::refusals::Refusals;
@@ -6,7 +15,7 @@ use dial_targets::PeerKind;
 use dist_types::{NodeName, OutOfMemory, Scope, TryClone};
 use node_core::NodeCore;
 use pg_text::DownReason;
-use policy_audit::{Entry, Event, Reply, Verdict};
+use policy_audit::{Entry, Event, Later, Reply, Rule, Verdict};
 use std::alloc::Global;
 use std::net::SocketAddr;
 use std::sync::Wait;
@@ -70,19 +79,14 @@ impl<R: Wait + Clock, L: KnownLinks + Copy> Look<'_, R, L> {
 pub struct Ledger {
     /// In the order in which they came up.
     pub links: Vec<UpLink>,
-    /// The scopes that run, ascending.
-    pub scopes: Vec<Scope>,
-    /// The names that may connect, ascending; all may, where there are none.
-    pub allowed: Vec<NodeName>,
     pub refusals: Refusals,
     /// What has happened to links, for the log.
     pub chronicle: Chronicle,
     /// How many rows scopes have, what was refused by which rule, and how links have ended.
     pub census: Census,
-    /// How many events were refused.
-    pub refused: usize,
-    /// How much of the audit was looked at, and of which life.
-    entries: usize,
+    /// What it says of the node alone, and how much of it was looked at.
+    account: Account,
+    /// Of which life that is.
     creation: u32,
 }
 
@@ -90,35 +94,56 @@ impl Drop for Ledger {
     fn drop(self) {
         let Ledger {
             links: _,
-            scopes: _,
-            allowed: _,
             refusals: _,
             chronicle: _,
             census: _,
-            refused: _,
-            entries: _,
+            account: _,
             creation: _,
         } = self;
     }
 }
 
 impl Ledger {
-    pub fn new(alloc: Global) -> Ledger {
+    /// That of no life.
+    pub fn new(alloc: Global) -> Ledger
+        ensures account { result.account ≡ nothing }
+        ensures life { result.creation ≡ 0 }
+    {
         Ledger {
             links: Vec::new(alloc),
-            scopes: Vec::new(alloc),
-            allowed: Vec::new(alloc),
             refusals: Refusals::new(alloc),
             chronicle: Chronicle::new(alloc),
             census: Census::new(alloc),
-            refused: 0,
-            entries: 0,
+            account: Account::new(alloc),
             creation: 0,
         }
     }
 
+    /// The scopes that run, ascending.
+    pub fn scopes(&self) -> &[Scope]
+        ensures { result.now ≡ self.now.account.scopes }
+    {
+        self.account.scopes()
+    }
+
+    /// The names that may connect, ascending; all may, where there are none.
+    pub fn allowed(&self) -> &[NodeName]
+        ensures { result.now ≡ self.now.account.allowed }
+    {
+        self.account.allowed()
+    }
+
+    /// How many events were refused.
+    pub fn refused(&self) -> usize
+        ensures { result ≡ self.now.account.refused }
+    {
+        self.account.refused()
+    }
+
     /// Whether a link of this peer is up.
-    pub fn is_up(&self, peer: &NodeName) -> bool {
+    pub fn is_up(&self, peer: &NodeName) -> bool
+        ensures { result ≡ list_any (λ link. same link.peer peer.now) self.now.links.items }
+    {
         self.links.iter().any(|link| link.peer == *peer)
     }
 
@@ -133,25 +158,79 @@ impl Ledger {
         &mut self,
         look: &Look<'_, R, L>,
         core: &NodeCore,
-    ) -> Result<(), OutOfMemory> {
-        if self.creation != core.creation() {
-            *self = Ledger::new(look.alloc);
-            self.creation = core.creation();
+    ) -> Result<(), OutOfMemory>
+        ensures told { OnOk result ((h : History)
+            → IsBehind self.old.account self.old.creation h core.now
+            → self.new.account ≡ told_of core.now.history) }
+        ensures part { OnErr result ((h : History)
+            → IsBehind self.old.account self.old.creation h core.now
+            → IsBetween self.new.account core.now) }
+        ensures life { self.new.creation ≡ creation core.now.history }
+    {
+        self.begin(look.alloc, core.creation());
+        let seen = self.account.entries();
+        self.look_at_all(look, core.audit().after(seen))?;
+        self.end_slow(core, seen);
+        Ok(())
+    }
+
+    /// Begins anew where this is another life.
+    fn begin(&mut self, alloc: Global, life: u32)
+        ensures account { self.new.account
+            ≡ cond (self.old.creation == life) self.old.account nothing }
+        ensures life { self.new.creation ≡ life }
+    {
+        if self.creation != life {
+            *self = Ledger::new(alloc);
+            self.creation = life;
         }
-        let seen = self.entries;
-        for entry in core.audit().after(seen) {
-            self.note(look, entry)?;
-            self.census.note(look.alloc, entry)?;
-            self.entries = self.entries.saturating_add(1);
-        }
-        if self.entries > seen {
-            self.end_slow(core);
+    }
+
+    fn look_at_all<R: Wait + Clock, L: KnownLinks + Copy>(
+        &mut self,
+        look: &Look<'_, R, L>,
+        entries: Later<'_>,
+    ) -> Result<(), OutOfMemory>
+        ensures told { OnOk result
+            (NotesBut [] entries.entry self.old.account self.new.account) }
+        ensures part { OnErr result ((left : List Entry)
+            × NotesBut left entries.entry self.old.account self.new.account) }
+        ensures life { self.new.creation ≡ self.old.creation }
+    {
+        for entry in entries {
+            self.look_at(look, entry)?;
         }
         Ok(())
     }
 
-    /// Notes links that are gone with an entry that isn't about them: too many frames waited.
-    fn end_slow(&mut self, core: &NodeCore) {
+    /// Looks at the next entry. Without memory for it, it isn't looked at yet: what was noted of it
+    /// is noted again, to the same effect.
+    fn look_at<R: Wait + Clock, L: KnownLinks + Copy>(
+        &mut self,
+        look: &Look<'_, R, L>,
+        entry: &Entry,
+    ) -> Result<(), OutOfMemory>
+        ensures ok { OnOk result (NotesEntry entry.now self.old.account self.new.account) }
+        ensures same { OnErr result (self.new.account ≡ self.old.account) }
+        ensures life { self.new.creation ≡ self.old.creation }
+    {
+        self.census.make_room(look.alloc, entry)?;
+        // It wants memory for no entry for which the account does.
+        self.note_links(look, entry)?;
+        self.account.note(look.alloc, entry)?;
+        self.census.count(entry);
+        Ok(())
+    }
+
+    /// Notes links that are gone with an entry that isn't about them, if there are entries behind
+    /// so many: too many frames waited.
+    fn end_slow(&mut self, core: &NodeCore, seen: usize)
+        ensures account { self.new.account ≡ self.old.account }
+        ensures life { self.new.creation ≡ self.old.creation }
+    {
+        if self.account.entries() <= seen {
+            return;
+        }
         for place in (0..self.links.len()).rev() {
             let is_up = match self.links.get(place) {
                 Some(link) => core.is_up(link.number),
@@ -163,8 +242,21 @@ impl Ledger {
         }
     }
 
+    /// No link is up any more.
+    fn end_all(&mut self, reason: DownReason)
+        ensures account { self.new.account ≡ self.old.account }
+        ensures life { self.new.creation ≡ self.old.creation }
+    {
+        for place in (0..self.links.len()).rev() {
+            self.end(place, reason);
+        }
+    }
+
     /// The link at this place isn't up any more.
-    fn end(&mut self, place: usize, reason: DownReason) {
+    fn end(&mut self, place: usize, reason: DownReason)
+        ensures account { self.new.account ≡ self.old.account }
+        ensures life { self.new.creation ≡ self.old.creation }
+    {
         if place < self.links.len() {
             let link = self.links.remove(place);
             self.census.note_down(reason);
@@ -173,39 +265,54 @@ impl Ledger {
     }
 
     /// The link of this peer isn't up any more, if one was: there is one at most.
-    fn end_of(&mut self, peer: &NodeName, reason: DownReason) {
+    fn end_of(&mut self, peer: &NodeName, reason: DownReason)
+        ensures account { self.new.account ≡ self.old.account }
+        ensures life { self.new.creation ≡ self.old.creation }
+    {
         if let Some(place) = self.links.iter().position(|link| link.peer == *peer) {
             self.end(place, reason);
         }
     }
 
-    fn note<R: Wait + Clock, L: KnownLinks + Copy>(
+    fn note_links<R: Wait + Clock, L: KnownLinks + Copy>(
         &mut self,
         look: &Look<'_, R, L>,
         entry: &Entry,
-    ) -> Result<(), OutOfMemory> {
+    ) -> Result<(), OutOfMemory>
+        ensures account { self.new.account ≡ self.old.account }
+        ensures life { self.new.creation ≡ self.old.creation }
+    {
         match &entry.verdict {
             Verdict::Accepted(reply) => {
                 self.refusals.note(look.alloc, &entry.event, reply)?;
                 self.note_accepted(look, &entry.event, reply)
             }
-            Verdict::Refused(rule) => {
-                let address = match &entry.event {
-                    Event::Frame(link, _) => look.links.address(look.rt, *link),
-                    _ => None,
-                };
-                let links = self.links.as_slice();
-                self.refusals
-                    .refuse(look.alloc, entry, *rule, address, links)?;
-                if let Some(last) = self.refusals.last.back()
-                    && last.entry == entry.number
-                {
-                    self.chronicle.note_refused(look.alloc, last);
-                }
-                self.refused = self.refused.saturating_add(1);
-                Ok(())
-            }
+            Verdict::Refused(rule) => self.note_refused(look, entry, *rule),
         }
+    }
+
+    fn note_refused<R: Wait + Clock, L: KnownLinks + Copy>(
+        &mut self,
+        look: &Look<'_, R, L>,
+        entry: &Entry,
+        rule: Rule,
+    ) -> Result<(), OutOfMemory>
+        ensures account { self.new.account ≡ self.old.account }
+        ensures life { self.new.creation ≡ self.old.creation }
+    {
+        let address = match &entry.event {
+            Event::Frame(link, _) => look.links.address(look.rt, *link),
+            _ => None,
+        };
+        let links = self.links.as_slice();
+        self.refusals
+            .refuse(look.alloc, entry, rule, address, links)?;
+        if let Some(last) = self.refusals.last.back()
+            && last.entry == entry.number
+        {
+            self.chronicle.note_refused(look.alloc, last);
+        }
+        Ok(())
     }
 
     fn note_accepted<R: Wait + Clock, L: KnownLinks + Copy>(
@@ -213,43 +320,32 @@ impl Ledger {
         look: &Look<'_, R, L>,
         event: &Event,
         reply: &Reply,
-    ) -> Result<(), OutOfMemory> {
+    ) -> Result<(), OutOfMemory>
+        ensures account { self.new.account ≡ self.old.account }
+        ensures life { self.new.creation ≡ self.old.creation }
+    {
         match event {
-            Event::Frame(link, _) => self.note_up(look, *link, reply),
-            Event::Lost(link) => {
-                self.note_lost(look, *link);
-                Ok(())
-            }
-            Event::Disconnect(peer) => {
-                self.end_of(peer, DownReason::Disconnected);
-                Ok(())
-            }
-            Event::Allow(names) => self.note_allowed(look.alloc, names.as_slice()),
-            Event::StartScope(scope) => insert(look.alloc, &mut self.scopes, scope),
-            Event::StopScope(scope) => {
-                self.scopes.retain(|running| running != scope);
-                Ok(())
-            }
-            _ => Ok(()),
+            Event::Restart => self.end_all(DownReason::Restarted),
+            Event::Frame(link, _) => self.note_up(look, *link, reply)?,
+            Event::Lost(link) => self.note_lost(look, *link),
+            Event::Disconnect(peer) => self.end_of(peer, DownReason::Disconnected),
+            _ => {}
         }
+        Ok(())
     }
 
     fn note_lost<R: Wait + Clock, L: KnownLinks + Copy>(
         &mut self,
         look: &Look<'_, R, L>,
         link: u32,
-    ) {
+    )
+        ensures account { self.new.account ≡ self.old.account }
+        ensures life { self.new.creation ≡ self.old.creation }
+    {
         if let Some(place) = self.links.iter().position(|known| known.number == link) {
             let reason = look.links.reason(look.rt, link);
             self.end(place, reason);
         }
-    }
-
-    fn note_allowed(&mut self, alloc: Global, names: &[NodeName]) -> Result<(), OutOfMemory> {
-        for name in names {
-            insert(alloc, &mut self.allowed, name)?;
-        }
-        Ok(())
     }
 
     /// Notes a link that has come up, if the reply says so.
@@ -258,7 +354,10 @@ impl Ledger {
         look: &Look<'_, R, L>,
         number: u32,
         reply: &Reply,
-    ) -> Result<(), OutOfMemory> {
+    ) -> Result<(), OutOfMemory>
+        ensures account { self.new.account ≡ self.old.account }
+        ensures life { self.new.creation ≡ self.old.creation }
+    {
         let Reply::Up {
             peer,
             creation,
@@ -282,16 +381,4 @@ impl Ledger {
         self.links.push(link)?;
         Ok(())
     }
-}
-
-/// Puts a copy of an item in its place among ascending ones, unless it is there.
-fn insert<T: TryClone + Ord + Drop>(
-    alloc: Global,
-    items: &mut Vec<T>,
-    item: &T,
-) -> Result<(), OutOfMemory> {
-    if let Err(place) = items.binary_search(item) {
-        items.insert(place, item.try_clone(alloc)?)?;
-    }
-    Ok(())
 }

@@ -1,0 +1,4 @@
+pub mod Placing
+pub mod Saying
+pub mod Going
+pub mod Behind

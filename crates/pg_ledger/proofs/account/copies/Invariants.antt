@@ -1,0 +1,6 @@
+use Rattle.std.proofs.Common.{take, ◌≡◌}
+use Rattle.pg_ledger.proofs.account.copies.Given as goal
+
+-- the copies so far
+abbrev pub invariant-loop-item : goal.invariant-loop-item
+invariant-loop-item g l = l.copies.items ≡ take l.item-index l.items
