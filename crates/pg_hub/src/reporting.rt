@@ -174,7 +174,7 @@ fn put_dial(dial: &DialView, out: &mut Vec<u8>) -> Result<(), OutOfMemory> {
 
 fn put_scopes(ledger: &Ledger, out: &mut Vec<u8>) -> Result<(), OutOfMemory> {
     put_word("scopes", out)?;
-    for scope in &ledger.scopes {
+    for scope in ledger.scopes() {
         put_scope(scope, out)?;
     }
     Ok(())
@@ -187,7 +187,7 @@ fn put_scope(scope: &Scope, out: &mut Vec<u8>) -> Result<(), OutOfMemory> {
 
 fn put_allowed(ledger: &Ledger, out: &mut Vec<u8>) -> Result<(), OutOfMemory> {
     put_word("allowed", out)?;
-    for name in &ledger.allowed {
+    for name in ledger.allowed() {
         put_named(name, out)?;
     }
     Ok(())

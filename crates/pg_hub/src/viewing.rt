@@ -103,8 +103,8 @@ impl<R: Wait + Clock> Reporting<'_, R> {
 
     fn scopes(&self) -> Result<Vec<Scope>, OutOfMemory> {
         let ledger = self.ledger()?;
-        let mut scopes = Vec::with_capacity(self.hub.alloc, ledger.scopes.len())?;
-        for scope in &ledger.scopes {
+        let mut scopes = Vec::with_capacity(self.hub.alloc, ledger.scopes().len())?;
+        for scope in ledger.scopes() {
             scopes.push(scope.try_clone(self.hub.alloc)?)?;
         }
         Ok(scopes)

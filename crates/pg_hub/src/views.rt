@@ -55,7 +55,7 @@ pub(crate) fn look_at_links<R: Clock>(
     }
     view.most_links = LINKS;
     view.otp_links = ledger.otp_links();
-    view.refused = ledger.refused as u64;
+    view.refused = ledger.refused() as u64;
     Ok(())
 }
 
@@ -87,7 +87,7 @@ pub(crate) fn look_at_counts(
     ledger: &Ledger,
     view: &mut NodeView,
 ) -> Result<(), OutOfMemory> {
-    for scope in &ledger.scopes {
+    for scope in ledger.scopes() {
         let rows = ledger.census.rows_of(scope) as u64;
         view.scopes.push(scope_view(alloc, scope, rows)?)?;
     }
