@@ -191,7 +191,7 @@ pub refused_noted : (e : Entry) (t mid t' : Told) → is_accepted e.verdict ≡ 
 refused_noted e t mid t' refuses refused counts h told real few bound =
     let same_events : events (e ∷ h.entries) ≡ events h.entries = grind (arith, refuses) in
     let is = refused (omega (arith, few, bound))
-        ∙ ap (λ (x : Told). record x { refused = x.refused + 1 }) told in
+    ∙ ap (λ (x : Told). record x { refused = x.refused + 1 }) told in
     let many : t.entries ≡ mid.entries =
     ap (λ (x : Told). x.entries) told ∙ sym (ap (λ (x : Told). x.entries) is) in
     counts (subst (λ n. n < 2 ^ 32) many bound)

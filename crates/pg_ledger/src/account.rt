@@ -24,10 +24,10 @@ impl Model for Account {
     ghost Value = { Told };
 
     ghost view = { λ account. record {
-        scopes = account.scopes.items;
-        allowed = account.allowed.items;
-        refused = account.refused;
-        entries = account.entries;
+      scopes = account.scopes.items;
+      allowed = account.allowed.items;
+      refused = account.refused;
+      entries = account.entries;
     } };
 }
 

@@ -334,11 +334,7 @@ impl Ledger {
         Ok(())
     }
 
-    fn note_lost<R: Wait + Clock, L: KnownLinks + Copy>(
-        &mut self,
-        look: &Look<'_, R, L>,
-        link: u32,
-    )
+    fn note_lost<R: Wait + Clock, L: KnownLinks + Copy>(&mut self, look: &Look<'_, R, L>, link: u32)
         ensures account { self.new.account ≡ self.old.account }
         ensures life { self.new.creation ≡ self.old.creation }
     {

@@ -16,8 +16,8 @@ loop-entry-init g c =
 pub loop-entry-preserved : goal.loop-entry-preserved
 loop-entry-preserved g c = (
   notes_more c.in-Some.entry.now c.next.new.self c.args.entries c.args.self.now.account
-  c.loop-entry.self.account c.look_at.new.self.account
-  (rw c.in-Some.ensures.steps at c.loop-entry.invariant.0) c.in_ok-look_at.ensures.ok,
+      c.loop-entry.self.account c.look_at.new.self.account
+      (rw c.in-Some.ensures.steps at c.loop-entry.invariant.0) c.in_ok-look_at.ensures.ok,
   c.in_ok-look_at.ensures.life ∙ c.loop-entry.invariant.1,
 )
 
@@ -30,6 +30,6 @@ returns-in_err-look_at-clause-part g c =
     c.look_at.new.self.account = (
       c.loop-entry.entry-iterator,
       subst (λ (t : Told). NotesBut c.loop-entry.entry-iterator c.args.entries
-      c.args.self.now.account t) (sym c.in_err-look_at.ensures.same) c.loop-entry.invariant.0,
+          c.args.self.now.account t) (sym c.in_err-look_at.ensures.same) c.loop-entry.invariant.0,
     ) in
     on_err _ part
