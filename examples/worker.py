@@ -61,12 +61,14 @@ def ask(line):
 
 
 def join():
-    """Joins as a new process. The node may begin anew between two lines: then it is told of an old
-    process, and refuses it."""
+    """Joins as a new process, and gives its name. The node may begin anew between two lines: then it
+    is told of an old process, and refuses it."""
     joined = None
     while joined != ["ok"]:
         ask("start jobs")  # refused where the scope runs, which is as good
-        joined = ask(f"join jobs jobs/{address} {ask('spawn')[1]}")
+        process = ask("spawn")[1]
+        joined = ask(f"join jobs jobs/{address} {process}")
+    return process
 
 
 control_path, address, place = arguments()
@@ -77,7 +79,10 @@ control = socket.socket(socket.AF_UNIX)
 while control.connect_ex(control_path):
     time.sleep(0.1)  # the node isn't there yet
 lines = control.makefile()
-join()
+process = join()
 while True:
-    if next_line().startswith(("! restarted ", "! stopped jobs")):
-        join()
+    news = next_line()
+    if news == "! stopped jobs\n":
+        ask(f"exit {process}")  # it lives on without its group
+    if news.startswith(("! restarted ", "! stopped jobs")):
+        process = join()

@@ -8,7 +8,7 @@ import subprocess
 import time
 
 from field import case
-from node import asked, await_members, await_nodes, member, members, plain_lines, start
+from node import asked, audit, await_members, await_nodes, member, members, plain_lines, size, start
 from waiting import LIMIT, expect, expect_that, seconds_since, until
 
 
@@ -169,6 +169,23 @@ def held_through_turns_and_stops(field):
     refused = Asking(field, b.control_path, "hold", "jobs", "printers", stdin=subprocess.PIPE)
     line, status = refused.end()
     expect_that(line.startswith("refused ") and status == 1, "a refusal", (line, status))
+
+
+@case
+def held_while_it_is_followed(field):
+    """`pg_ask hold` joins again where it shows what comes unasked, too, as lines and as JSON; the process that a stop has left alone exits."""
+    a = field.node("a@h", "--creation", "41")
+    for number, words in enumerate(((), ("--follow",), ("--follow", "--json"))):
+        group = f"g{number}"
+        holding = Asking(field, *words, a.control_path, "hold", "jobs", group, stdin=subprocess.PIPE)
+        first = re.search(r"a@h/41/\d+", holding.line())[0]
+        await_members(a, [first], group, "jobs")
+        before = size(a)
+        asked(a, "stop jobs")
+        second = next(found[0] for line in iter(holding.line, "") if (found := re.search(r"a@h/41/\d+", line)) and found[0] != first)
+        await_members(a, [second], group, "jobs")
+        expect_that(any(" Exit " in entry for entry in audit(a, before)), "the exit of the process of before", audit(a, before))
+        holding.close()
 
 
 @case

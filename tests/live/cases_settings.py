@@ -47,6 +47,15 @@ def settings_in_a_file(field):
     done = subprocess.run([field.program, "a@h", "--config", file + ".none", "--cookie", "c"], stdin=subprocess.DEVNULL,
                           capture_output=True, timeout=LIMIT, check=False)
     expect("the status without the file", 1, done.returncode)
+    write('cookie = "c"\n')
+    open_to_others = f"error: --config: {file[:60]}: line 1: others can read this file, or its group write it (chmod 600): cookie"
+    for mode, said in ((0o644, [open_to_others]), (0o660, [open_to_others]), (0o640, [])):
+        os.chmod(file, mode)
+        done = subprocess.run([field.program, "a@h", "--config", file], stdin=subprocess.DEVNULL, capture_output=True, timeout=LIMIT,
+                              check=False)
+        expect(f"what is said of a cookie in a file of mode {mode:o}", said,
+               [line for line in done.stderr.decode().splitlines() if line.startswith("error")])
+        expect(f"the status with one of mode {mode:o}", 2 if said else 0, done.returncode)
 
 
 @case
@@ -127,7 +136,8 @@ def usual_values(field):
 def faults_of_the_command_line(field):
     """A fault of the command line is told in plain words, with a status that isn't 0, and nothing is served."""
     readable = field.cookie_file(mode=0o644)
-    cases = [["a@h"], ["nobody", "--cookie", "c"], ["a@h", "--cookie", ""], ["a@h", "--cookie", "c", "--dial", "b@h"],
+    two_lines = field.cookie_file(cookie="one\ntwo\n")
+    cases = [["a@h"], ["a@h", "--cookie-file", two_lines], ["nobody", "--cookie", "c"], ["a@h", "--cookie", ""], ["a@h", "--cookie", "c", "--dial", "b@h"],
              ["a@h", "--cookie", "c", "--listen", "nowhere"], ["a@h", "--cookie", "c", "--creation", "0"],
              ["a@h", "--cookie", "c", "--ticktime", "soon"], ["a@h", "--cookie", "c", "--links", "3"], ["a@h", "--cookie-file", readable],
              ["a@h", "--cookie-file", os.path.join(field.folder, "none")], ["a@h", "--cookie", "c", "--unknown"]]
@@ -142,7 +152,8 @@ def faults_of_the_command_line(field):
 @case
 def options_that_do_not_fit(field):
     """A peer that is given twice, a mode without its socket, one path for both sockets, a path that is too long, a level that isn't one,
-    and a size without an archive: each is told by its option, and nothing is served."""
+    a size without an archive, and what is said of a page or of stock nodes where there are none: each is told by its option, and nothing is
+    served."""
     long = os.path.join(field.folder, "x" * 104)
     for words, fault in ((("--dial", "b@h=127.0.0.1:1", "--dial", "b@h=127.0.0.1:2"), "--dial: this peer is given twice: b@h=127.0.0.1:2"),
                          (("--control-mode", "0660"), "--control-mode: there is no --control"),
@@ -150,6 +161,9 @@ def options_that_do_not_fit(field):
                          (("--control", long + ".s", "--control-read", long + ".s"), "--control-read: the path of --control"),
                          (("--control", long), f"--control: {long[:60]}: a path of more than 103 bytes"),
                          (("--log-level", "debug"), "--log-level: not error, warn or info: debug"),
+                         (("--http-anywhere",), "--http-anywhere: there is no --http"),
+                         (("--otp-visible",), "--otp-visible: there is no --otp-listen and no --otp-dial"),
+                         (("--epmd",), "--epmd: there is no --otp-listen and no --otp-dial"),
                          (("--audit-size", "5000"), "--audit-size: there is no --audit")):
         node = field.start("a@h", *words, control=False, port=None)
         expect_that(node.status() in (1, 2), f"status 1 or 2 for {words}", node.status())
