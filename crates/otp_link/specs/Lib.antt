@@ -1,6 +1,7 @@
 pub mod Fault
 pub mod Offer
 pub mod Pieces
+pub mod Known
 pub mod Counted
 pub mod Sent
 pub mod Taking

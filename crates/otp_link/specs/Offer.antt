@@ -20,6 +20,17 @@ abbrev pub SaysFlags : Bool → List ℕ → ℕ → Type 0
 SaysFlags true body flags = (c : Challenge) × SpellsChallenge body c × (c.flags ≡ flags)
 SaysFlags false body flags = (n : Name) × SpellsName body n × (n.flags ≡ flags)
 
+-- and this name and creation
+abbrev pub SaysRun : Bool → List ℕ → List ℕ → ℕ → Type 0
+SaysRun true body name creation = (c : Challenge) × SpellsChallenge body c × (c.name ≡ name)
+    × (c.creation ≡ creation)
+SaysRun false body name creation = (n : Name) × SpellsName body n × (n.name ≡ name)
+    × (n.creation ≡ creation)
+
+-- no end says its name in the frame
+abbrev pub IsSilent : Bool → List ℕ → Type 0
+IsSilent is_challenge body = (flags : ℕ) → SaysFlags is_challenge body flags → ⊥
+
 -- a Name or a Challenge with these flags, and these bytes behind them
 abbrev pub named : ℕ → List ℕ → List ℕ
 named flags rest = 78 ∷ to_be_bytes w64 flags ++ rest

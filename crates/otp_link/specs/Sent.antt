@@ -1,6 +1,6 @@
 -- What goes out to a stock node of what the node here says.
-use Rattle.std.specs.Prelude.{◌≡◌, ◌⊎◌, ◌<◌, ◌≤◌, ◌^◌, ℕ, Bool, true, false}
-use Rattle.std.specs.Prelude.{List, [], ◌++◌, length, Option, Some, None, IsNone}
+use Rattle.std.specs.Prelude.{◌≡◌, ◌<◌, ◌≤◌, ◌^◌, ℕ, Bool, true, false, not}
+use Rattle.std.specs.Prelude.{List, [], ◌++◌, length, Option, Some, None}
 use Rattle.std.specs.Int.{w16, w32}
 use Rattle.handshake_frames.specs.Spelling.{counted}
 use Rattle.otp_edge.specs.Drops.{times_for}
@@ -8,25 +8,21 @@ use Rattle.otp_edge.specs.Said.{IsBodySaid, IsNoBody, KnowsTheSame}
 use Rattle.otp_edge.specs.declared.drops.Dropped.{Dropped}
 use Rattle.otp_edge.specs.declared.edge_state.Edge.{Edge}
 use Rattle.otp_edge.specs.declared.life.Life.{Life}
+use Rattle.otp_link.specs.Known.{Known, known_of, Learns, with_own}
 use Rattle.otp_link.specs.Offer.{IsOwnFrame}
 use Rattle.otp_link.specs.Pieces.{IsUnsent, is_last_of}
 use Rattle.otp_link.specs.declared.link.LinkKind.{LinkKind}
 use Rattle.otp_link.specs.declared.link.OtpLink.{OtpLink}
 
--- how far a link is in what it sends: whether its handshake is done, the edge once it has begun,
+-- how far a link is in what it sends: whether its handshake is done, what is known of both ends,
 -- and what was told over all links
 pub record Stand : Type 0 where
   pub is_up : Bool
-  pub edge : Option Edge
+  pub known : Known
   pub life : Life
 
 abbrev pub stand_of : OtpLink → Life → Stand
-stand_of link life = record { is_up = link.sends_bodies; edge = link.edge; life = life }
-
--- the edge stays, or where there was none it begins: in parts where the link is, without a scope
-abbrev pub IsBegun : LinkKind → Option Edge → Option Edge → Type 0
-IsBegun kind before after = (after ≡ before) ⊎ (IsNone before × ((edge : Edge)
-    × (after ≡ Some edge) × (edge.in_parts ≡ kind.in_parts) × (edge.scopes.items ≡ [])))
+stand_of link life = record { is_up = link.sends_bodies; known = known_of link; life = life }
 
 -- a link stays of its kind; but its peer may take no messages in parts
 abbrev pub IsNarrowed : LinkKind → LinkKind → Type 0
@@ -35,10 +31,12 @@ IsNarrowed before after = (after.is_visible ≡ before.is_visible)
 
 -- of a body what the edge says, once there is one; of what is no body nothing
 pub data SendsBody (before after : Stand) (body out : List ℕ) : Type 0 where
-  early : before.edge ≡ None → after ≡ before → out ≡ [] → SendsBody before after body out
-  said : (edge new : Edge) → before.edge ≡ Some edge → after.edge ≡ Some new
+  early : before.known.edge ≡ None → after ≡ before → out ≡ [] → SendsBody before after body out
+  said : (edge new : Edge) → before.known.edge ≡ Some edge
+      → after.known ≡ record before.known { edge = Some new }
       → IsBodySaid edge new before.life after.life body out → SendsBody before after body out
-  no_body : (edge new : Edge) → before.edge ≡ Some edge → after.edge ≡ Some new
+  no_body : (edge new : Edge) → before.known.edge ≡ Some edge
+      → after.known ≡ record before.known { edge = Some new }
       → IsNoBody edge body → KnowsTheSame edge new → out ≡ [] → SendsBody before after body out
 
 -- until the handshake is done a frame, with its flags set, of which a Reply or an Ack ends it; then
@@ -46,7 +44,8 @@ pub data SendsBody (before after : Stand) (body out : List ℕ) : Type 0 where
 pub data SendsPiece (kind : LinkKind) (before after : Stand) (piece out : List ℕ) : Type 0 where
   frame : (body sent : List ℕ) → before.is_up ≡ false → length body < 2 ^ 16
       → piece ≡ counted w16 body → IsOwnFrame kind.is_visible body sent → out ≡ counted w16 sent
-      → IsBegun kind before.edge after.edge → after.life ≡ before.life
+      → Learns kind (not kind.is_dialled) (with_own before.known) body before.known after.known
+      → after.life ≡ before.life
       → after.is_up ≡ is_last_of body → SendsPiece kind before after piece out
   message : (body : List ℕ) → before.is_up ≡ true → 0 < length body → length body ≤ 4194304
       → piece ≡ counted w32 body → SendsBody before after body out → after.is_up ≡ true

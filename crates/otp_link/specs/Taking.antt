@@ -12,12 +12,13 @@ use Rattle.otp_edge.specs.Signals.{SaysTooMany}
 use Rattle.otp_edge.specs.declared.edge_state.Edge.{Edge}
 use Rattle.otp_edge.specs.declared.heard.Heard.{Heard}
 use Rattle.otp_link.specs.Counted.{Follows, IsCutAs}
+use Rattle.otp_link.specs.Known.{known_of, Learns, with_peer}
 use Rattle.otp_link.specs.Long.{GoesPast}
-use Rattle.otp_link.specs.Offer.{IsPeerFrame, SaysFlags, has_stock}
+use Rattle.otp_link.specs.Offer.{IsPeerFrame, IsSilent, SaysFlags, has_stock}
 use Rattle.otp_link.specs.Pieces.{HasBody, HasFrame, is_last_of}
-use Rattle.otp_link.specs.Sent.{IsBegun}
 use Rattle.otp_link.specs.declared.fault.LinkFault.{LinkFault}
 use Rattle.otp_link.specs.declared.fault.LinkFault.TheVariants as faults
+use Rattle.otp_link.specs.declared.link.LinkKind.{LinkKind}
 use Rattle.otp_link.specs.declared.link.OtpLink.{OtpLink}
 use Rattle.otp_link.specs.declared.taking.Taken.{Taken}
 
@@ -32,22 +33,31 @@ abbrev pub IsOfStock : OtpLink → List ℕ → Type 0
 IsOfStock link body = (flags : ℕ) → SaysFlags link.kind.is_dialled body flags
     → has_stock flags ≡ true
 
--- a frame of the handshake is handed in, with 2 behind it at most where the link takes messages in
--- parts; nothing is sent back. A Reply or an Ack is the last one
+-- 2 is put behind a frame in which the peer says its name alone, and just where the link takes
+-- messages in parts from then on; by any other frame the link stays of its kind
+pub record Agrees (kind now : LinkKind) (body : List ℕ) (in_parts : Bool) : Type 0 where
+  pub says : in_parts ≡ true → (flags : ℕ) × SaysFlags kind.is_dialled body flags
+  pub told : (flags : ℕ) → SaysFlags kind.is_dialled body flags → in_parts ≡ now.in_parts
+  pub same : IsSilent kind.is_dialled body → now ≡ kind
+
+-- a frame of the handshake is handed in, nothing is sent back, and what the peer says of itself is
+-- known. A Reply or an Ack is the last one
 pub record TakesFrame (link new : OtpLink) (body : List ℕ) (taken : Taken) : Type 0 where
   pub stock : IsOfStock link body
   pub in_parts : Bool
   pub frame : List ℕ
   pub comes : IsPeerFrame in_parts body frame
-  pub agreed : in_parts ≡ true → new.kind.in_parts ≡ true
+  pub agrees : Agrees link.kind new.kind body in_parts
   pub used : taken.used ≡ length (counted w16 body)
   pub handed : taken.handed.items ≡ counted w16 frame
   pub owed : taken.owed.items ≡ []
-  pub edge : IsBegun new.kind link.edge new.edge
+  pub known : Learns new.kind link.kind.is_dialled (with_peer (known_of link)) body
+      (known_of link) (known_of new)
   pub up : new.takes_bodies ≡ is_last_of body
 
 -- of a body just what the edge hears is handed in, a leave cut to what the table lists; and just
--- what the edge owes is sent back. The edge keeps its scopes and the names of both ends
+-- what the edge owes is sent back. The edge keeps its scopes and the names of both ends, and the
+-- link all but when the peer is asked again
 pub record TakesBody (lists : List ℕ → (Row → ℕ) → Type 0) (link new : OtpLink) (body : List ℕ)
     (taken : Taken) : Type 0 where
   pub edge : Edge
@@ -55,7 +65,7 @@ pub record TakesBody (lists : List ℕ → (Row → ℕ) → Type 0) (link new :
   pub first : Heard
   pub heard : Heard
   pub begun : link.edge ≡ Some edge
-  pub goes_on : new.edge ≡ Some after
+  pub goes_on : new ≡ record link { edge = Some after; healing = new.healing }
   pub stays : Stays edge after
   pub hears : Hears edge after body first
   pub cut : Follows (IsCutAs lists) first heard
@@ -64,12 +74,12 @@ pub record TakesBody (lists : List ℕ → (Row → ℕ) → Type 0) (link new :
   pub owed : taken.owed ≡ heard.owed
 
 -- of a longer body, which goes to nobody here, nothing is kept: it is used whole, with what is
--- still to come of it; the edge stays, and what is known at the peer does
+-- still to come of it; the link and its edge stay, and what is known at the peer does
 pub record TakesLong (link new : OtpLink) (begin : List ℕ) (len : ℕ) (taken : Taken) : Type 0 where
   pub edge : Edge
   pub after : Edge
   pub begun : link.edge ≡ Some edge
-  pub goes_on : new.edge ≡ Some after
+  pub goes_on : new ≡ record link { edge = Some after }
   pub past : GoesPast edge begin
   pub stays : Stays edge after
   pub same : KnowsTheSame edge after

@@ -1,7 +1,8 @@
 //! One link with a stock node.
 ghost use Rattle.std.specs.Prelude.{◌≡◌, false, IfOk, None};
 ghost use Rattle.otp_link.specs.Asking.{asked_for, asking, healing_behind, millis};
-ghost use Rattle.otp_link.specs.Sent.{IsBegun, dropped_of};
+ghost use Rattle.otp_link.specs.Known.{Meets, known_of};
+ghost use Rattle.otp_link.specs.Sent.{dropped_of};
 
 use crate::asking::Healing;
 use dist_types::OutOfMemory;
@@ -41,6 +42,8 @@ impl OtpLink {
     /// A link that has just been opened.
     pub fn new(alloc: Global, kind: LinkKind) -> OtpLink
         ensures kind { result.kind ≡ kind }
+        ensures own { result.own ≡ None }
+        ensures peer { result.peer ≡ None }
         ensures edge { result.edge ≡ None }
         ensures takes { result.takes_bodies ≡ false }
         ensures sends { result.sends_bodies ≡ false }
@@ -62,7 +65,7 @@ impl OtpLink {
         ensures kind { self.new.kind ≡ self.old.kind }
         ensures takes { self.new.takes_bodies ≡ self.old.takes_bodies }
         ensures sends { self.new.sends_bodies ≡ self.old.sends_bodies }
-        ensures edge { IsBegun self.old.kind self.old.edge self.new.edge }
+        ensures known { Meets self.old.kind (known_of self.old) (known_of self.new) }
     {
         if self.edge.is_some() {
             return;

@@ -1,6 +1,7 @@
 //! Whose frames of a handshake come.
-ghost use Rattle.std.specs.Prelude.{◌≡◌, ℕ, IfSome, IsSomeAnd};
-ghost use Rattle.otp_link.specs.Offer.{SaysFlags};
+ghost use Rattle.std.specs.Prelude.{◌≡◌, ℕ, IfOk, IfSome, IsSomeAnd};
+ghost use Rattle.otp_link.specs.Known.{IsRunOf};
+ghost use Rattle.otp_link.specs.Offer.{SaysFlags, SaysRun};
 
 use dist_types::{Flags, NodeName, OutOfMemory, TextFault};
 use handshake_frames::{decode_challenge, decode_name};
@@ -27,6 +28,8 @@ pub(crate) fn said_in(body: &[u8], is_challenge: bool) -> Option<Said<'_>>
     ensures found { IfSome result (λ said. SaysFlags is_challenge body.now said.flags.0) }
     ensures only { (flags : ℕ) → SaysFlags is_challenge body.now flags →
         IsSomeAnd result (λ said. said.flags.0 ≡ flags) }
+    ensures run { IfSome result (λ said.
+        SaysRun is_challenge body.now said.name.now said.creation) }
 {
     if is_challenge {
         let Ok(frame) = decode_challenge(body) else {
@@ -51,7 +54,9 @@ pub(crate) fn said_in(body: &[u8], is_challenge: bool) -> Option<Said<'_>>
 }
 
 /// The run of a node: none where its name is none, which is refused by the node here.
-pub(crate) fn run_of(alloc: Global, said: &Said<'_>) -> Result<Option<Run>, OutOfMemory> {
+pub(crate) fn run_of(alloc: Global, said: &Said<'_>) -> Result<Option<Run>, OutOfMemory>
+    ensures { IfOk result (IsRunOf said.now.name.now said.now.creation) }
+{
     match NodeName::parse(alloc, said.name) {
         Ok(node) => Ok(Some(Run {
             node,

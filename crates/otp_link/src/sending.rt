@@ -1,8 +1,9 @@
 //! What goes out to a stock node of what the node here says.
-ghost use Rattle.std.specs.Prelude.{◌≡◌, IfErr, IfOk, MatchOption, length};
+ghost use Rattle.std.specs.Prelude.{◌≡◌, not, IfErr, IfOk, MatchOption, length};
+ghost use Rattle.otp_link.specs.Known.{Learns, known_of, with_own};
 ghost use Rattle.otp_link.specs.Offer.{IsOwnFrame};
 ghost use Rattle.otp_link.specs.Pieces.{IsUnsent, is_last_of};
-ghost use Rattle.otp_link.specs.Sent.{IsBegun, SendsAll, SendsBody, SendsFront, stand_of};
+ghost use Rattle.otp_link.specs.Sent.{SendsAll, SendsBody, SendsFront, stand_of};
 ghost use Rattle.otp_link.specs.declared.fault.LinkFault.TheVariants as faults;
 
 use crate::fault::LinkFault;
@@ -20,6 +21,7 @@ impl OtpLink {
     /// They may be none.
     pub fn send(&mut self, batch: &[u8], life: &mut Life) -> Result<Vec<u8>, LinkFault>
         ensures kind { self.new.kind ≡ self.old.kind }
+        ensures other { self.new.takes_bodies ≡ self.old.takes_bodies }
         ensures sent { IfOk result (λ out. SendsAll self.old.kind (stand_of self.old life.old)
             (stand_of self.new life.new) batch.now out.items) }
         ensures refused { IfErr result (λ fault. fault ≡ faults.OutOfMemory) }
@@ -44,6 +46,7 @@ impl OtpLink {
         out: &mut Vec<u8>,
     ) -> Result<Option<&'a [u8]>, LinkFault>
         ensures kind { self.new.kind ≡ self.old.kind }
+        ensures other { self.new.takes_bodies ≡ self.old.takes_bodies }
         ensures sent { IfOk result (λ read. MatchOption read
             ((stand_of self.new life.new ≡ stand_of self.old life.old)
             × (out.new.items ≡ out.old.items) × IsUnsent self.old.sends_bodies left.now)
@@ -71,10 +74,12 @@ impl OtpLink {
     /// an Ack go bodies.
     fn frame_sent(&mut self, body: &[u8]) -> Result<Vec<u8>, LinkFault>
         ensures kind { self.new.kind ≡ self.old.kind }
+        ensures other { self.new.takes_bodies ≡ self.old.takes_bodies }
         ensures frame { IfOk result (λ sent. IsOwnFrame self.old.kind.is_visible body.now
             sent.items) }
         ensures long { IfOk result (λ sent. length sent.items ≡ length body.now) }
-        ensures edge { IsBegun self.old.kind self.old.edge self.new.edge }
+        ensures known { IfOk result (λ _. Learns self.old.kind (not self.old.kind.is_dialled)
+            (with_own (known_of self.old)) body.now (known_of self.old) (known_of self.new)) }
         ensures sends { IfOk result (λ _. self.new.sends_bodies ≡ is_last_of body.now) }
         ensures refused { IfErr result (λ fault. fault ≡ faults.OutOfMemory) }
     {
@@ -87,18 +92,23 @@ impl OtpLink {
     /// A frame with the own name: from then on the edge may begin.
     fn note_name(&mut self, body: &[u8]) -> Result<(), OutOfMemory>
         ensures kind { self.new.kind ≡ self.old.kind }
-        ensures edge { IsBegun self.old.kind self.old.edge self.new.edge }
+        ensures other { self.new.takes_bodies ≡ self.old.takes_bodies }
+        ensures known { IfOk result (λ _. Learns self.old.kind (not self.old.kind.is_dialled)
+            (with_own (known_of self.old)) body.now (known_of self.old) (known_of self.new)) }
     {
-        if let Some(said) = said_in(body, !self.kind.is_dialled) {
-            self.own = run_of(self.alloc, &said)?;
-            self.meet();
-        }
+        let Some(said) = said_in(body, !self.kind.is_dialled) else {
+            return Ok(());
+        };
+        let own = run_of(self.alloc, &said)?;
+        self.own = own;
+        self.meet();
         Ok(())
     }
 
     /// A message of the node here, as the edge says it.
     fn bodies_sent(&mut self, body: &[u8], life: &mut Life) -> Result<Vec<u8>, LinkFault>
         ensures kind { self.new.kind ≡ self.old.kind }
+        ensures other { self.new.takes_bodies ≡ self.old.takes_bodies }
         ensures sends { self.new.sends_bodies ≡ self.old.sends_bodies }
         ensures said { IfOk result (λ out. SendsBody (stand_of self.old life.old)
             (stand_of self.new life.new) body.now out.items) }

@@ -5,9 +5,11 @@ ghost use Rattle.std.specs.Int.{w16, w32};
 ghost use Rattle.handshake_frames.specs.Spelling.{counted};
 ghost use Rattle.otp_edge.specs.Edges.{Stays};
 ghost use Rattle.otp_edge.specs.Said.{KnowsTheSame};
+ghost use Rattle.otp_link.specs.Known.{Learns, known_of, with_peer};
 ghost use Rattle.otp_link.specs.Pieces.{IsShort, is_last_of};
-ghost use Rattle.otp_link.specs.Sent.{IsBegun, IsNarrowed};
-ghost use Rattle.otp_link.specs.Taking.{Ends, EndsByBody, EndsByFrame, IsOfStock, IsPassedOver};
+ghost use Rattle.otp_link.specs.Sent.{IsNarrowed};
+ghost use Rattle.otp_link.specs.Taking.{Agrees, Ends, EndsByBody, EndsByFrame};
+ghost use Rattle.otp_link.specs.Taking.{IsOfStock, IsPassedOver};
 ghost use Rattle.otp_link.specs.Taking.{Takes, TakesFrame, TakesBody, TakesLong};
 ghost use Rattle.otp_link.specs.declared.fault.LinkFault.TheVariants as faults;
 
@@ -51,6 +53,7 @@ impl OtpLink {
         now: Duration,
     ) -> Result<Option<Taken>, LinkFault>
         ensures kind { IsNarrowed self.old.kind self.new.kind }
+        ensures other { self.new.sends_bodies ≡ self.old.sends_bodies }
         ensures taken { IfOk result (λ read. MatchOption read
             ((self.new ≡ self.old) × IsShort self.old.takes_bodies front.now)
             (Takes (T.lists table.now) self.old self.new front.now)) }
@@ -83,6 +86,7 @@ impl OtpLink {
     fn take_frame(&mut self, body: &[u8], used: usize) -> Result<Taken, LinkFault>
         requires { used ≡ length (counted w16 body.now) }
         ensures kind { IsNarrowed self.old.kind self.new.kind }
+        ensures other { self.new.sends_bodies ≡ self.old.sends_bodies }
         ensures taken { IfOk result (TakesFrame self.old self.new body.now) }
         ensures refused { IfErr result (EndsByFrame self.old body.now) }
     {
@@ -98,10 +102,11 @@ impl OtpLink {
     /// the peer takes messages in parts.
     fn hear_name(&mut self, body: &[u8]) -> Result<bool, LinkFault>
         ensures kind { IsNarrowed self.old.kind self.new.kind }
-        ensures edge { IsBegun self.new.kind self.old.edge self.new.edge }
+        ensures other { self.new.sends_bodies ≡ self.old.sends_bodies }
+        ensures known { IfOk result (λ _. Learns self.new.kind self.old.kind.is_dialled
+            (with_peer (known_of self.old)) body.now (known_of self.old) (known_of self.new)) }
         ensures stock { IfOk result (λ _. IsOfStock self.old body.now) }
-        ensures agreed { IfOk result (λ in_parts.
-            in_parts ≡ true → self.new.kind.in_parts ≡ true) }
+        ensures agrees { IfOk result (Agrees self.old.kind self.new.kind body.now) }
         ensures refused { IfErr result (EndsByFrame self.old body.now) }
     {
         let Some(said) = said_in(body, self.kind.is_dialled) else {
@@ -111,7 +116,8 @@ impl OtpLink {
             return Err(LinkFault::NotStock);
         }
         self.kind.in_parts &= said.is_bare;
-        self.peer = run_of(self.alloc, &said)?;
+        let peer = run_of(self.alloc, &said)?;
+        self.peer = peer;
         self.meet();
         Ok(self.kind.in_parts)
     }
@@ -126,6 +132,7 @@ impl OtpLink {
         requires { used ≡ length (counted w32 body.now) }
         ensures kind { self.new.kind ≡ self.old.kind }
         ensures up { self.new.takes_bodies ≡ self.old.takes_bodies }
+        ensures other { self.new.sends_bodies ≡ self.old.sends_bodies }
         ensures taken { IfOk result
             (TakesBody (T.lists table.now) self.old self.new body.now) }
         ensures refused { IfErr result (EndsByBody self.old body.now) }
@@ -148,6 +155,7 @@ impl OtpLink {
         requires { len < 2 ^ 32 }
         ensures kind { self.new.kind ≡ self.old.kind }
         ensures up { self.new.takes_bodies ≡ self.old.takes_bodies }
+        ensures other { self.new.sends_bodies ≡ self.old.sends_bodies }
         ensures taken { IfOk result (TakesLong self.old self.new begin.now len) }
         ensures refused { IfErr result (λ fault. fault ≡ faults.TooLong) }
     {

@@ -1,4 +1,25 @@
+use Rattle.std.proofs.Common.{refl}
+use Rattle.otp_link.specs.Known.{says, silent}
 use Rattle.otp_link.proofs.link.OtpLink.hear_name.Goals as goal
 
-pub returns-clause-edge : goal.returns-clause-edge
-returns-clause-edge c = rw c.meet.ensures.kind c.meet.ensures.edge
+pub returns-clause-known : goal.returns-clause-known
+returns-clause-known c = says c.in-Some.said.name.now c.in-Some.said.creation
+    c.in_ok-peer.peer c.in-Some.ensures.run c.in_ok-peer.ensures
+    (rw c.meet.ensures.kind c.meet.ensures.known)
+
+pub returns-clause-agrees : goal.returns-clause-agrees
+returns-clause-agrees c = record {
+  says = λ _. (c.in-Some.said.flags.0, c.in-Some.ensures.found);
+  told = λ _ _. refl;
+  same = λ silent. absurd (silent c.in-Some.said.flags.0 c.in-Some.ensures.found);
+}
+
+pub returns-in_default-clause-known : goal.returns-in_default-clause-known
+returns-in_default-clause-known c = silent c.in_default.ensures.only refl
+
+pub returns-in_default-clause-agrees : goal.returns-in_default-clause-agrees
+returns-in_default-clause-agrees c = record {
+  says = λ is. absurd (cc);
+  told = λ flags says. absurd (c.in_default.ensures.only flags says);
+  same = λ _. refl;
+}

@@ -1,7 +1,16 @@
-use Rattle.std.proofs.Common.{arith, inr, refl, [], ◌≡◌}
+use Rattle.std.proofs.Common.{arith, inr, refl}
 use Rattle.otp_link.proofs.link.OtpLink.meet.Goals as goal
 
-pub returns-in-Some-Some-clause-edge : goal.returns-in-Some-Some-clause-edge
-returns-in-Some-Some-clause-edge c =
-    let empty : c.new-edge.result.scopes.items ≡ [] = grind arith in
-    inr (grind arith, (_, refl, refl, empty))
+pub returns-in-Some-Some-clause-known : goal.returns-in-Some-Some-clause-known
+returns-in-Some-Some-clause-known c = inr (
+  _,
+  refl,
+  record {
+    none = grind arith;
+    own = grind arith;
+    peer = grind arith;
+    in_parts = refl;
+    scopes = grind arith;
+    parts = grind arith;
+  },
+)

@@ -9,6 +9,7 @@ loop-left-init c = record {
   sends = sends_none c.args.self.now.kind (stand_of c.args.self.now c.args.life.now)
       c.args.batch.now c.new-out.result.items c.new-out.ensures.items;
   kind = refl;
+  other = refl;
 }
 
 pub loop-left-preserved : goal.loop-left-preserved
@@ -20,4 +21,5 @@ loop-left-preserved c =
           c.loop-left.left.now c.in-Some.rest.now c.loop-left.out.items
           c.send_piece.new.out.items c.loop-left.invariant.kind c.loop-left.invariant.sends front;
       kind = c.in_ok-rest.ensures.kind ∙ c.loop-left.invariant.kind;
+      other = c.in_ok-rest.ensures.other ∙ c.loop-left.invariant.other;
     }

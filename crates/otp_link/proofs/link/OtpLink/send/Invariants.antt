@@ -7,6 +7,7 @@ invariant-loop-left l = record {
   sends : SendsUpTo l.fn.self.kind (stand_of l.fn.self l.fn.life) (stand_of l.self l.life)
       l.fn.batch l.left l.out.items;
   kind : l.self.kind ≡ l.fn.self.kind;
+  other : l.self.takes_bodies ≡ l.fn.self.takes_bodies;
 }
 
 abbrev pub decreases-loop-left : goal.decreases-loop-left

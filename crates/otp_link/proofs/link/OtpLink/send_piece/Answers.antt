@@ -11,7 +11,7 @@ returns-in_ok-put_frame-in-Frame-clause-sent c =
       out = counted w16 sent;
       front = c.in-Frame.ensures.1.1;
       sends = frame c.in-Frame.body.now sent c.in-Frame.ensures.0 c.in-Frame.ensures.1.0 refl
-          c.in_ok-frame-in-Frame.ensures.frame refl c.in_ok-frame-in-Frame.ensures.edge refl
+          c.in_ok-frame-in-Frame.ensures.frame refl c.in_ok-frame-in-Frame.ensures.known refl
           c.in_ok-frame-in-Frame.ensures.sends;
       behind = c.in_ok-put_frame-in-Frame.ensures.put
           ∙ ap (λ l. c.args.out.now.items ++ counted w16 l) c.deref.ensures.value;
