@@ -1,5 +1,5 @@
 -- What is known of both ends of a link.
-use Rattle.std.specs.Prelude.{◌≡◌, ◌⊎◌, ℕ, Bool, true, false, List, []}
+use Rattle.std.specs.Prelude.{◌≡◌, ◌⊎◌, ℕ, Bool, false, List, []}
 use Rattle.std.specs.Prelude.{Option, Some, None, IsNone}
 use Rattle.dist_types.specs.Text.{is_node_name}
 use Rattle.otp_edge.specs.declared.edge_state.Edge.{Edge}

@@ -4,7 +4,7 @@ use Rattle.std.specs.Prelude.{List, [], ◌∷◌, ◌++◌, bit_and, not}
 use Rattle.std.specs.Int.{w64, to_be_bytes}
 use Rattle.dist_types.specs.Flags.{has_bit}
 use Rattle.handshake_frames.specs.Frame.{Challenge, Name}
-use Rattle.handshake_frames.specs.Spelling.{SpellsChallenge, SpellsName}
+use Rattle.handshake_frames.specs.Spelling.{SpellsChallenge, SpellsName, challenge_head, name_head}
 
 -- the flags that are offered; bit 0 of a visible link alone
 abbrev pub offered_flags : Bool → ℕ
@@ -26,6 +26,11 @@ SaysRun true body name creation = (c : Challenge) × SpellsChallenge body c × (
     × (c.creation ≡ creation)
 SaysRun false body name creation = (n : Name) × SpellsName body n × (n.name ≡ name)
     × (n.creation ≡ creation)
+
+-- an end says its name in the frame, and nothing stands behind it
+abbrev pub IsBare : Bool → List ℕ → Type 0
+IsBare true body = (c : Challenge) × SpellsChallenge body c × (body ≡ challenge_head c)
+IsBare false body = (n : Name) × SpellsName body n × (body ≡ name_head n)
 
 -- no end says its name in the frame
 abbrev pub IsSilent : Bool → List ℕ → Type 0

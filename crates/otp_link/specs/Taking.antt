@@ -14,7 +14,7 @@ use Rattle.otp_edge.specs.declared.heard.Heard.{Heard}
 use Rattle.otp_link.specs.Counted.{Follows, IsCutAs}
 use Rattle.otp_link.specs.Known.{known_of, Learns, with_peer}
 use Rattle.otp_link.specs.Long.{GoesPast}
-use Rattle.otp_link.specs.Offer.{IsPeerFrame, IsSilent, SaysFlags, has_stock}
+use Rattle.otp_link.specs.Offer.{IsBare, IsPeerFrame, IsSilent, SaysFlags, has_stock}
 use Rattle.otp_link.specs.Pieces.{HasBody, HasFrame, is_last_of}
 use Rattle.otp_link.specs.declared.fault.LinkFault.{LinkFault}
 use Rattle.otp_link.specs.declared.fault.LinkFault.TheVariants as faults
@@ -33,10 +33,10 @@ abbrev pub IsOfStock : OtpLink → List ℕ → Type 0
 IsOfStock link body = (flags : ℕ) → SaysFlags link.kind.is_dialled body flags
     → has_stock flags ≡ true
 
--- 2 is put behind a frame in which the peer says its name alone, and just where the link takes
--- messages in parts from then on; by any other frame the link stays of its kind
+-- 2 is put behind a frame that ends with the peer's name alone, and just where the link takes
+-- messages in parts from then on; by any frame that says no name the link stays of its kind
 pub record Agrees (kind now : LinkKind) (body : List ℕ) (in_parts : Bool) : Type 0 where
-  pub says : in_parts ≡ true → (flags : ℕ) × SaysFlags kind.is_dialled body flags
+  pub says : in_parts ≡ true → IsBare kind.is_dialled body
   pub told : (flags : ℕ) → SaysFlags kind.is_dialled body flags → in_parts ≡ now.in_parts
   pub same : IsSilent kind.is_dialled body → now ≡ kind
 

@@ -1,7 +1,7 @@
 //! Whose frames of a handshake come.
-ghost use Rattle.std.specs.Prelude.{◌≡◌, ℕ, IfOk, IfSome, IsSomeAnd};
+ghost use Rattle.std.specs.Prelude.{◌≡◌, ℕ, true, IfOk, IfSome, IsSomeAnd};
 ghost use Rattle.otp_link.specs.Known.{IsRunOf};
-ghost use Rattle.otp_link.specs.Offer.{SaysFlags, SaysRun};
+ghost use Rattle.otp_link.specs.Offer.{IsBare, SaysFlags, SaysRun};
 
 use dist_types::{Flags, NodeName, OutOfMemory, TextFault};
 use handshake_frames::{decode_challenge, decode_name};
@@ -30,6 +30,7 @@ pub(crate) fn said_in(body: &[u8], is_challenge: bool) -> Option<Said<'_>>
         IsSomeAnd result (λ said. said.flags.0 ≡ flags) }
     ensures run { IfSome result (λ said.
         SaysRun is_challenge body.now said.name.now said.creation) }
+    ensures bare { IfSome result (λ said. said.is_bare ≡ true → IsBare is_challenge body.now) }
 {
     if is_challenge {
         let Ok(frame) = decode_challenge(body) else {
@@ -39,7 +40,7 @@ pub(crate) fn said_in(body: &[u8], is_challenge: bool) -> Option<Said<'_>>
             flags: frame.flags,
             creation: frame.creation,
             name: frame.name,
-            is_bare: frame.name.len().saturating_add(CHALLENGE_HEAD) == body.len(),
+            is_bare: frame.name.len() + CHALLENGE_HEAD == body.len(),
         });
     }
     let Ok(frame) = decode_name(body) else {
@@ -49,7 +50,7 @@ pub(crate) fn said_in(body: &[u8], is_challenge: bool) -> Option<Said<'_>>
         flags: frame.flags,
         creation: frame.creation,
         name: frame.name,
-        is_bare: frame.name.len().saturating_add(NAME_HEAD) == body.len(),
+        is_bare: frame.name.len() + NAME_HEAD == body.len(),
     })
 }
 

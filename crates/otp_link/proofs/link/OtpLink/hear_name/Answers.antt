@@ -1,4 +1,5 @@
 use Rattle.std.proofs.Common.{refl}
+use Rattle.std.proofs.lemmas.Bool.{and_parts}
 use Rattle.otp_link.specs.Known.{says, silent}
 use Rattle.otp_link.proofs.link.OtpLink.hear_name.Goals as goal
 
@@ -9,7 +10,9 @@ returns-clause-known c = says c.in-Some.said.name.now c.in-Some.said.creation
 
 pub returns-clause-agrees : goal.returns-clause-agrees
 returns-clause-agrees c = record {
-  says = λ _. (c.in-Some.said.flags.0, c.in-Some.ensures.found);
+  says = λ both. c.in-Some.ensures.bare
+      (and_parts c.args.self.now.kind.in_parts c.in-Some.said.is_bare
+      (rw c.meet.ensures.kind at both)).1;
   told = λ _ _. refl;
   same = λ silent. absurd (silent c.in-Some.said.flags.0 c.in-Some.ensures.found);
 }
