@@ -1,6 +1,6 @@
 -- What is known of both ends of a link.
 use Rattle.std.specs.Prelude.{◌≡◌, ◌⊎◌, ℕ, Bool, false, List, []}
-use Rattle.std.specs.Prelude.{Option, Some, None, IsNone}
+use Rattle.std.specs.Prelude.{Option, Some, None, IsNone, IsSome}
 use Rattle.dist_types.specs.Text.{is_node_name}
 use Rattle.otp_edge.specs.declared.edge_state.Edge.{Edge}
 use Rattle.otp_edge.specs.declared.scope_edge.Run.{Run}
@@ -14,9 +14,11 @@ pub record Known : Type 0 where
   pub peer : Option Run
   pub edge : Option Edge
 
+-- what a link knows of them
 abbrev pub known_of : OtpLink → Known
 known_of link = record { own = link.own; peer = link.peer; edge = link.edge }
 
+-- the run of the own end is this one, or the peer's is
 abbrev pub with_own : Known → Option Run → Known
 with_own known run = record known { own = run }
 
@@ -38,13 +40,17 @@ pub record Begins (kind : LinkKind) (before : Known) (edge : Edge) : Type 0 wher
   pub scopes : edge.scopes.items ≡ []
   pub parts : edge.parts ≡ None
 
--- all that is known stays, or the edge begins
+-- once both ends are known there is an edge
+abbrev pub IsMet : Known → Type 0
+IsMet known = IsSome known.own → IsSome known.peer → IsSome known.edge
+
+-- the edge begins where both ends are known; else all that is known stays
 abbrev pub Meets : LinkKind → Known → Known → Type 0
-Meets kind before after =
-    (after ≡ before) ⊎ ((edge : Edge) × (after.edge ≡ Some edge) × Begins kind before edge)
+Meets kind before after = (IsMet before × (after ≡ before))
+    ⊎ ((edge : Edge) × (after.edge ≡ Some edge) × Begins kind before edge)
 
 -- what is known behind a frame: where an end says its name in it, the run of that end as well, and
--- the edge may begin; behind any other frame what was
+-- the edge where both are known; behind any other frame what was
 pub data Learns (kind : LinkKind) (is_challenge : Bool) (with_run : Option Run → Known)
     (body : List ℕ) (before after : Known) : Type 0 where
   says : (name : List ℕ) (creation : ℕ) (run : Option Run)

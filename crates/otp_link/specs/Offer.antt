@@ -20,7 +20,7 @@ abbrev pub SaysFlags : Bool → List ℕ → ℕ → Type 0
 SaysFlags true body flags = (c : Challenge) × SpellsChallenge body c × (c.flags ≡ flags)
 SaysFlags false body flags = (n : Name) × SpellsName body n × (n.flags ≡ flags)
 
--- and this name and creation
+-- the name and the creation of the run that it says
 abbrev pub SaysRun : Bool → List ℕ → List ℕ → ℕ → Type 0
 SaysRun true body name creation = (c : Challenge) × SpellsChallenge body c × (c.name ≡ name)
     × (c.creation ≡ creation)

@@ -37,6 +37,7 @@ IsOfStock link body = (flags : ℕ) → SaysFlags link.kind.is_dialled body flag
 -- messages in parts from then on; by any frame that says no name the link stays of its kind
 pub record Agrees (kind now : LinkKind) (body : List ℕ) (in_parts : Bool) : Type 0 where
   pub says : in_parts ≡ true → IsBare kind.is_dialled body
+  pub kept : kind.in_parts ≡ true → IsBare kind.is_dialled body → now.in_parts ≡ true
   pub told : (flags : ℕ) → SaysFlags kind.is_dialled body flags → in_parts ≡ now.in_parts
   pub same : IsSilent kind.is_dialled body → now ≡ kind
 

@@ -31,6 +31,8 @@ pub(crate) fn said_in(body: &[u8], is_challenge: bool) -> Option<Said<'_>>
     ensures run { IfSome result (λ said.
         SaysRun is_challenge body.now said.name.now said.creation) }
     ensures bare { IfSome result (λ said. said.is_bare ≡ true → IsBare is_challenge body.now) }
+    ensures only_bare { IsBare is_challenge body.now →
+        IsSomeAnd result (λ said. said.is_bare ≡ true) }
 {
     if is_challenge {
         let Ok(frame) = decode_challenge(body) else {
