@@ -1,6 +1,6 @@
 -- The first of a list, and one more.
-use Rattle.std.proofs.Common.{append_assoc, arith, List, map, Some, suc, take, zero, ℕ}
-use Rattle.std.proofs.Common.{[], ◌++◌, ◌+◌, ◌∷◌, ◌≡◌}
+use Rattle.std.proofs.Common.{append_assoc, arith, drop, drop-cons, get_or, length, length-append}
+use Rattle.std.proofs.Common.{List, map, Some, suc, take, zero, ℕ, [], ◌++◌, ◌+◌, ◌<◌, ◌∷◌, ◌≡◌}
 use Rattle.std.specs.List.{slice_get}
 use Rattle.std.proofs.lemmas.List.{map-append}
 
@@ -23,4 +23,21 @@ module _ {A : Type 0} where
     take_more xs i x at,
     map-append say (take i xs) (x ∷ []),
     append_assoc before (map say (take i xs)) (say x ∷ []),
+  )
+
+  -- behind those that were seen stands the one that is seen next
+  pub next_stands : (all seen : List A) (x : A) → all ≡ seen ++ drop (length seen) all
+      → (length seen < length all) × (x ≡ get_or all (length seen) x)
+      → all ≡ seen ++ x ∷ drop (length seen + 1) all
+  next_stands all seen x front next =
+      grind (arith, front, next.0, next.1, drop-cons all (length seen) x)
+
+  pub seen_more : (all seen : List A) (x : A) → all ≡ seen ++ drop (length seen) all
+      → (length seen < length all) × (x ≡ get_or all (length seen) x)
+      → all ≡ (seen ++ x ∷ []) ++ drop (length (seen ++ x ∷ [])) all
+  seen_more all seen x front next = grind (
+    arith,
+    next_stands all seen x front next,
+    length-append seen (x ∷ []),
+    append_assoc seen (x ∷ []) (drop (length seen + 1) all),
   )

@@ -1,5 +1,5 @@
 -- What a life of a node is told before anything else.
-use Rattle.std.specs.Prelude.{◌≡◌, ℕ, Bool, true, false, cond, List, [], ◌∷◌, ◌++◌, map, reverse}
+use Rattle.std.specs.Prelude.{◌≡◌, ℕ, Bool, true, false, cond, List, [], ◌∷◌, ◌++◌, map, reverse, Err}
 use Rattle.std.specs.List.{All}
 use Rattle.dist_types.specs.Listing.{same}
 use Rattle.dist_types.specs.Difference.{is_empty}
@@ -8,8 +8,11 @@ use Rattle.policy_audit.specs.declared.event.Event.{Event}
 use Rattle.policy_audit.specs.declared.event.Event.TheVariants as event
 use Rattle.policy_audit.specs.History.{History, events, is_accepted}
 use Rattle.policy_audit.specs.Admission.{allowed, cookie}
-use Rattle.policy_audit.specs.Own.{is_running}
+use Rattle.policy_audit.specs.Own.{is_running, running_scopes}
+use Rattle.node_core.specs.AdmissionFacts.{admission_words, AdmissionFollows}
 use Rattle.node_threads.specs.declared.pass.Call.{Call}
+use Rattle.node_threads.specs.declared.fault.CallFault.{CallFault}
+use Rattle.node_threads.specs.Applied.{Called}
 use Rattle.node_threads.specs.Calls.{Gains, Record}
 
 -- ---- the calls that say it
@@ -44,6 +47,12 @@ is_setting (event.Allow names) = true
 is_setting (event.StartScope scope) = true
 is_setting e = false
 
+-- all that a life holds: for some rules of its admission, which keep each cookie and name once
+abbrev pub TellsAll : List ℕ → History → List Event → Type 0
+TellsAll begun last told =
+    (rules : AdmissionRules) × AdmissionFollows (admission_words last) rules
+    × (told ≡ all_told begun rules (running_scopes last))
+
 -- ---- what they make
 
 -- a life of the node of this name, which has begun with this cookie: just these events were
@@ -72,3 +81,14 @@ pub record AreSaid (told : List Event) (pass pass' : Record) : Type 0 where
   pub gains : Gains pass calls pass'
   pub events : map (λ (c : Call). c.event) calls ≡ told
   pub accepted : All (λ (c : Call). is_accepted c.verdict ≡ true) calls
+
+-- the first of these were accepted, the next was answered with this fault, and nothing was called
+-- behind it
+pub record StopsAt (fault : CallFault) (told : List Event) (pass pass' : Record) : Type 0 where
+  pub first : List Event
+  pub event : Event
+  pub rest : List Event
+  pub order : told ≡ first ++ event ∷ rest
+  pub mid : Record
+  pub said : AreSaid first pass mid
+  pub refused : Called mid event (Err fault) pass'

@@ -3,7 +3,7 @@ ghost use Rattle.std.specs.Prelude.{◌≡◌, ◌++◌, true, IfOk, OnOk};
 ghost use Rattle.std.specs.List.{list_all};
 ghost use Rattle.policy_audit.specs.Admission.{own_cookie};
 ghost use Rattle.policy_audit.specs.Own.{running_scopes};
-ghost use Rattle.pg_settings.specs.Settings.{Renews, is_setting};
+ghost use Rattle.pg_settings.specs.Settings.{Renews, TellsAll, is_setting};
 ghost use Rattle.pg_settings.specs.Settings.{cookies_told, names_told, own_told, scopes_told};
 
 use admission_rules::Admission;
@@ -34,8 +34,10 @@ pub fn given(
 /// that, the next life that begins with the cookie has the same cookie for each name, allows the
 /// same names, and runs the same scopes.
 pub fn held(alloc: Global, core: &NodeCore, begun: &Cookie) -> Result<Vec<Event>, OutOfMemory>
+    // Each is told once, and a cookie only for who has one of its own.
+    ensures exact { IfOk result (λ told. TellsAll begun.now core.now.history told.items) }
     ensures renews { IfOk result (λ told. Renews begun.now core.now.history told.items) }
-    // A life can be told just these: none of them is a restart.
+    // None of them is a restart.
     ensures only { IfOk result (λ told. list_all is_setting told.items ≡ true) }
 {
     let mut told = Vec::new(alloc);
