@@ -5,6 +5,7 @@ use Rattle.std.specs.List.{flat_map}
 use Rattle.policy_audit.specs.declared.entry.Entry.{Entry}
 use Rattle.pg_archive.specs.declared.life.Life.{Life}
 use Rattle.pg_archive.specs.Entries.{entry_line, life_line}
+use Rattle.archive_files.specs.declared.line.Mark.{Mark}
 use Rattle.archive_files.specs.Text.{Text}
 
 -- the line of a life, by which a file is named as by the life's first entry
@@ -55,7 +56,19 @@ entries_among lines = count_by (λ line. line.is_entry) lines
 abbrev pub IsMoved : Option (List ℕ) → List ℕ → Option (List ℕ) → List ℕ → Type 0
 IsMoved None rest held' rest' = ⊤
 IsMoved (Some held) rest None rest' = ⊥
-IsMoved (Some held) rest (Some held') rest' = held' ++ rest' ≡ held ++ rest
+IsMoved (Some held) rest (Some held') rest' =
+    (gone : List ℕ) × (held' ≡ held ++ gone) × (rest ≡ gone ++ rest')
+
+-- what a file has and what is still to go to it are as many bytes as they were
+abbrev pub IsWeighed : ℕ → Waiting → ℕ → Waiting → Type 0
+IsWeighed held waiting held' waiting' = held + length (rest_of waiting) < 2 ^ 64
+    → held' + length (rest_of waiting') ≡ held + length (rest_of waiting)
+
+-- what a file is named by, once this goes there: what went into it first, else the first line
+abbrev pub named_by : Option Mark → List Text → Option Mark
+named_by (Some mark) lines = Some mark
+named_by None [] = None
+named_by None (line ∷ lines) = Some line.mark
 
 -- each entry whose line waited waits still, or is counted once
 abbrev pub IsCounted : ℕ → List Text → ℕ → List Text → Type 0

@@ -1,9 +1,9 @@
 //! An archive that grows.
-ghost use Rattle.std.specs.Prelude.{◌≡◌, ◌+◌, ◌≤◌, ◌<◌, ◌^◌, None, true, false, [], ◌∷◌, ◌++◌, OnOk, OnErr, OnSome, IfSome, IfNone, IsTrue, length, drop, map};
+ghost use Rattle.std.specs.Prelude.{◌≡◌, ◌+◌, ◌-◌, ◌≤◌, ◌<◌, ◌^◌, ◌⊎◌, Some, None, true, false, [], ◌∷◌, ◌++◌, OnOk, OnErr, OnSome, IfSome, IfNone, IsTrue, length, drop, map};
 ghost use Rattle.std.specs.Io.KnownBytes.{Keeps};
 ghost use Rattle.archive_files.specs.Taking.{IsLeft};
-ghost use Rattle.archive_files.specs.Turning.{IsTooLong};
-ghost use Rattle.archive_files.specs.Waiting.{IsCounted, IsMoved, text_of_entry, text_of_life, part_of, piece_of, rest_of};
+ghost use Rattle.archive_files.specs.Turning.{IsTooLong, and_file};
+ghost use Rattle.archive_files.specs.Waiting.{IsCounted, IsMoved, IsWeighed, named_by, text_of_entry, text_of_life, part_of, piece_of, rest_of};
 
 use crate::line::Mark;
 use crate::lines::Lines;
@@ -52,6 +52,7 @@ impl<S: Store + Drop> Archive<S> {
     pub fn new(alloc: Global, store: S, held: u64, size: Option<u64>) -> Archive<S>
         ensures empty { (result.lines.lines ≡ []) × (result.lines.begun ≡ 0) × (result.archived ≡ 0) × (result.lost ≡ 0) }
         ensures store { (result.store ≡ store) × (result.held ≡ held) × (result.size ≡ size) }
+        ensures first { result.first ≡ None }
     {
         Archive {
             alloc,
@@ -114,6 +115,14 @@ impl<S: Store + Drop> Archive<S> {
             × (self.new.size ≡ self.old.size) × (self.new.creation ≡ self.old.creation) }
         ensures room { ¬ IsTooLong self.old.size self.old.held self.old.lines.begun self.old.lines.lines → self.new ≡ self.old }
         ensures due { OnOk result (IsTooLong self.old.size self.old.held self.old.lines.begun self.old.lines.lines → self.new.first ≡ None) }
+        ensures none { self.old.first ≡ None → self.new ≡ self.old }
+        // The file is named by what went into it first, and what the new one has is known.
+        ensures named { OnOk result
+            (IsTooLong self.old.size self.old.held self.old.lines.begun self.old.lines.lines
+            → IfSome self.old.first (λ mark. S.files self.new.store
+            ≡ and_file (S.files self.old.store) (Some mark) self.new.held)) }
+        ensures refused { OnErr result ((self.new ≡ record self.old { store = self.new.store })
+            × (S.files self.new.store ≡ S.files self.old.store)) }
     {
         if let Some(first) = self.due() {
             self.held = self.store.turn(first)?;
@@ -141,6 +150,9 @@ impl<S: Store + Drop> Archive<S> {
     fn write_some(&mut self) -> io::Result<()>
         ensures order { IsMoved (S.contents self.old.store) (rest_of self.old.lines) (S.contents self.new.store) (rest_of self.new.lines) }
         ensures counted { IsCounted self.old.archived self.old.lines.lines self.new.archived self.new.lines.lines }
+        ensures held { IsWeighed self.old.held self.old.lines self.new.held self.new.lines }
+        ensures first { (self.new ≡ record self.old { store = self.new.store })
+            ⊎ (self.new.first ≡ named_by self.old.first self.old.lines.lines) }
         ensures lost { self.new.lost ≡ self.old.lost }
         ensures same { (self.new.size ≡ self.old.size) × (self.new.creation ≡ self.old.creation) }
     {
@@ -159,6 +171,8 @@ impl<S: Store + Drop> Archive<S> {
         requires { count ≤ length (piece_of self.old.lines.lines self.old.lines.begun) }
         ensures rest { rest_of self.new.lines ≡ drop count (rest_of self.old.lines) }
         ensures counted { IsCounted self.old.archived self.old.lines.lines self.new.archived self.new.lines.lines }
+        ensures held { IsWeighed self.old.held self.old.lines self.new.held self.new.lines }
+        ensures first { self.new.first ≡ named_by self.old.first self.old.lines.lines }
         ensures same { (self.new.store ≡ self.old.store) × (self.new.lost ≡ self.old.lost)
             × (self.new.size ≡ self.old.size) × (self.new.creation ≡ self.old.creation) }
     {
@@ -177,6 +191,7 @@ impl<S: Store + Drop> Archive<S> {
         ensures counted { IsCounted self.old.lost self.old.lines.lines self.new.lost self.new.lines.lines }
         ensures same { (self.new.store ≡ self.old.store) × (self.new.archived ≡ self.old.archived)
             × (self.new.size ≡ self.old.size) × (self.new.creation ≡ self.old.creation) }
+        ensures file { (self.new.held ≡ self.old.held) × (self.new.first ≡ self.old.first) }
     {
         let before = self.lines.entries();
         self.lines.let_go();
@@ -188,6 +203,12 @@ impl<S: Store + Drop> Archive<S> {
     /// to the next file whole. On an error the same file is written to.
     pub fn reopen(&mut self) -> io::Result<()>
         ensures ok { OnOk result (self.new.lines ≡ record self.old.lines { begun = 0 }) }
+        ensures refused { OnErr result ((self.new.first ≡ self.old.first)
+            × (((self.new.lines ≡ self.old.lines) × (self.new.held ≡ self.old.held))
+            ⊎ ((self.new.lines ≡ record self.old.lines { begun = 0 })
+            × (self.new.held ≡ self.old.held - self.old.lines.begun)))) }
+        ensures file { OnOk result ((self.new.first ≡ None) × (S.files self.new.store
+            ≡ and_file (S.files self.old.store) None self.new.held)) }
         ensures bytes { IsLeft (S.contents self.old.store) self.old.lines.begun (S.contents self.new.store) self.new.lines.begun }
         ensures same { (self.new.lines.lines ≡ self.old.lines.lines) × (self.new.archived ≡ self.old.archived) × (self.new.lost ≡ self.old.lost)
             × (self.new.size ≡ self.old.size) × (self.new.creation ≡ self.old.creation) }
@@ -200,8 +221,12 @@ impl<S: Store + Drop> Archive<S> {
 
     /// Takes the part of a line back that is in the file.
     fn take_back(&mut self) -> io::Result<()>
-        ensures ok { OnOk result (self.new.lines ≡ record self.old.lines { begun = 0 }) }
-        ensures refused { OnErr result (self.new.lines ≡ self.old.lines) }
+        ensures ok { OnOk result ((self.new.lines ≡ record self.old.lines { begun = 0 })
+            × (self.new.held ≡ self.old.held - self.old.lines.begun)) }
+        ensures refused { OnErr result ((self.new.lines ≡ self.old.lines)
+            × (self.new.held ≡ self.old.held)) }
+        ensures file { (S.files self.new.store ≡ S.files self.old.store)
+            × (self.new.first ≡ self.old.first) }
         ensures bytes { IsLeft (S.contents self.old.store) self.old.lines.begun (S.contents self.new.store) self.new.lines.begun }
         ensures same { (self.new.archived ≡ self.old.archived) × (self.new.lost ≡ self.old.lost)
             × (self.new.size ≡ self.old.size) × (self.new.creation ≡ self.old.creation) }
