@@ -1,7 +1,7 @@
 -- Bytes on their way from what waits to what is held.
 use Rattle.archive_files.specs
-use Rattle.std.proofs.Common.{ap, append-nil, append_assoc, arith, drop, inl, inr, length, List, None, Option}
-use Rattle.std.proofs.Common.{refl, Some, sym, take, ℕ, [], ◌++◌, ◌∙◌, ◌∷◌, ◌≡◌, ◌≤◌}
+use Rattle.std.proofs.Common.{ap, append-nil, append_assoc, arith, drop, inl, inr, length, List}
+use Rattle.std.proofs.Common.{None, Option, refl, Some, sym, take, ℕ, [], ◌++◌, ◌∙◌, ◌∷◌, ◌≡◌, ◌≤◌}
 use Rattle.std.proofs.lemmas.List.{drop-append-le, length-drop, take-append-drop, take-append-le}
 use Rattle.std.proofs.lemmas.Bool.{cases_lt}
 use Rattle.std.specs.Io.KnownBytes.{Appends, Keeps}

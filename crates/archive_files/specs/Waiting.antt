@@ -70,6 +70,12 @@ named_by (Some mark) lines = Some mark
 named_by None [] = None
 named_by None (line ∷ lines) = Some line.mark
 
+-- some of what waited has gone to the file, which is named by what goes there first
+abbrev pub HasGone : Option Mark → Waiting → Option Mark → Waiting → Type 0
+HasGone first waiting first' waiting' =
+    (n : ℕ) × (0 < n) × (rest_of waiting' ≡ drop n (rest_of waiting))
+    × (first' ≡ named_by first waiting.lines)
+
 -- each entry whose line waited waits still, or is counted once
 abbrev pub IsCounted : ℕ → List Text → ℕ → List Text → Type 0
 IsCounted count lines count' lines' = count + entries_among lines < 2 ^ 64

@@ -3,7 +3,7 @@ ghost use Rattle.std.specs.Prelude.{◌≡◌, ◌+◌, ◌-◌, ◌≤◌, ◌<
 ghost use Rattle.std.specs.Io.KnownBytes.{Keeps};
 ghost use Rattle.archive_files.specs.Taking.{IsLeft};
 ghost use Rattle.archive_files.specs.Turning.{IsTooLong, and_file};
-ghost use Rattle.archive_files.specs.Waiting.{IsCounted, IsMoved, IsWeighed, named_by, text_of_entry, text_of_life, part_of, piece_of, rest_of};
+ghost use Rattle.archive_files.specs.Waiting.{HasGone, IsCounted, IsMoved, IsWeighed, named_by, text_of_entry, text_of_life, part_of, piece_of, rest_of};
 
 use crate::line::Mark;
 use crate::lines::Lines;
@@ -116,6 +116,9 @@ impl<S: Store + Drop> Archive<S> {
         ensures room { ¬ IsTooLong self.old.size self.old.held self.old.lines.begun self.old.lines.lines → self.new ≡ self.old }
         ensures due { OnOk result (IsTooLong self.old.size self.old.held self.old.lines.begun self.old.lines.lines → self.new.first ≡ None) }
         ensures none { self.old.first ≡ None → self.new ≡ self.old }
+        ensures fits { OnOk result
+            (IsTooLong self.new.size self.new.held self.new.lines.begun self.new.lines.lines
+            → self.new.first ≡ None) }
         // The file is named by what went into it first, and what the new one has is known.
         ensures named { OnOk result
             (IsTooLong self.old.size self.old.held self.old.lines.begun self.old.lines.lines
@@ -148,11 +151,13 @@ impl<S: Store + Drop> Archive<S> {
 
     /// Writes what it can of the first line.
     fn write_some(&mut self) -> io::Result<()>
+        requires room { IsTooLong self.old.size self.old.held self.old.lines.begun self.old.lines.lines
+            → self.old.first ≡ None }
         ensures order { IsMoved (S.contents self.old.store) (rest_of self.old.lines) (S.contents self.new.store) (rest_of self.new.lines) }
         ensures counted { IsCounted self.old.archived self.old.lines.lines self.new.archived self.new.lines.lines }
         ensures held { IsWeighed self.old.held self.old.lines self.new.held self.new.lines }
         ensures first { (self.new ≡ record self.old { store = self.new.store })
-            ⊎ (self.new.first ≡ named_by self.old.first self.old.lines.lines) }
+            ⊎ HasGone self.old.first self.old.lines self.new.first self.new.lines }
         ensures lost { self.new.lost ≡ self.old.lost }
         ensures same { (self.new.size ≡ self.old.size) × (self.new.creation ≡ self.old.creation) }
     {
