@@ -1,7 +1,7 @@
 -- What a call adds to the calls of a connection.
 use Rattle.pg_session.specs
 use Rattle.std.proofs.Common.{ap, arith, Bool, cond, Err, false, IfSome, inl, inr, List, None, Ok}
-use Rattle.std.proofs.Common.{OnOk, Option, option_to_list, refl, Result, Some, subst, sym, true, ℕ}
+use Rattle.std.proofs.Common.{OnErr, OnOk, Option, option_to_list, refl, Result, Some, subst, sym, true, ℕ}
 use Rattle.std.proofs.Common.{[], ◌&&◌, ◌++◌, ◌||◌, ◌∙◌, ◌∷◌, ◌≡◌, ◌⊎◌}
 use Rattle.std.specs.List.{All, list_all}
 use Rattle.std.proofs.lemmas.List.Elements.{All-append, All-cons, All-nil, All-weaker}
@@ -23,16 +23,23 @@ use Rattle.node_threads.proofs.Answered.{accepted, gains_more, gains_none, refus
 use Rattle.node_threads.proofs.Answered.{unheard}
 use Rattle.pg_text.specs.Asked.{moved_pids}
 use specs.declared.caller.Outcome.{Outcome}
-use specs.Asked.{is_call, is_fetch, is_made}
+use specs.Asked.{is_call, is_demonitor, is_end, is_fetch, is_made}
+use specs.Kinds.{stake_by, watches_after}
 use specs.Processes.{exited_by, has, made_in, moves_only, OwnAfter, spawned}
-use specs.Calls.{AnswersCall, AreConnections, call_line, GoesOn, IsCalled, IsSeat, may_call, Seat}
+use specs.Answers.{Answers}
+use specs.Calls.{AreConnections, call_line, GoesOn, GoesOnBy, IsCalled, IsSeat, may_call, Seat}
 use specs.Outcomes.{CameFrom, IsOutcome, Kept}
 use Rattle.policy_audit.specs.declared.reply.Reply.TheVariants as replies
 use specs.declared.caller.Outcome.TheVariants as outcomes
+use specs.declared.request.Request.TheVariants as requests
 
 pub on_ok : {T E A B : Type 0} (r : Result T E) → (A → B) → OnOk r A → OnOk r B
 on_ok (Ok x) then holds = then holds
 on_ok (Err e) then holds = tt
+
+pub on_err : {T E A : Type 0} (r : Result T E) → A → OnErr r A
+on_err (Ok x) holds = tt
+on_err (Err e) holds = holds
 
 or_true : (b : Bool) → (b || true) ≡ true
 or_true true = refl
@@ -102,10 +109,6 @@ may_go_on p p' e on may = may_still (spawned p.calls) (spawned p'.calls) (spawne
 abbrev pub goes_none : (p p' : Record) → p' ≡ p → GoesOn p p'
 goes_none p p' same = ([], gains_none p p' same)
 
-pub goes_further : (p mid p' : Record) → GoesOn p mid → GoesOn mid p' → GoesOn p p'
-goes_further p mid p' first then =
-    (first.0 ++ then.0, gains_more p mid p' first.0 then.0 first.1 then.1)
-
 -- ---- a call
 
 module _ (p p' : Record) (e : Event) where
@@ -131,10 +134,6 @@ module _ (p p' : Record) (e : Event) where
 
   pub called_on : IsCalled p e p' → GoesOn p p'
   called_on called = (gained called.0 called.1).0
-
-  pub called_or_on : IsCalled p e p' ⊎ (p' ≡ p) → GoesOn p p'
-  called_or_on (inl called) = called_on called
-  called_or_on (inr same) = goes_none p p' same
 
   -- a connection that may call it goes on
   pub called_connections : AreConnections p.calls → may_call (spawned p.calls) e ≡ true
@@ -183,6 +182,47 @@ module _ (p p' : Record) (e : Event) where
   came_after answer o o' called (inl is) came = came_now answer o' called is
   came_after answer o o' called (inr same) came = subst (CameFrom (spawned p'.calls)) (sym same)
       (came_still o (called_on (answer, called)) came)
+
+-- ---- calls of some events alone
+
+abbrev Passes : (Event → Bool) → Call → Type 0
+Passes test c = test c.event ≡ true
+
+module _ (test : Event → Bool) where
+  pub by_none : (p p' : Record) → p' ≡ p → GoesOnBy test p p'
+  by_none p p' same =
+      record { more = []; gains = gains_none p p' same; only = All-nil (Passes test) }
+
+  pub by_further : (p mid p' : Record) → GoesOnBy test p mid → GoesOnBy test mid p'
+      → GoesOnBy test p p'
+  by_further p mid p' first then = record {
+    more = first.more ++ then.more;
+    gains = gains_more p mid p' first.more then.more first.gains then.gains;
+    only = All-append (Passes test) first.more then.more first.only then.only;
+  }
+
+  pub by_call : (p p' : Record) (e : Event) → IsCalled p e p' ⊎ (p' ≡ p) → test e ≡ true
+      → GoesOnBy test p p'
+  by_call p p' e (inl called) passes = let g = gained p p' e called.0 called.1 in record {
+    more = g.0.0;
+    gains = g.0.1;
+    only =
+        All-weaker (λ (c : Call). c.event ≡ e) (Passes test)
+        (λ c is. subst (λ (x : Event). test x ≡ true) (sym is) passes) g.0.0 g.1;
+  }
+  by_call p p' e (inr same) passes = by_none p p' same
+
+-- who ends a monitor ends something
+pub ends_something : (p p' : Record) → GoesOnBy is_demonitor p p' → GoesOnBy is_end p p'
+ends_something p p' by = record {
+  more = by.more;
+  gains = by.gains;
+  only = All-weaker (Passes is_demonitor) (Passes is_end) (λ c. ends c.event) by.more by.only;
+}
+  where
+    ends : (e : Event) → is_demonitor e ≡ true → is_end e ≡ true
+    ends (Exit p) is = refl
+    ends e is = is
 
 -- ---- what a connection has
 
@@ -234,20 +274,28 @@ kept_seat (outcomes.Monitor n) (Some p) own own' all came keeps were q is =
 kept_seat (outcomes.Monitor n) None own own' all came keeps were q is =
     were q (subst (λ ps. has ps q ≡ true) keeps is)
 
--- what the answer of a call makes of a seat
+-- what the answer of a call makes of a seat that has the processes which it moves
 pub answers_call : {T E : Type 0} (seat seat' : Seat) (e : Event) (out out' : List ℕ) (o : Outcome)
     (exits : Option Pid) (answered : Result T E) → exits ≡ exited_by e
+    → moves_only seat.own e ≡ true
+    → seat'.watches ≡ watches_after o (stake_by e) seat.watches
     → OnOk answered ((answer : Result Reply CallFault) × Called seat.pass e answer seat'.pass
     × IsOutcome answer o × (out' ≡ out ++ call_line answer)) → Kept o exits seat.own seat'.own
-    → OnOk answered (AnswersCall seat e out seat' out')
-answers_call seat seat' e out out' o exits answered is answers keeps =
+    → OnOk answered (Answers (Some (requests.Call e)) seat out seat' out')
+answers_call seat seat' e out out' o exits answered is moves watches answers keeps =
     on_ok answered
-    (λ x. (
-      x.0,
-      x.1,
-      subst (λ p. OwnAfter x.0 p seat.own seat'.own) is
-          (kept_after x.0 o exits seat.own seat'.own x.2 keeps),
-      x.3,
+    (λ x. inl (
+      moves,
+      (
+        x.0,
+        o,
+        x.1,
+        x.2,
+        subst (λ p. OwnAfter x.0 p seat.own seat'.own) is
+            (kept_after x.0 o exits seat.own seat'.own x.2 keeps),
+        watches,
+        x.3,
+      ),
     )) answers
 
 -- it is a seat then
@@ -260,7 +308,8 @@ makes_seat seat seat' e o exits was called came keeps =
     (was q is))
 
 -- a seat whose pass goes on, with no other processes than it had
-pub goes_seat : (seat seat' : Seat) → IsSeat seat → GoesOn seat.pass seat'.pass
+pub goes_seat : (test : Event → Bool) (seat seat' : Seat) → IsSeat seat
+    → GoesOnBy test seat.pass seat'.pass
     → ((q : Pid) → has seat'.own q ≡ true → has seat.own q ≡ true) → IsSeat seat'
-goes_seat seat seat' was on less = λ q is. spawned_still seat.pass seat'.pass on q
-    (was q (less q is))
+goes_seat test seat seat' was by less =
+    λ q is. spawned_still seat.pass seat'.pass (by.more, by.gains) q (was q (less q is))

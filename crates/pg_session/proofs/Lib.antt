@@ -1,4 +1,5 @@
 pub mod Asking
+pub mod Begun
 pub mod Callers
 pub mod Telling
 pub mod Places

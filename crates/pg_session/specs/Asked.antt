@@ -39,6 +39,16 @@ abbrev pub is_fetch : Event → Bool
 is_fetch (event.Updates k) = true
 is_fetch e = false
 
+-- a call that ends a monitor
+abbrev pub is_demonitor : Event → Bool
+is_demonitor (event.Demonitor k) = true
+is_demonitor e = false
+
+-- a call that ends a process or a monitor
+abbrev pub is_end : Event → Bool
+is_end (event.Exit p) = true
+is_end e = is_demonitor e
+
 -- a call that is asked for is such a call
 abbrev pub IsAsked : Request → Type 0
 IsAsked (request.Call e) = is_call e ≡ true

@@ -10,10 +10,13 @@ use Rattle.node_threads.specs.declared.pass.Call.{Call}
 use Rattle.node_threads.specs.Calls.{Record, Gains}
 use Rattle.node_threads.specs.Applied.{Called}
 use Rattle.pg_text.specs.Answers.{step_line}
+use Rattle.pg_session.specs.declared.caller.Outcome.{Outcome}
 use Rattle.pg_session.specs.declared.news.Seen.{Seen}
 use Rattle.pg_session.specs.declared.watch.Watch.{Watch}
 use Rattle.pg_session.specs.Asked.{is_made}
+use Rattle.pg_session.specs.Kinds.{stake_by, watches_after}
 use Rattle.pg_session.specs.Notices.{Known}
+use Rattle.pg_session.specs.Outcomes.{IsOutcome}
 use Rattle.pg_session.specs.Processes.{has, spawned, exited_by, moves_only, OwnAfter}
 
 -- whether a connection that has spawned these may call this
@@ -31,6 +34,12 @@ IsCalled pass e pass' = (answer : Result Reply CallFault) × Called pass e answe
 -- the pass has gained some calls
 abbrev pub GoesOn : Record → Record → Type 0
 GoesOn pass pass' = (more : List Call) × Gains pass more pass'
+
+-- the pass has gained some calls, each of an event that passes a test
+pub record GoesOnBy (test : Event → Bool) (pass pass' : Record) : Type 0 where
+  pub more : List Call
+  pub gains : Gains pass more pass'
+  pub only : All (λ (c : Call). test c.event ≡ true) more
 
 -- ---- the seat of a connection
 
@@ -58,6 +67,11 @@ call_line (Ok reply) = step_line (Ok reply)
 call_line (Err (Core fault)) = step_line (Err fault)
 call_line (Err StrangePass) = stranger_line
 
--- one call of the event, whose answer was added to these bytes
+-- one call of the event, whose answer was added to these bytes; processes and monitors come and go
+-- as it says
 abbrev pub AnswersCall : Seat → Event → List ℕ → Seat → List ℕ → Type 0
-AnswersCall seat e out seat' out' = (answer : Result Reply CallFault) × Called seat.pass e answer seat'.pass × OwnAfter answer (exited_by e) seat.own seat'.own × (out' ≡ out ++ call_line answer)
+AnswersCall seat e out seat' out' = (answer : Result Reply CallFault) × (came : Outcome)
+    × Called seat.pass e answer seat'.pass × IsOutcome answer came
+    × OwnAfter answer (exited_by e) seat.own seat'.own
+    × (seat'.watches ≡ watches_after came (stake_by e) seat.watches)
+    × (out' ≡ out ++ call_line answer)

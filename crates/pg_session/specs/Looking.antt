@@ -1,11 +1,11 @@
 -- What a telling makes of the monitors of a seat.
-use Rattle.std.specs.Prelude.{◌≡◌, ℕ, not, List, map}
+use Rattle.std.specs.Prelude.{◌≡◌, ◌⊎◌, ℕ, not, List, map}
 use Rattle.std.specs.List.{filter}
 use Rattle.node_threads.specs.Room.{IsSound, Room}
 use Rattle.pg_session.specs.declared.watch.Watch.{Watch}
 use Rattle.pg_session.specs.Calls.{Seat}
 use Rattle.pg_session.specs.Seen.{seen_of, unseen}
-use Rattle.pg_session.specs.Watching.{AllAsked, aged, noted}
+use Rattle.pg_session.specs.Watching.{AllAsked, aged, as_begun, noted}
 
 -- all entries were looked at that a node has had since the last look, as far as it keeps them
 pub record HasLooked (seat seat' : Seat) : Type 0 where
@@ -22,3 +22,9 @@ pub record AreTold (stale : ℕ) (seat seat' : Seat) : Type 0 where
   pub asked : AllAsked seat.pass (map (aged stale) mid.watches) mid.seen.entries seat'.pass all
   pub left : seat'.watches ≡ filter (λ w. not w.is_over) all
   pub seen : seat'.seen ≡ mid.seen
+
+-- a telling that broke off: it has looked or not, and each monitor is there still
+pub record IsBroken (seat seat' : Seat) : Type 0 where
+  pub monitors : map as_begun seat'.watches ≡ map as_begun seat.watches
+  pub seen : (seat'.seen ≡ seat.seen)
+      ⊎ ((mid : Seat) × HasLooked seat mid × (seat'.seen ≡ mid.seen))

@@ -24,6 +24,21 @@ use Rattle.pg_session.specs.Outcomes.{fetched_by}
 abbrev pub target : Watch → Target
 target w = record { scope = w.scope; group = w.group }
 
+-- a monitor of this number that begins: nothing was asked yet, and it is neither due nor over
+abbrev pub begun : ℕ → List ℕ → Option (List ℕ) → Watch
+begun n s g = record {
+  number = n;
+  scope = s;
+  group = g;
+  asked = 0;
+  is_due = false;
+  is_over = false;
+}
+
+-- the monitor as it began
+abbrev pub as_begun : Watch → Watch
+as_begun w = begun w.number w.scope w.group
+
 -- the scope that an entry of this event and this verdict has stopped
 abbrev pub stopped_by : Event → Verdict → Option (List ℕ)
 stopped_by (event.StopScope s) (Accepted r) = Some s

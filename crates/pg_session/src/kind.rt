@@ -4,7 +4,7 @@ ghost use Rattle.node_core.specs.Calm.{is_query};
 ghost use Rattle.pg_text.specs.Asked.{moved_pids};
 ghost use Rattle.pg_session.specs.Asked.{is_call};
 ghost use Rattle.pg_session.specs.Processes.{exited_by};
-ghost use Rattle.pg_session.specs.Kinds.{reads, calls, moved, exits};
+ghost use Rattle.pg_session.specs.Kinds.{reads, calls, moved, exits, stake_by, stake_of};
 
 use dist_types::{Group, Pid, Scope};
 use policy_audit::Event;
@@ -35,6 +35,7 @@ impl<'a> Kind<'a> {
         ensures call { calls result ≡ is_call event.now }
         ensures moved { moved result ≡ moved_pids event.now }
         ensures exits { exits result ≡ exited_by event.now }
+        ensures stake { stake_of result ≡ stake_by event.now }
     {
         match event {
             Event::Members(_, _)

@@ -1,7 +1,10 @@
 //! What a connection is told unasked.
-ghost use Rattle.std.specs.Prelude.{◌≡◌, None, OnOk};
-ghost use Rattle.pg_session.specs.Looking.{AreTold, HasLooked};
+ghost use Rattle.std.specs.Prelude.{◌≡◌, IfOk, None, OnErr, OnOk, map};
+ghost use Rattle.pg_session.specs.Asked.{is_fetch};
+ghost use Rattle.pg_session.specs.Calls.{GoesOnBy};
+ghost use Rattle.pg_session.specs.Looking.{AreTold, HasLooked, IsBroken};
 ghost use Rattle.pg_session.specs.Notices.{Tells, TellsNews};
+ghost use Rattle.pg_session.specs.Watching.{as_begun};
 
 use crate::news::{LostLinks, Seen};
 use crate::session::Session;
@@ -27,9 +30,12 @@ impl Session {
     ) -> Result<Seen, OutOfMemory>
         ensures told { OnOk result (Tells self.old.pass self.old.known out.old.items self.new.pass self.new.known out.new.items) }
         ensures done { OnOk result (self.new.known.anew ≡ None) }
+        ensures asks { GoesOnBy is_fetch self.old.pass self.new.pass }
         ensures own { self.new.own ≡ self.old.own }
         ensures taken { self.new.taken ≡ self.old.taken }
         ensures monitors { OnOk result (AreTold stale self.old self.new) }
+        ensures seen { IfOk result (λ seen. seen ≡ self.new.seen) }
+        ensures memory { OnErr result (IsBroken self.old self.new) }
     {
         self.news.put_restart(out)?;
         self.look(rt, alloc, node, lost, out)?;
@@ -62,6 +68,8 @@ impl Session {
         } }
         ensures told { OnOk result (TellsNews self.old.known out.old.items self.new.known out.new.items) }
         ensures looked { OnOk result (HasLooked self.old self.new) }
+        ensures monitors { map as_begun self.new.watches ≡ map as_begun self.old.watches }
+        ensures memory { OnErr result (self.new.seen ≡ self.old.seen) }
     {
         let mut watched = Watched::of_many(rt, alloc, node, &self.watches, self.seen);
         let shared = node.shared.lock(rt);

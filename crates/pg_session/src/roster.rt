@@ -1,4 +1,7 @@
 //! Who is up, for connections that are still to come.
+ghost use Rattle.std.specs.Prelude.{◌≡◌, OnOk};
+ghost use Rattle.pg_session.specs.Seen.{seen_of};
+
 use crate::news::{LostLinks, News, Seen};
 use dist_types::OutOfMemory;
 use node_core::NodeCore;
@@ -33,7 +36,9 @@ impl Roster {
     }
 
     /// How far it has followed the node.
-    pub fn seen(&self) -> Seen {
+    pub fn seen(&self) -> Seen
+        ensures { result ≡ self.now.seen }
+    {
         self.seen
     }
 
@@ -45,7 +50,9 @@ impl Roster {
 
     /// Follows the node up to now, in a new life from its beginning. Where memory is wanting it does so
     /// later.
-    pub fn follow(&mut self, alloc: Global, core: &NodeCore) -> Result<(), OutOfMemory> {
+    pub fn follow(&mut self, alloc: Global, core: &NodeCore) -> Result<(), OutOfMemory>
+        ensures { OnOk result (self.new.seen ≡ seen_of core.now.history) }
+    {
         if self.seen.creation() != core.creation() {
             self.news = News::new(alloc);
             self.seen = Seen::NOTHING;

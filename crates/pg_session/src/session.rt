@@ -2,12 +2,14 @@
 ghost use Rattle.std.specs.Prelude.{◌≡◌, ◌⊎◌, [], false, true, length, IfOk, OnOk, OnErr, Some, None};
 ghost use Rattle.policy_audit.specs.History.{creation};
 ghost use Rattle.pg_text.specs.Lines.{is_quiet};
-ghost use Rattle.pg_session.specs.Asked.{is_call, asked_by, next_after, next_behind, IsAsked};
+ghost use Rattle.pg_session.specs.Asked.{is_call, is_demonitor, is_end, asked_by};
+ghost use Rattle.pg_session.specs.Asked.{next_after, next_behind, IsAsked};
 ghost use Rattle.pg_session.specs.Answers.{Answers, Makes};
 ghost use Rattle.dist_types.specs.declared.pid.Pid.{Pid};
 ghost use Rattle.pg_session.specs.Processes.{has};
-ghost use Rattle.pg_session.specs.Calls.{Seat, GoesOn};
+ghost use Rattle.pg_session.specs.Calls.{Seat, GoesOnBy};
 ghost use Rattle.pg_session.specs.Notices.{TellsNews};
+ghost use Rattle.pg_session.specs.Seen.{seen_of};
 ghost use Rattle.pg_session.specs.declared.request.Request.TheVariants as requests;
 
 use crate::caller::{Caller, Lack, Outcome};
@@ -172,6 +174,8 @@ impl Session {
     ) -> Result<Seen, OutOfMemory>
         ensures ok { OnOk result (self.new ≡ record self.old { taken = true; known = self.new.known; seen = self.new.seen }) }
         ensures done { OnOk result (self.new.known.anew ≡ None) }
+        ensures looked { OnOk result (self.new.seen ≡ seen_of core.now.history) }
+        ensures seen { IfOk result (λ seen. seen ≡ self.new.seen) }
         ensures same { OnErr result (self.new ≡ self.old) }
     {
         roster.follow(alloc, core)?;
@@ -336,7 +340,7 @@ impl Session {
 
     /// Ends a monitor of the connection: whether there was one.
     pub fn leave_monitor<R: Wait>(&mut self, rt: &R, node: &Node) -> bool
-        ensures goes { GoesOn self.old.pass self.new.pass }
+        ensures goes { GoesOnBy is_demonitor self.old.pass self.new.pass }
         ensures rest { self.new ≡ record self.old {
           pass = self.new.pass;
           watches = self.new.watches;
@@ -351,7 +355,7 @@ impl Session {
 
     /// Ends one thing that the connection has, a process or a monitor: whether there was one. If not, the seat is free.
     pub fn leave_one<R: Wait>(&mut self, rt: &R, alloc: Global, node: &Node) -> bool
-        ensures goes { GoesOn self.old.pass self.new.pass }
+        ensures goes { GoesOnBy is_end self.old.pass self.new.pass }
         ensures fewer { (p : Pid) → has self.new.own p ≡ true → has self.old.own p ≡ true }
         ensures free { result ≡ false → (self.old.own ≡ []) × (self.new ≡ record self.old { taken = false }) }
         ensures taken { result ≡ true → self.new.taken ≡ self.old.taken }

@@ -1,6 +1,6 @@
 //! What a connection gains and loses by a call.
 ghost use Rattle.std.specs.Prelude.{◌≡◌, ◌<◌, vec_len, vec_capacity, IfOk, OnOk, OnErr};
-ghost use Rattle.pg_session.specs.Kinds.{exits, exit_at};
+ghost use Rattle.pg_session.specs.Kinds.{exits, exit_at, stake_of, watches_after};
 ghost use Rattle.pg_session.specs.Outcomes.{Kept};
 
 use crate::caller::Outcome;
@@ -30,6 +30,7 @@ pub fn prepare(
     kind: Kind<'_>,
 ) -> Result<Stake, OutOfMemory>
     ensures stake { IfOk result (λ stake. exit_at stake ≡ exits kind.entry) }
+    ensures is { IfOk result (λ stake. stake ≡ stake_of kind.entry) }
     ensures same { processes.new ≡ processes.old }
     ensures watches { watches.new.items ≡ watches.old.items }
     ensures room { OnOk result (vec_len watches.new < vec_capacity watches.new) }
@@ -53,7 +54,10 @@ pub fn keep(
 ) -> Result<(), OutOfMemory>
     requires { vec_len watches.old < vec_capacity watches.old }
     ensures ok { OnOk result (Kept outcome (exit_at stake) processes.old processes.new) }
+    ensures watches { OnOk result
+        (watches.new.items ≡ watches_after outcome stake watches.old.items) }
     ensures same { OnErr result (processes.new ≡ processes.old) }
+    ensures still { OnErr result (watches.new.items ≡ watches.old.items) }
 {
     match (outcome, stake) {
         (Outcome::Refused(_), _) => {}

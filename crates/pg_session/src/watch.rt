@@ -6,9 +6,10 @@ ghost use Rattle.std.specs.Option.{option_map};
 ghost use Rattle.dist_types.specs.Listing.{same};
 ghost use Rattle.policy_audit.specs.declared.event.Event.TheVariants.{Updates};
 ghost use Rattle.policy_audit.specs.Monitors.{is_watched};
-ghost use Rattle.pg_session.specs.Calls.{GoesOn, IsCalled};
+ghost use Rattle.pg_session.specs.Asked.{is_fetch};
+ghost use Rattle.pg_session.specs.Calls.{GoesOnBy, IsCalled};
 ghost use Rattle.pg_session.specs.Notices.{Known, Tells, TellsMore};
-ghost use Rattle.pg_session.specs.Watching.{aged, is_touched, noted, stopped_by, stops, target};
+ghost use Rattle.pg_session.specs.Watching.{aged, as_begun, begun, is_touched, noted, stopped_by, stops, target};
 ghost use Rattle.pg_session.specs.Watching.{AllAsked, Asks, is_asked, learned, Learns};
 
 use crate::caller::{Caller, Fetched};
@@ -38,14 +39,8 @@ pub struct Watch {
 impl Watch {
     /// A monitor that has no entry yet.
     pub fn of(alloc: Global, scope: &Scope, group: Option<&Group>) -> Result<Watch, OutOfMemory>
-        ensures { IfOk result (λ watch. watch ≡ record {
-          number = 0;
-          scope = scope.now;
-          group = option_map (λ g. g.now) group.entry;
-          asked = 0;
-          is_due = false;
-          is_over = false;
-        }) }
+        ensures { IfOk result (λ watch. watch
+            ≡ begun 0 scope.now (option_map (λ g. g.now) group.entry)) }
     {
         let group = match group {
             Some(group) => Some(group.try_clone(alloc)?),
@@ -252,11 +247,12 @@ pub fn tell_all<R: Wait>(
     entries: usize,
     out: &mut Vec<u8>,
 ) -> Result<(), OutOfMemory>
-    ensures goes { GoesOn caller.old caller.new }
+    ensures goes { GoesOnBy is_fetch caller.old caller.new }
     ensures told { OnOk result ((known : Known) → Tells caller.old known out.old.items caller.new known out.new.items) }
     ensures asked { OnOk result ((all : List Watch)
         × AllAsked caller.old watches.old.items entries caller.new all
         × (watches.new.items ≡ filter (λ w. not w.is_over) all)) }
+    ensures memory { OnErr result (map as_begun watches.new.items ≡ map as_begun watches.old.items) }
 {
     ask_all(watches, caller, rt, alloc, node, entries, out)?;
     watches.retain(|watch| !watch.is_over);
@@ -272,11 +268,12 @@ fn ask_all<R: Wait>(
     entries: usize,
     out: &mut Vec<u8>,
 ) -> Result<(), OutOfMemory>
-    ensures goes { GoesOn caller.old caller.new }
+    ensures goes { GoesOnBy is_fetch caller.old caller.new }
     ensures told { OnOk result ((known : Known)
         → Tells caller.old known out.old.items caller.new known out.new.items) }
     ensures asked { OnOk result
         (AllAsked caller.old watches.old.items entries caller.new watches.new.items) }
+    ensures memory { OnErr result (map as_begun watches.new.items ≡ map as_begun watches.old.items) }
 {
     for watch in watches.iter_mut() {
         watch.tell(caller, rt, alloc, node, entries, out)?;

@@ -1,11 +1,11 @@
 use Rattle.pg_session.specs
-use Rattle.std.proofs.Common.{inl, subst, sym, true, ◌∙◌, ◌≡◌}
+use Rattle.std.proofs.Common.{ap, inl, subst, sym, true, ◌∙◌, ◌≡◌}
 use Rattle.std.specs.List.{list_all}
 use specs.Processes.{has, moves_only, spawned}
 use specs.Calls.{Seat}
-use specs.Kinds.{exit_at}
+use specs.Kinds.{exit_at, stake_by, watches_after}
 use specs.Outcomes.{Kept}
-use Rattle.pg_session.proofs.Callers.{answers_call, makes_seat, may_own, on_ok}
+use Rattle.pg_session.proofs.Callers.{answers_call, makes_seat, may_own}
 use Rattle.pg_session.proofs.session.Session.call.Given.{Over}
 use Rattle.pg_session.proofs.session.Session.call.Goals.{After-has_all}
 use Rattle.pg_session.proofs.session.Session.call.Goals as goal
@@ -55,15 +55,21 @@ returns-clause-ok g c =
     let after : Seat = record before {
       pass = c.call-answered.new.self;
       own = c.keep.new.processes;
+      watches = c.keep.new.watches.items;
     } in
     let exits = exit_at c.in-Ok.stake in
+    let came = c.call-answered.new.outcome in
+    let stake = c.in-Ok.ensures.is ∙ c.of-kind.ensures.stake in
+    let watches =
+    c.in_ok-keep.ensures.watches
+    ∙ ap (λ s. watches_after came s c.prepare-prepared.new.watches.items) stake
+    ∙ ap (watches_after came (stake_by c.args.event)) c.prepare-prepared.ensures.watches in
     let own = moves g (goal.at.returns-clause-ok g c).After-has_all c.if-not-has_all.false in
-    rw (← c.self.view_is) (on_ok c.call-answered.result (λ it. inl (own, it))
-    (answers_call before after c.args.event c.args.out.now.items c.call-answered.new.out.items
-    c.call-answered.new.outcome exits c.call-answered.result
-    (c.in-Ok.ensures.stake ∙ c.of-kind.ensures.exits) c.call-answered.ensures.ok
+    rw (← c.self.view_is) (answers_call before after c.args.event c.args.out.now.items
+    c.call-answered.new.out.items c.call-answered.new.outcome exits c.call-answered.result
+    (c.in-Ok.ensures.stake ∙ c.of-kind.ensures.exits) own watches c.call-answered.ensures.ok
     (subst (λ own. Kept c.call-answered.new.outcome exits own c.keep.new.processes)
-    c.prepare-prepared.ensures.same c.in_ok-keep.ensures.ok)))
+    c.prepare-prepared.ensures.same c.in_ok-keep.ensures.ok))
 
 pub returns-clause-once : goal.returns-clause-once
 returns-clause-once g c = rw (← c.self.view_is) (inl c.call-answered.ensures.called)

@@ -2,7 +2,8 @@ use Rattle.pg_session.proofs
 use Rattle.std.proofs.Common.{ap, map, subst, [], ◌∙◌, ◌≡◌}
 use Rattle.pg_session.specs.Seen.{seen_of, unseen}
 use Rattle.pg_session.specs.Watched.{Awaits}
-use Rattle.pg_session.specs.Watching.{noted}
+use Rattle.pg_session.specs.Watching.{as_begun, noted}
+use proofs.Begun.{begun_awaited, begun_noted}
 use proofs.Telling.{news_more}
 use Rattle.pg_session.proofs.session.Session.look.Goals as goal
 
@@ -32,3 +33,29 @@ returns-clause-looked g c =
           ∙ ap (λ es. map (noted es) before) all;
       seen = c.of-seen.ensures ∙ ap seen_of kept.history;
     })
+
+pub returns-in_err-put_stops-clause-monitors : goal.returns-in_err-put_stops-clause-monitors
+returns-in_err-put_stops-clause-monitors g c =
+    let before = c.self.inside.watches.items in
+    rw (← c.self.view_is)
+    (begun_awaited c.unseen.result before c.note_news.new.watches.items c.note_news.new.watched
+    (c.note_news.ensures (subst (λ ws. Awaits [] ws c.of_many-watched.result ws)
+    c.deref.ensures.value c.of_many-watched.ensures)))
+
+pub returns-clause-monitors : goal.returns-clause-monitors
+returns-clause-monitors g c =
+    let before = c.self.inside.watches.items in
+    rw (← c.self.view_is)
+    (ap (map as_begun) (c.tell_noted.ensures c.unseen.result before
+    (c.note_news.ensures (subst (λ ws. Awaits [] ws c.of_many-watched.result ws)
+    c.deref.ensures.value c.of_many-watched.ensures)))
+    ∙ begun_noted c.unseen.result before)
+
+pub returns-in_err-told-clause-monitors : goal.returns-in_err-told-clause-monitors
+returns-in_err-told-clause-monitors g c =
+    let before = c.self.inside.watches.items in
+    rw (← c.self.view_is)
+    (ap (map as_begun) (c.tell_noted.ensures c.unseen.result before
+    (c.note_news.ensures (subst (λ ws. Awaits [] ws c.of_many-watched.result ws)
+    c.deref.ensures.value c.of_many-watched.ensures)))
+    ∙ begun_noted c.unseen.result before)

@@ -1,10 +1,14 @@
 use Rattle.pg_session.specs
-use Rattle.std.proofs.Common.{ap, List, map, subst, ℕ, ◌∙◌, ◌≡◌}
-use specs.Calls.{Seat}
+use Rattle.std.proofs.Common.{ap, inr, List, map, subst, ℕ, ◌∙◌, ◌≡◌}
+use specs.Asked.{is_fetch}
+use specs.Calls.{GoesOnBy, Seat}
+use specs.Looking.{IsBroken}
 use specs.Notices.{Known}
-use specs.Watching.{aged, AllAsked}
+use specs.Watching.{aged, AllAsked, as_begun}
 use specs.declared.watch.Watch.{Watch}
 use Rattle.node_threads.specs.Calls.{Record}
+use Rattle.pg_session.proofs.Begun.{begun_aged}
+use Rattle.pg_session.proofs.Callers.{on_err}
 use Rattle.pg_session.proofs.Telling.{all_told, news_more, tells_then}
 use Rattle.pg_session.proofs.session.Session.tell.Goals as goal
 
@@ -60,3 +64,56 @@ returns-clause-monitors g c =
       left = told.2;
       seen = ap (λ (s : Seat). s.seen) c.self-2.view_is;
     })
+
+pub returns-clause-asks : goal.returns-clause-asks
+returns-clause-asks g c =
+    let pass = ap (λ (s : Seat). s.pass) c.self-2.view_is
+    ∙ ap (λ (s : Seat). s.pass) c.look.ensures.rest in
+    rw (← c.self.view_is)
+    (subst (λ p. GoesOnBy is_fetch p c.tell_all.new.caller) pass c.tell_all.ensures.goes)
+
+pub returns-in_err-tell_all-clause-asks : goal.returns-in_err-tell_all-clause-asks
+returns-in_err-tell_all-clause-asks g c =
+    let pass = ap (λ (s : Seat). s.pass) c.self-2.view_is
+    ∙ ap (λ (s : Seat). s.pass) c.look.ensures.rest in
+    rw (← c.self.view_is)
+    (subst (λ p. GoesOnBy is_fetch p c.tell_all.new.caller) pass c.tell_all.ensures.goes)
+
+pub returns-in_err-tell_all-clause-memory : goal.returns-in_err-tell_all-clause-memory
+returns-in_err-tell_all-clause-memory g c =
+    let mid = c.look.new.self in
+    let looked = c.in_ok-look.ensures.looked in
+    let before : Seat = record {
+      pass = c.self.inside.caller;
+      own = c.self.inside.processes;
+      taken = c.self.inside.is_open;
+      known = c.self.inside.news;
+      watches = c.self.inside.watches.items;
+      seen = c.self.inside.seen;
+    } in
+    let after : Seat = record {
+      pass = c.tell_all.new.caller;
+      own = c.self-2.inside.processes;
+      taken = c.self-2.inside.is_open;
+      known = c.self-2.inside.news;
+      watches = c.tell_all.new.watches.items;
+      seen = c.self-2.inside.seen;
+    } in
+    let broken : IsBroken before after = record {
+      monitors =
+          c.in_err-tell_all.ensures.memory ∙ ap (map as_begun) c.note_ages.ensures
+          ∙ begun_aged c.args.stale _
+          ∙ ap (λ (s : Seat). map as_begun s.watches) c.self-2.view_is
+          ∙ c.look.ensures.monitors;
+      seen = inr (
+        mid,
+        record {
+          room = looked.room;
+          sound = looked.sound;
+          watches = looked.watches;
+          seen = looked.seen;
+        },
+        ap (λ (s : Seat). s.seen) c.self-2.view_is,
+      );
+    } in
+    rw (← c.self.view_is) (on_err _ broken)
