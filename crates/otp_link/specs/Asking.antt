@@ -1,5 +1,5 @@
 -- When a stock node is asked for its rows again: times are milliseconds from the begin of a link.
-use Rattle.std.specs.Prelude.{ℕ, ◌+◌, ◌-◌, ◌*◌, ◌/◌, min, nat_le, nat_lt, Bool, true, false, cond}
+use Rattle.std.specs.Prelude.{◌≡◌, ◌⊎◌, ℕ, ◌+◌, ◌-◌, ◌*◌, ◌/◌, min, nat_le, nat_lt, Bool, true, false, cond}
 use Rattle.std.specs.Prelude.{not, ◌&&◌, List, [], Option, Some, None, is_some, flat_map}
 use Rattle.std.specs.Duration.{as_nanos}
 use Rattle.std.specs.declared.time.Duration.{Duration}
@@ -16,6 +16,10 @@ abbrev pub has_come : Option ℕ → ℕ → Bool
 has_come None now = false
 has_come (Some time) now = nat_le time now
 
+-- it isn't to be asked yet
+abbrev pub IsFresh : Healing → Type 0
+IsFresh healing = (healing.due ≡ None) × (healing.asked ≡ None) × (healing.seek ≡ None)
+
 -- the pause before a question: a second, or twice the last one, up to thirty seconds, where it is
 -- less than a minute since a question
 abbrev pub next_pause : Option ℕ → ℕ → ℕ → ℕ
@@ -28,6 +32,10 @@ lacks_at healing (Some due) now = healing
 lacks_at healing None now =
     let pause = next_pause healing.asked healing.pause now in
     record healing { due = Some (now + pause); pause = pause }
+
+-- rows may lack then
+abbrev pub MayLack : Healing → Healing → ℕ → Type 0
+MayLack before after now = (after ≡ before) ⊎ (after ≡ lacks_at before before.due now)
 
 -- all rows are asked for: no question is due any more
 abbrev pub asked_at : Healing → ℕ → Healing

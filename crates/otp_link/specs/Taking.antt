@@ -11,6 +11,7 @@ use Rattle.otp_edge.specs.Said.{KnowsTheSame}
 use Rattle.otp_edge.specs.Signals.{SaysTooMany}
 use Rattle.otp_edge.specs.declared.edge_state.Edge.{Edge}
 use Rattle.otp_edge.specs.declared.heard.Heard.{Heard}
+use Rattle.otp_link.specs.Asking.{MayLack}
 use Rattle.otp_link.specs.Counted.{Follows, IsCutAs}
 use Rattle.otp_link.specs.Known.{known_of, Learns, with_peer}
 use Rattle.otp_link.specs.Long.{GoesPast}
@@ -54,19 +55,21 @@ pub record TakesFrame (link new : OtpLink) (body : List ℕ) (taken : Taken) : T
   pub owed : taken.owed.items ≡ []
   pub known : Learns new.kind link.kind.is_dialled (with_peer (known_of link)) body
       (known_of link) (known_of new)
+  pub healing : new.healing ≡ link.healing
   pub up : new.takes_bodies ≡ is_last_of body
 
 -- of a body just what the edge hears is handed in, a leave cut to what the table lists; and just
 -- what the edge owes is sent back. The edge keeps its scopes and the names of both ends, and the
 -- link all but when the peer is asked again
-pub record TakesBody (lists : List ℕ → (Row → ℕ) → Type 0) (link new : OtpLink) (body : List ℕ)
-    (taken : Taken) : Type 0 where
+pub record TakesBody (lists : List ℕ → (Row → ℕ) → Type 0) (now : ℕ) (link new : OtpLink)
+    (body : List ℕ) (taken : Taken) : Type 0 where
   pub edge : Edge
   pub after : Edge
   pub first : Heard
   pub heard : Heard
   pub begun : link.edge ≡ Some edge
   pub goes_on : new ≡ record link { edge = Some after; healing = new.healing }
+  pub healing : MayLack link.healing new.healing now
   pub stays : Stays edge after
   pub hears : Hears edge after body first
   pub cut : Follows (IsCutAs lists) first heard
@@ -115,15 +118,15 @@ pub data Ends (link : OtpLink) (front : List ℕ) (fault : LinkFault) : Type 0 w
 
 -- what comes of the piece at the front: until the handshake is done a frame; then a body, a tick,
 -- or a body of more than 4,194,304 bytes
-pub data Takes (lists : List ℕ → (Row → ℕ) → Type 0) (link new : OtpLink) (front : List ℕ)
-    (taken : Taken) : Type 0 where
+pub data Takes (lists : List ℕ → (Row → ℕ) → Type 0) (now : ℕ) (link new : OtpLink)
+    (front : List ℕ) (taken : Taken) : Type 0 where
   frame : (body rest : List ℕ) → link.takes_bodies ≡ false → HasFrame front body rest
-      → TakesFrame link new body taken → Takes lists link new front taken
+      → TakesFrame link new body taken → Takes lists now link new front taken
   body : (body rest : List ℕ) → link.takes_bodies ≡ true → HasBody front body rest
-      → TakesBody lists link new body taken → new.takes_bodies ≡ true
-      → Takes lists link new front taken
+      → TakesBody lists now link new body taken → new.takes_bodies ≡ true
+      → Takes lists now link new front taken
   tick : (rest : List ℕ) → link.takes_bodies ≡ true → front ≡ counted w32 [] ++ rest
-      → IsPassedOver 4 taken → new ≡ link → Takes lists link new front taken
+      → IsPassedOver 4 taken → new ≡ link → Takes lists now link new front taken
   long : (len : ℕ) (begin rest : List ℕ) → link.takes_bodies ≡ true → 4194304 < len
       → front ≡ to_be_bytes w32 len ++ begin ++ rest → TakesLong link new begin len taken
-      → new.takes_bodies ≡ true → Takes lists link new front taken
+      → new.takes_bodies ≡ true → Takes lists now link new front taken

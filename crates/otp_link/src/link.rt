@@ -1,6 +1,6 @@
 //! One link with a stock node.
 ghost use Rattle.std.specs.Prelude.{◌≡◌, false, IfOk, None};
-ghost use Rattle.otp_link.specs.Asking.{asked_for, asking, healing_behind, millis};
+ghost use Rattle.otp_link.specs.Asking.{IsFresh, asked_for, asking, healing_behind, millis};
 ghost use Rattle.otp_link.specs.Known.{Meets, known_of};
 ghost use Rattle.otp_link.specs.Sent.{dropped_of};
 
@@ -47,6 +47,7 @@ impl OtpLink {
         ensures edge { result.edge ≡ None }
         ensures takes { result.takes_bodies ≡ false }
         ensures sends { result.sends_bodies ≡ false }
+        ensures healing { IsFresh result.healing }
     {
         OtpLink {
             alloc,
@@ -65,6 +66,7 @@ impl OtpLink {
         ensures kind { self.new.kind ≡ self.old.kind }
         ensures takes { self.new.takes_bodies ≡ self.old.takes_bodies }
         ensures sends { self.new.sends_bodies ≡ self.old.sends_bodies }
+        ensures healing { self.new.healing ≡ self.old.healing }
         ensures known { Meets self.old.kind (known_of self.old) (known_of self.new) }
     {
         if self.edge.is_some() {

@@ -22,6 +22,7 @@ impl OtpLink {
     pub fn send(&mut self, batch: &[u8], life: &mut Life) -> Result<Vec<u8>, LinkFault>
         ensures kind { self.new.kind ≡ self.old.kind }
         ensures other { self.new.takes_bodies ≡ self.old.takes_bodies }
+        ensures healing { self.new.healing ≡ self.old.healing }
         ensures sent { IfOk result (λ out. SendsAll self.old.kind (stand_of self.old life.old)
             (stand_of self.new life.new) batch.now out.items) }
         ensures refused { IfErr result (λ fault. fault ≡ faults.OutOfMemory) }
@@ -47,6 +48,7 @@ impl OtpLink {
     ) -> Result<Option<&'a [u8]>, LinkFault>
         ensures kind { self.new.kind ≡ self.old.kind }
         ensures other { self.new.takes_bodies ≡ self.old.takes_bodies }
+        ensures healing { self.new.healing ≡ self.old.healing }
         ensures sent { IfOk result (λ read. MatchOption read
             ((stand_of self.new life.new ≡ stand_of self.old life.old)
             × (out.new.items ≡ out.old.items) × IsUnsent self.old.sends_bodies left.now)
@@ -75,6 +77,7 @@ impl OtpLink {
     fn frame_sent(&mut self, body: &[u8]) -> Result<Vec<u8>, LinkFault>
         ensures kind { self.new.kind ≡ self.old.kind }
         ensures other { self.new.takes_bodies ≡ self.old.takes_bodies }
+        ensures healing { self.new.healing ≡ self.old.healing }
         ensures frame { IfOk result (λ sent. IsOwnFrame self.old.kind.is_visible body.now
             sent.items) }
         ensures long { IfOk result (λ sent. length sent.items ≡ length body.now) }
@@ -93,6 +96,7 @@ impl OtpLink {
     fn note_name(&mut self, body: &[u8]) -> Result<(), OutOfMemory>
         ensures kind { self.new.kind ≡ self.old.kind }
         ensures other { self.new.takes_bodies ≡ self.old.takes_bodies }
+        ensures healing { self.new.healing ≡ self.old.healing }
         ensures known { IfOk result (λ _. Learns self.old.kind (not self.old.kind.is_dialled)
             (with_own (known_of self.old)) body.now (known_of self.old) (known_of self.new)) }
     {
@@ -109,6 +113,7 @@ impl OtpLink {
     fn bodies_sent(&mut self, body: &[u8], life: &mut Life) -> Result<Vec<u8>, LinkFault>
         ensures kind { self.new.kind ≡ self.old.kind }
         ensures other { self.new.takes_bodies ≡ self.old.takes_bodies }
+        ensures healing { self.new.healing ≡ self.old.healing }
         ensures sends { self.new.sends_bodies ≡ self.old.sends_bodies }
         ensures said { IfOk result (λ out. SendsBody (stand_of self.old life.old)
             (stand_of self.new life.new) body.now out.items) }

@@ -5,6 +5,7 @@ ghost use Rattle.std.specs.Int.{w16, w32};
 ghost use Rattle.handshake_frames.specs.Spelling.{counted};
 ghost use Rattle.otp_edge.specs.Edges.{Stays};
 ghost use Rattle.otp_edge.specs.Said.{KnowsTheSame};
+ghost use Rattle.otp_link.specs.Asking.{millis};
 ghost use Rattle.otp_link.specs.Known.{Learns, known_of, with_peer};
 ghost use Rattle.otp_link.specs.Pieces.{IsShort, is_last_of};
 ghost use Rattle.otp_link.specs.Sent.{IsNarrowed};
@@ -56,7 +57,7 @@ impl OtpLink {
         ensures other { self.new.sends_bodies ≡ self.old.sends_bodies }
         ensures taken { IfOk result (λ read. MatchOption read
             ((self.new ≡ self.old) × IsShort self.old.takes_bodies front.now)
-            (Takes (T.lists table.now) self.old self.new front.now)) }
+            (Takes (T.lists table.now) (millis now) self.old self.new front.now)) }
         ensures refused { IfErr result (Ends self.old front.now) }
     {
         match cut(front, self.takes_bodies) {
@@ -105,6 +106,7 @@ impl OtpLink {
         ensures other { self.new.sends_bodies ≡ self.old.sends_bodies }
         ensures known { IfOk result (λ _. Learns self.new.kind self.old.kind.is_dialled
             (with_peer (known_of self.old)) body.now (known_of self.old) (known_of self.new)) }
+        ensures healing { self.new.healing ≡ self.old.healing }
         ensures stock { IfOk result (λ _. IsOfStock self.old body.now) }
         ensures agrees { IfOk result (Agrees self.old.kind self.new.kind body.now) }
         ensures refused { IfErr result (EndsByFrame self.old body.now) }
@@ -134,7 +136,7 @@ impl OtpLink {
         ensures up { self.new.takes_bodies ≡ self.old.takes_bodies }
         ensures other { self.new.sends_bodies ≡ self.old.sends_bodies }
         ensures taken { IfOk result
-            (TakesBody (T.lists table.now) self.old self.new body.now) }
+            (TakesBody (T.lists table.now) (millis now) self.old self.new body.now) }
         ensures refused { IfErr result (EndsByBody self.old body.now) }
     {
         let Some(edge) = &mut self.edge else {

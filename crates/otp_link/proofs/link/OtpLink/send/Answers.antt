@@ -10,6 +10,7 @@ loop-left-init c = record {
       c.args.batch.now c.new-out.result.items c.new-out.ensures.items;
   kind = refl;
   other = refl;
+  healing = refl;
 }
 
 pub loop-left-preserved : goal.loop-left-preserved
@@ -22,4 +23,5 @@ loop-left-preserved c =
           c.send_piece.new.out.items c.loop-left.invariant.kind c.loop-left.invariant.sends front;
       kind = c.in_ok-rest.ensures.kind ∙ c.loop-left.invariant.kind;
       other = c.in_ok-rest.ensures.other ∙ c.loop-left.invariant.other;
+      healing = c.in_ok-rest.ensures.healing ∙ c.loop-left.invariant.healing;
     }

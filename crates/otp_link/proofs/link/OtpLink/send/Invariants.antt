@@ -8,6 +8,7 @@ invariant-loop-left l = record {
       l.fn.batch l.left l.out.items;
   kind : l.self.kind ≡ l.fn.self.kind;
   other : l.self.takes_bodies ≡ l.fn.self.takes_bodies;
+  healing : l.self.healing ≡ l.fn.self.healing;
 }
 
 abbrev pub decreases-loop-left : goal.decreases-loop-left
