@@ -1,6 +1,6 @@
 -- When a stock node is asked for its rows again: times are milliseconds from the begin of a link.
-use Rattle.std.specs.Prelude.{◌≡◌, ◌⊎◌, ℕ, ◌+◌, ◌-◌, ◌*◌, ◌/◌, min, nat_le, nat_lt, Bool, true, false, cond}
-use Rattle.std.specs.Prelude.{not, ◌&&◌, List, [], Option, Some, None, is_some, flat_map}
+use Rattle.std.specs.Prelude.{◌≡◌, ◌⊎◌, ℕ, ◌+◌, ◌-◌, ◌*◌, ◌/◌, min, nat_le, nat_lt, Bool, true, false}
+use Rattle.std.specs.Prelude.{cond, not, ◌&&◌, List, [], Option, Some, None, is_some, flat_map}
 use Rattle.std.specs.Duration.{as_nanos}
 use Rattle.std.specs.declared.time.Duration.{Duration}
 use Rattle.otp_edge.specs.Endings.{asking_again}
@@ -33,7 +33,7 @@ lacks_at healing None now =
     let pause = next_pause healing.asked healing.pause now in
     record healing { due = Some (now + pause); pause = pause }
 
--- rows may lack then
+-- a question is due since rows lack, or all stays
 abbrev pub MayLack : Healing → Healing → ℕ → Type 0
 MayLack before after now = (after ≡ before) ⊎ (after ≡ lacks_at before before.due now)
 
