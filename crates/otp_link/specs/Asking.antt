@@ -1,6 +1,7 @@
 -- When a stock node is asked for its rows again: times are milliseconds from the begin of a link.
-use Rattle.std.specs.Prelude.{◌≡◌, ◌⊎◌, ℕ, ◌+◌, ◌-◌, ◌*◌, ◌/◌, min, nat_le, nat_lt, Bool, true, false}
-use Rattle.std.specs.Prelude.{cond, not, ◌&&◌, List, [], Option, Some, None, is_some, flat_map}
+use Rattle.std.specs.Prelude.{◌≡◌, ◌⊎◌, ℕ, ◌+◌, ◌-◌, ◌*◌, ◌/◌, min, nat_le, nat_lt, Bool, true}
+use Rattle.std.specs.Prelude.{false, cond, not, ◌&&◌, List, [], Option, Some, None, is_some}
+use Rattle.std.specs.Prelude.{flat_map}
 use Rattle.std.specs.Duration.{as_nanos}
 use Rattle.std.specs.declared.time.Duration.{Duration}
 use Rattle.otp_edge.specs.Endings.{asking_again}
