@@ -1,5 +1,5 @@
 -- What the lines of a connection are answered.
-use Rattle.std.specs.Prelude.{◌≡◌, ◌⊎◌, ℕ, true, false, List, ◌++◌, codes, Option, Some, None}
+use Rattle.std.specs.Prelude.{◌≡◌, ◌⊎◌, ◌≤◌, ℕ, true, false, List, ◌++◌, codes, Option, Some, None}
 use Rattle.std.specs.Prelude.{Result}
 use Rattle.std.specs.List.Sorted.{IsSorted, IsPermutation}
 use Rattle.dist_types.specs.Order.{text_cmp}
@@ -33,8 +33,8 @@ abbrev pub Reads : Request → Room → List ℕ → Type 0
 Reads (request.Query e) room line =
     (answer : Result Reply CoreFault) × IsAnswer room.history e answer × (line ≡ step_line answer)
 Reads request.Size room line = line ≡ size_line (entered room.history.entries)
-Reads (request.Audit k) room line =
-    line ≡ found_line room.forgotten (audited room.history.entries) k
+Reads (request.Audit k) room line = (room.forgotten ≤ entered room.history.entries)
+    × (line ≡ found_line room.forgotten (audited room.history.entries) k)
 Reads request.Nodes room line = (names : List (List ℕ))
     × IsInOrder (up_names room.history) names × (line ≡ nodes_line names)
 Reads r room line = Unit {0}

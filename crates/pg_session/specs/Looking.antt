@@ -1,6 +1,7 @@
 -- What a telling makes of the monitors of a seat.
-use Rattle.std.specs.Prelude.{◌≡◌, ◌⊎◌, ℕ, not, List, map}
+use Rattle.std.specs.Prelude.{◌≡◌, ◌⊎◌, ◌≤◌, ℕ, not, List, map}
 use Rattle.std.specs.List.{filter}
+use Rattle.policy_audit.specs.History.{entered}
 use Rattle.node_threads.specs.Room.{IsSound, Room}
 use Rattle.pg_session.specs.declared.watch.Watch.{Watch}
 use Rattle.pg_session.specs.Calls.{Seat}
@@ -11,6 +12,7 @@ use Rattle.pg_session.specs.Watching.{AllAsked, aged, as_begun, noted}
 pub record HasLooked (seat seat' : Seat) : Type 0 where
   pub room : Room
   pub sound : IsSound room
+  pub had : room.forgotten ≤ entered room.history.entries
   pub watches : seat'.watches ≡ map (noted (unseen seat.seen room.history room.forgotten)) seat.watches
   pub seen : seat'.seen ≡ seen_of room.history
 

@@ -1,7 +1,7 @@
 //! What a connection is told unasked: the peers that come and go, and that the node has begun anew.
-ghost use Rattle.std.specs.Prelude.{◌≡◌, ◌<◌, [], None, Some, false, length, position, OnOk, OnErr};
+ghost use Rattle.std.specs.Prelude.{◌≡◌, ◌<◌, ◌≤◌, [], None, Some, false, length, position, OnOk, OnErr};
 ghost use Rattle.std.specs.List.{list_any};
-ghost use Rattle.policy_audit.specs.History.{creation};
+ghost use Rattle.policy_audit.specs.History.{creation, entered};
 ghost use Rattle.pg_session.specs.Notices.{Known, TellsNews, is_named, has_gone};
 ghost use Rattle.pg_session.specs.Seen.{seen_of, unseen};
 
@@ -70,7 +70,8 @@ impl Seen {
 
     /// The entries since, as far as the node keeps them.
     pub fn unseen<'a>(&self, core: &'a NodeCore) -> Later<'a>
-        ensures { result ≡ unseen self.now core.now.history core.now.forgotten }
+        ensures ok { result ≡ unseen self.now core.now.history core.now.forgotten }
+        ensures had { core.now.forgotten ≤ entered core.now.history.entries }
     {
         core.audit().after(self.entries)
     }

@@ -21,11 +21,12 @@ returns-clause-looked g c =
     let seen = c.self.inside.seen in
     let kept = c.core-core.ensures in
     let all : c.unseen.result ≡ unseen seen room.history room.forgotten =
-    c.unseen.ensures ∙ ap (λ h. unseen seen h c.core-core.result.now.forgotten) kept.history
+    c.unseen.ensures.ok ∙ ap (λ h. unseen seen h c.core-core.result.now.forgotten) kept.history
     ∙ ap (unseen seen room.history) kept.forgotten in
     rw (← c.self.view_is) (record {
       room = room;
       sound = kept.sound;
+      had = (rw (kept.history, kept.forgotten) at c.unseen.ensures.had);
       watches =
           c.tell_noted.ensures c.unseen.result before
           (c.note_news.ensures (subst (λ ws. Awaits [] ws c.of_many-watched.result ws)

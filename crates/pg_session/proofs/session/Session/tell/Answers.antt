@@ -54,6 +54,7 @@ returns-clause-monitors g c =
       looked = record {
         room = looked.room;
         sound = looked.sound;
+        had = looked.had;
         watches = looked.watches;
         seen = looked.seen;
       };
@@ -110,6 +111,7 @@ returns-in_err-tell_all-clause-memory g c =
         record {
           room = looked.room;
           sound = looked.sound;
+          had = looked.had;
           watches = looked.watches;
           seen = looked.seen;
         },
