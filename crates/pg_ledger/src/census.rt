@@ -53,7 +53,7 @@ impl Census {
     /// Makes room to count an entry. To do so twice is the same.
     pub fn make_room(&mut self, alloc: Global, entry: &Entry) -> Result<(), OutOfMemory> {
         let changes = entry.change.as_slice();
-        if !changes.is_empty() {
+        if !changes.iter().all(|change| self.is_counted(&change.scope)) {
             // One that has no rows has stopped, or is counted anew.
             self.scopes.retain(|counted| counted.rows > 0);
         }
@@ -76,8 +76,12 @@ impl Census {
         }
     }
 
+    fn is_counted(&self, scope: &Scope) -> bool {
+        self.scopes.iter().any(|counted| counted.scope == *scope)
+    }
+
     fn make_room_for(&mut self, alloc: Global, scope: &Scope) -> Result<(), OutOfMemory> {
-        if self.scopes.iter().any(|counted| counted.scope == *scope) {
+        if self.is_counted(scope) {
             return Ok(());
         }
         let scope = scope.try_clone(alloc)?;

@@ -121,6 +121,8 @@ impl Refusals {
         address: Option<SocketAddr>,
         up: &[UpLink],
     ) -> Result<(), OutOfMemory> {
+        // First room, so that nothing of the link is let go before its refusal can be kept.
+        self.last.reserve(1)?;
         let (kind, peer) = match &entry.event {
             Event::Dial(peer, _) => ("Dial", Some(peer.try_clone(alloc)?)),
             Event::Opened(_) => ("Opened", None),
