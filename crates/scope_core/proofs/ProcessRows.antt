@@ -1,15 +1,18 @@
 -- The changes where one process of a node leaves its groups.
 use Rattle.scope_core.proofs
-use proofs.Words.{AllByRecursion, append-nil, arith, Ascends, changes_left_by, cond, Counted}
-use proofs.Words.{counted_in, exact_bytes, GroupChange, has_row, how_many_replicate, is_among}
-use proofs.Words.{is_eq, is_row, is_some, IsDifference, IsProper, keys_of, Less, List, lookup, map}
-use proofs.Words.{one_of_many, Pid, pid_cmp, pids_total, refl, replicate, Rises, Row, row_in, same}
-use proofs.Words.{same_decides, same_pid, same_pid_decides, same_row, same_sym, spread_ascends}
-use proofs.Words.{subst, sym, tally, text_cmp, texts_total, times_joined, times_left, total, ℕ, []}
-use proofs.Words.{◌-◌, ◌∙◌, ◌∷◌, ◌≡◌}
+use proofs.Words.{AllByRecursion, ap, append-nil, arith, Ascends, BTreeMap, changes_left_by, cond}
+use proofs.Words.{Counted, counted_in, exact_bytes, false, found, GroupChange, has_row}
+use proofs.Words.{how_many_replicate, is_among, is_eq, is_row, is_some, IsDifference, IsHashed}
+use proofs.Words.{IsProper, key_cmp, key_of, keys_of, length, Less, List, lookup, map, None}
+use proofs.Words.{one_of_many, Pid, pid_cmp, pids_total, ProcessKey, refl, replicate, Rises, Row}
+use proofs.Words.{row_in, same, same_decides, same_pid, same_pid_decides, same_row, same_sym}
+use proofs.Words.{SmallMap, spread_ascends, subst, sym, tally, text_cmp, texts_total, times_joined}
+use proofs.Words.{times_left, total, true, ℕ, [], ◌-◌, ◌∙◌, ◌∷◌, ◌≡◌}
 use Rattle.std.specs.List.{IsDistinct}
 use Rattle.std.specs.List.Sorted.{IsStrictlySortedBy}
-use proofs.HashedRows.{count_is, one_text}
+use proofs.GroupRows.{entries_others}
+use proofs.HashedRows.{count_is, one_key, one_text, same_key_decides}
+use proofs.HashedWrites.{in_group_count}
 use proofs.Tallies.{none_mentioned}
 
 -- a group is found among those of the process where it is one of them
@@ -109,3 +112,31 @@ module _ (es : List (Row × ℕ)) (once : IsDistinct same_row (keys_of es)) (p :
     left = λ g q. left_once rows p g q gs rises ∙ all_times g q ∙ sym (goes g q);
     joined = λ g q. none_joined rows p g q gs ∙ sym (none g q);
   }
+
+-- of a single entry, no other key is found
+only_one : {V : Type 0} (k j : ProcessKey) (es : List (ProcessKey × V)) → length es ≡ 1
+    → is_some (lookup (λ q. is_eq (key_cmp k q)) es) ≡ true → is_eq (key_cmp k j) ≡ false
+    → lookup (λ q. is_eq (key_cmp j q)) es ≡ None
+only_one k j [] l there other = refl
+only_one k j (e ∷ []) l there other =
+    grind (arith, there, other, one_key k e.0, one_key j e.0, one_key k j, same_key_decides k e.0)
+only_one k j (e ∷ f ∷ es) l there other = grind (arith, l)
+
+-- where the index has the entry of one process alone, no row of another is counted
+pub none_beside : {node : List ℕ} {es : List (Row × ℕ)}
+    {groups : BTreeMap (List ℕ) (SmallMap ProcessKey ℕ)}
+    {processes : BTreeMap ProcessKey (SmallMap (List ℕ) (Unit {0}))}
+    → IsHashed node es groups processes → (q : Pid) → q.node ≡ node
+    → length processes.entries ≡ 1
+    → is_some (lookup (λ k. is_eq (key_cmp (key_of q) k)) processes.entries) ≡ true
+    → (g : List ℕ) (p : Pid) → same_pid p q ≡ false → tally (is_row g p) (counted_in es) ≡ 0
+none_beside {node} {es} {groups} {processes} h q own one there g p other =
+    let here : same node p.node ≡ true → tally (is_row g p) (counted_in es) ≡ 0 = λ e.
+    let key : is_eq (key_cmp (key_of q) (key_of p)) ≡ false =
+    grind (arith, e, other, own, same_decides node p.node, one_key (key_of q) (key_of p)) in
+    let none = sym (h.by_process (key_of p) g)
+    ∙ ap (λ o. is_some (found text_cmp o g))
+    (only_one (key_of q) (key_of p) processes.entries one there key) in
+    let count = in_group_count node g p es _ h.once ((same_decides node p.node).0 e) refl in
+    grind (arith, none, count) in
+    grind (arith, here, entries_others node g p es h.own)

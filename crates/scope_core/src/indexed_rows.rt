@@ -1,5 +1,5 @@
 //! The rows of a scope, and the nodes of each group.
-ghost use Rattle.std.specs.Prelude.{◌≡◌, ◌+◌, ◌≤◌, ◌<◌, ◌∷◌, true, nat_lt, not, cond, ℕ, List, [], All, IsTrue, IfSome, IfOk, OnOk, OnErr, length};
+ghost use Rattle.std.specs.Prelude.{◌≡◌, ◌+◌, ◌≤◌, ◌<◌, ◌∷◌, true, false, nat_lt, not, cond, ℕ, List, [], All, IsTrue, IfSome, IfOk, OnOk, OnErr, length};
 ghost use Rattle.std.specs.Option.{IfNone};
 ghost use Rattle.std.specs.List.{list_any, AllByRecursion};
 ghost use Rattle.dist_types.specs.declared.pid.Pid.{Pid};
@@ -211,10 +211,24 @@ impl IndexedRows {
         }
     }
 
+    /// Whether this process is in several groups, and no other of its node is in any.
+    pub fn are_all_of(&self, pid: &Pid) -> bool
+        ensures { IsTrue result → (g : List ℕ) (p : Pid) → same p.node pid.now.node ≡ true
+            → same_pid p pid.now ≡ false → tally (is_row g p) self.now ≡ 0 }
+    {
+        match self.lists.get(&pid.node) {
+            Some(list) => list.rows().are_all_of(pid),
+            None => false,
+        }
+    }
+
     /// The changes where a process leaves all groups.
     pub fn left_by(&self, alloc: Global, pid: &Pid) -> Result<Vec<GroupChange>, OutOfMemory>
         ensures { IfOk result (λ changes. IsDifference (λ g p. tally (is_row g p) self.now) (λ g p. cond (same_pid p pid.now) 0 (tally (is_row g p) self.now)) changes.items) }
     {
+        if self.are_all_of(pid) {
+            return self.all_left(alloc, &pid.node);
+        }
         match self.lists.get(&pid.node) {
             Some(list) => list.rows().left_by(pid),
             None => Ok(Vec::new(alloc)),

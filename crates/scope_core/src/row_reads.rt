@@ -1,5 +1,5 @@
 //! What is read off the rows of one node, in their order.
-ghost use Rattle.std.specs.Prelude.{◌≡◌, ◌+◌, ◌-◌, cond, replicate, All, IsTrue, IsSome, IfOk, OnOk, List, ℕ};
+ghost use Rattle.std.specs.Prelude.{◌≡◌, ◌+◌, ◌-◌, cond, false, replicate, All, IsTrue, IsSome, IfOk, OnOk, List, ℕ};
 ghost use Rattle.std.specs.List.{AllByRecursion};
 ghost use Rattle.std.specs.List.Sorted.{IsStrictlySortedBy};
 ghost use Rattle.std.specs.Map.{keys_of};
@@ -80,6 +80,18 @@ impl HashedRows {
             push_counted(self.alloc, self.counts.node(), group, members, &mut rows)?;
         }
         Ok(rows)
+    }
+
+    /// Whether this process is in several groups, and no other of the node is in any.
+    pub fn are_all_of(&self, pid: &Pid) -> bool
+        requires { pid.now.node ≡ self.now.node }
+        ensures { IsTrue result → (g : List ℕ) (p : Pid)
+            → same_pid p pid.now ≡ false → tally (is_row g p) self.now.rows ≡ 0 }
+    {
+        match self.processes.get(&ProcessKey::of(pid)) {
+            Some(SmallMap::Many(_)) => self.processes.len() == 1,
+            _ => false,
+        }
     }
 
     /// The changes where a process leaves all groups.

@@ -231,6 +231,10 @@ impl ScopeTable {
     pub fn exit(&mut self, pid: &Pid)
         ensures { Counts self.old self.new (count_after_exit self.old pid.now) }
     {
+        // Where its node has no other, all at once.
+        if self.rows.are_all_of(pid) {
+            return self.drop_peer(&pid.node);
+        }
         while let Some(gone) = self.rows.pop_of(pid) {
             self.listings.forget(&gone.from.group);
             if gone.ends_process {
