@@ -118,12 +118,7 @@ forgets_more test xs i x l at was then now first second = record {
 -- ---- a row that goes
 
 module _ (c : Counted) (old new : List Counted) (joins : Joins (c ∷ []) new old) where
-  -- what is counted of another process stays
-  pub others_stay : (g : List ℕ) (p : Pid) → same_pid c.row.pid p ≡ false
-      → tally (is_row g p) new ≡ tally (is_row g p) old
-  others_stay g p e = grind (arith, joins (is_row g p), e)
-
-  -- and the listings that are kept are right still, without that of its group
+  -- the listings that are kept are right still, without that of its group
   pub popped_listed : (was now : KeptLists) → AreListings (λ g p. tally (is_row g p) old) was
       → Forgets (λ g. same c.row.group g) was now → AreListings (λ g p. tally (is_row g p) new) now
   popped_listed was now listed forgot =

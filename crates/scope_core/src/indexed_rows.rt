@@ -211,7 +211,7 @@ impl IndexedRows {
         }
     }
 
-    /// Whether this process is in several groups, and no other of its node is in any.
+    /// Whether this process is in a group, and no other of its node is.
     pub fn are_all_of(&self, pid: &Pid) -> bool
         ensures { IsTrue result → (g : List ℕ) (p : Pid) → same p.node pid.now.node ≡ true
             → same_pid p pid.now ≡ false → tally (is_row g p) self.now ≡ 0 }
@@ -226,9 +226,6 @@ impl IndexedRows {
     pub fn left_by(&self, alloc: Global, pid: &Pid) -> Result<Vec<GroupChange>, OutOfMemory>
         ensures { IfOk result (λ changes. IsDifference (λ g p. tally (is_row g p) self.now) (λ g p. cond (same_pid p pid.now) 0 (tally (is_row g p) self.now)) changes.items) }
     {
-        if self.are_all_of(pid) {
-            return self.all_left(alloc, &pid.node);
-        }
         match self.lists.get(&pid.node) {
             Some(list) => list.rows().left_by(pid),
             None => Ok(Vec::new(alloc)),

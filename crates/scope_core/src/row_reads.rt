@@ -82,27 +82,29 @@ impl HashedRows {
         Ok(rows)
     }
 
-    /// Whether this process is in several groups, and no other of the node is in any.
+    /// Whether this process is in a group, and no other of the node is.
     pub fn are_all_of(&self, pid: &Pid) -> bool
         requires { pid.now.node ≡ self.now.node }
         ensures { IsTrue result → (g : List ℕ) (p : Pid)
             → same_pid p pid.now ≡ false → tally (is_row g p) self.now.rows ≡ 0 }
     {
-        match self.processes.get(&ProcessKey::of(pid)) {
-            Some(SmallMap::Many(_)) => self.processes.len() == 1,
-            _ => false,
-        }
+        self.processes.len() == 1 && self.processes.contains_key(&ProcessKey::of(pid))
     }
 
     /// The changes where a process leaves all groups.
     pub fn left_by(&self, pid: &Pid) -> Result<Vec<GroupChange>, OutOfMemory>
-        requires { pid.now.node ≡ self.now.node }
+        requires own { pid.now.node ≡ self.now.node }
+        requires counted { AreCounted self.now.rows }
         ensures { IfOk result (λ changes. (before after : List ℕ → Pid → ℕ)
             → ((g : List ℕ) (p : Pid) → before g p - after g p ≡ cond (same_pid p pid.now) (tally (is_row g p) self.now.rows) 0) → ((g : List ℕ) (p : Pid) → after g p - before g p ≡ 0) → IsDifference before after changes.items) }
     {
         let Some(groups) = self.processes.get(&ProcessKey::of(pid)) else {
             return Ok(Vec::new(self.alloc));
         };
+        // Where the node has no other process, no count is looked up.
+        if self.processes.len() == 1 {
+            return self.all_left();
+        }
         self.left_from(groups, pid)
     }
 

@@ -1,7 +1,7 @@
 //! The table of one scope.
-ghost use Rattle.std.specs.Prelude.{◌≡◌, ℕ, ◌+◌, ◌≤◌, min, cond, IsTrue, IfOk, IfErr, OnErr, OnOk, List, length, All};
+ghost use Rattle.std.specs.Prelude.{◌≡◌, ℕ, ◌+◌, ◌≤◌, ◌<◌, false, true, min, cond, IsTrue, IfOk, IfErr, OnErr, OnOk, List, length, All};
 ghost use Rattle.dist_types.specs.declared.pid.Pid.{Pid};
-ghost use Rattle.dist_types.specs.Listing.{same, mentions, IsPidListing};
+ghost use Rattle.dist_types.specs.Listing.{same, same_pid, mentions, IsPidListing};
 ghost use Rattle.dist_types.specs.Difference.{IsDifference};
 ghost use Rattle.scope_core.specs.Table.{count_of, local_total, node_total, max_rows};
 ghost use Rattle.scope_core.specs.Calls.{Counts, is_any_joined, no_count, count_after_join, count_after_leave, count_after_exit, count_after_drop, count_after_sync, count_after_add, count_after_take, are_counted, IsChange, IsJoinFault, IsLeaveFault, IsSyncFault, IsAddFault, IsTakeFault};
@@ -231,17 +231,29 @@ impl ScopeTable {
     pub fn exit(&mut self, pid: &Pid)
         ensures { Counts self.old self.new (count_after_exit self.old pid.now) }
     {
-        // Where its node has no other, all at once.
+        if !self.leave_one(pid) {
+            return;
+        }
+        // Where its node has no other process, the rest goes at once.
         if self.rows.are_all_of(pid) {
             return self.drop_peer(&pid.node);
         }
-        while let Some(gone) = self.rows.pop_of(pid) {
-            self.listings.forget(&gone.from.group);
-            if gone.ends_process {
-                break;
-            }
-        }
-        self.own_rows = self.rows.total_of(&self.own);
+        while self.leave_one(pid) {}
+    }
+
+    /// The process leaves one of its groups, if it is in any. Answers whether it is in others.
+    fn leave_one(&mut self, pid: &Pid) -> bool
+        ensures own { self.new.own ≡ self.old.own }
+        ensures others { (g : List ℕ) (p : Pid) → same_pid p pid.now ≡ false → count_of self.new g p ≡ count_of self.old g p }
+        ensures none { result ≡ false → (g : List ℕ) (p : Pid) → same_pid p pid.now ≡ true → count_of self.new g p ≡ 0 }
+        ensures fewer { IsTrue result → length self.new.rows < length self.old.rows }
+    {
+        let Some(gone) = self.rows.pop_of(pid) else {
+            return false;
+        };
+        self.listings.forget(&gone.from.group);
+        self.own_rows -= share_of(&self.own, &pid.node, gone.from.count as usize);
+        !gone.ends_process
     }
 
     /// What `exit` will change.

@@ -1,9 +1,10 @@
 use Rattle.scope_core.proofs
-use proofs.Words.{ap, changes_left_by, entries_of, found, has_row, is_among, is_some, IsDifference}
+use proofs.Words.{ap, arith, changes_left_by, entries_of, found, has_row, IfOk-weaker, is_among}
+use proofs.Words.{is_some, IsDifference}
 use proofs.Words.{keys_of, List, NodeTable, row_in, subst, sym, text_cmp, ℕ, [], ◌∙◌, ◌≡◌}
 use proofs.HashedWrites.{row_of}
 use proofs.Outcomes.{if_both}
-use proofs.ProcessRows.{in_keys, process_leaves, sorted_rises}
+use proofs.ProcessRows.{in_keys, none_beside, process_leaves, sorted_rises}
 use Rattle.scope_core.proofs.hashed_rows.HashedRows.left_by.Goals.{After-left_from}
 use Rattle.scope_core.proofs.hashed_rows.HashedRows.left_by.Goals as goal
 
@@ -16,7 +17,7 @@ listed c g =
     ∙ ap (λ o. is_some (found text_cmp o g)) c.in-Some.ensures.value
     ∙ c.self.invariant.by_process c.of.result g
     ∙ row_of c.self.inside.counts.node g c.args.pid.now c.of.result c.self.inside.counts.entries
-    (c.requires ∙ sym (ap (λ (t : NodeTable). t.node) c.self.view_is)) c.of.ensures
+    (c.requires.own ∙ sym (ap (λ (t : NodeTable). t.node) c.self.view_is)) c.of.ensures
 
 pub returns : goal.returns
 returns c =
@@ -31,11 +32,22 @@ returns c =
     goes none))
     c.left_from.ensures.changes c.left_from.ensures.ordered)
 
+pub returns-then-len-eq1 : goal.returns-then-len-eq1
+returns-then-len-eq1 c =
+    let own = c.requires.own ∙ sym (ap (λ (t : NodeTable). t.node) c.self.view_is) in
+    let there = sym (ap is_some c.in-Some.ensures.value) in
+    IfOk-weaker c.all_left.result _ _ (λ changes all before after goes none.
+    all before after (λ g p.
+    let others = none_beside c.self.invariant c.args.pid.now own
+    (grind (arith, c.len.ensures.len, c.if-len-eq1.true)) (rw c.of.ensures at there) g p in
+    goes g p ∙ rw (← c.self.view_is) (grind (arith, others))) none)
+    c.all_left.ensures
+
 pub returns-in_default : goal.returns-in_default
 returns-in_default c =
     let es = c.self.inside.counts.entries in
     let p = c.args.pid.now in
-    let own = c.requires ∙ sym (ap (λ (t : NodeTable). t.node) c.self.view_is) in
+    let own = c.requires.own ∙ sym (ap (λ (t : NodeTable). t.node) c.self.view_is) in
     let none = λ (h : List ℕ). ap (λ o. is_some (found text_cmp o h)) c.in_default.ensures.value
     ∙ c.self.invariant.by_process c.of.result h
     ∙ row_of c.self.inside.counts.node h p c.of.result es own c.of.ensures in
