@@ -2,6 +2,7 @@
 use crate::archive::Archive;
 use crate::files::{ArchiveFiles, open_file};
 use anyhow::{Error, Result, anyhow};
+use named_files::ShownPath;
 use std::alloc::Global;
 use std::io;
 use std::rt::HostRuntime;
@@ -36,5 +37,5 @@ pub fn open<'a>(
 
 /// What is said of a file that can't be opened, or written to.
 pub fn fault(path: &str, error: &io::Error) -> Error {
-    anyhow!("--audit: {path:.60}: {error}")
+    anyhow!("--audit: {}: {error}", ShownPath(path))
 }

@@ -1,5 +1,6 @@
 //! What the command line asks for.
 use crate::fault::Fault;
+use crate::line::read_line;
 use anyhow::anyhow;
 use clap::{Arg, ArgAction, ArgMatches, Command, Error as ClapError, value_parser};
 use command_line::VERSION;
@@ -9,6 +10,7 @@ use std::time::Duration;
 /// What stands behind the help of the parser.
 const COMMANDS: &str = "\
 COMMAND is a line that the node takes, as `nodes` or `members SCOPE GROUP` (docs/FORMATS.md), or
+  -                  the line on standard input, which no other user can see
   hold SCOPE GROUP   a process in the group until standard input ends; starts the scope, if need be
 
 Example:
@@ -109,12 +111,16 @@ fn timeout<'a>(alloc: Global) -> Arg<'a> {
 }
 
 /// What the program is to do.
-pub fn read_errand(alloc: Global, matches: &ArgMatches<'_>) -> Result<Errand, Fault> {
+pub fn read_errand<R: Input>(
+    rt: &R,
+    alloc: Global,
+    matches: &ArgMatches<'_>,
+) -> Result<Errand, Fault> {
     let words = matches.get_strs("COMMAND").unwrap_or(&[]);
     let patience = matches.get_one::<u32>("timeout").unwrap_or(PATIENCE);
     Ok(Errand {
         control: copy(alloc, matches.get_str("CONTROL").unwrap_or(""))?,
-        deed: read_deed(alloc, words)?,
+        deed: read_deed(rt, alloc, words)?,
         patience: Duration::from_millis(u64::from(patience)),
         show: Show {
             follows: matches.get_flag("follow"),
@@ -123,7 +129,11 @@ pub fn read_errand(alloc: Global, matches: &ArgMatches<'_>) -> Result<Errand, Fa
     })
 }
 
-fn read_deed(alloc: Global, words: &[&str]) -> Result<Deed, Fault> {
+fn read_deed<R: Input>(rt: &R, alloc: Global, words: &[&str]) -> Result<Deed, Fault> {
+    if let ["-"] = words {
+        let line = read_line(rt, alloc)?;
+        return Ok(Deed::Ask(line_of(alloc, &[line.as_str()])?));
+    }
     if words.first() != Some(&"hold") {
         return Ok(Deed::Ask(line_of(alloc, words)?));
     }

@@ -5,6 +5,7 @@ mod bell;
 mod errand;
 mod fault;
 mod hold;
+mod line;
 mod run;
 mod talk;
 
@@ -31,7 +32,7 @@ fn main(rt: HostRuntime) -> ExitCode {
         Ok(matches) => matches,
         Err(status) => return status,
     };
-    let start = match prepare(alloc, &matches) {
+    let start = match prepare(&rt, alloc, &matches) {
         Ok(start) => start,
         Err(fault) => return end(&rt, Err(fault)),
     };
@@ -61,8 +62,8 @@ fn main(rt: HostRuntime) -> ExitCode {
 }
 
 /// What the program runs with.
-fn prepare(alloc: Global, matches: &ArgMatches<'_>) -> Result<Start, Fault> {
-    let errand = read_errand(alloc, matches)?;
+fn prepare<R: Input>(rt: &R, alloc: Global, matches: &ArgMatches<'_>) -> Result<Start, Fault> {
+    let errand = read_errand(rt, alloc, matches)?;
     Start::new(alloc, errand)
 }
 

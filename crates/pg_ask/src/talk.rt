@@ -2,6 +2,7 @@
 use crate::errand::Show;
 use crate::fault::Fault;
 use anyhow::anyhow;
+use named_files::ShownPath;
 use pg_answers::{Said, json_of};
 use std::alloc::Global;
 use std::io::{self, BufRead, BufReader, Write};
@@ -25,7 +26,7 @@ pub struct Talk<'a, R: Print> {
 pub fn connect<R: Net>(rt: &R, path: &str) -> Result<UnixStream, Fault> {
     match UnixStream::connect(rt, path) {
         Ok(stream) => Ok(stream),
-        Err(error) => Err(Fault::of_node(anyhow!("{path:.80}: {error}"))),
+        Err(error) => Err(Fault::of_node(anyhow!("{}: {error}", ShownPath(path)))),
     }
 }
 

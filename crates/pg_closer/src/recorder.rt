@@ -3,6 +3,7 @@ use crate::archived::Archived;
 use anyhow::{Result, bail};
 use archive_files::{Archive, ArchiveFiles, Opened, open};
 use dist_types::OutOfMemory;
+use named_files::ShownPath;
 use pg_archive::Life;
 use pg_log::{Level, Log, number, text};
 use policy_audit::{Audit, Entry};
@@ -108,8 +109,8 @@ impl<'a> Recorder<'a> {
             return;
         }
         self.is_failing = true;
-        let path = self.path;
-        if let Ok(reason) = format!(in alloc; "--audit: {path:.60}: {error}; entries wait") {
+        let path = ShownPath(self.path);
+        if let Ok(reason) = format!(in alloc; "--audit: {path}: {error}; entries wait") {
             log.warn(rt, "archive", reason.as_str());
         }
     }
@@ -165,9 +166,10 @@ impl<'a> Recorder<'a> {
     /// An error where entries are lost, one among them of which the file has a part.
     pub fn check(&self) -> Result<()> {
         let waiting = self.archive.waiting() as u64;
-        let (path, lost) = (self.path, self.archive.lost().saturating_add(waiting));
+        let lost = self.archive.lost().saturating_add(waiting);
         if lost > 0 {
-            bail!("--audit: {path:.60}: {lost} entries are not in the file");
+            let path = ShownPath(self.path);
+            bail!("--audit: {path}: {lost} entries are not in the file");
         }
         Ok(())
     }

@@ -2,13 +2,9 @@
 use anyhow::{Result, bail};
 use clap::ArgMatches;
 use dist_types::{Cookie, NodeName, TryClone};
+use named_files::{ShownPath, read_cookie};
 use std::alloc::Global;
-use std::fs::{self, Files};
-use std::io;
-use std::os::unix::fs::PermissionsExt;
-
-/// The bits of a file's mode that let its group write it, or others do anything with it.
-const OTHERS: u32 = 0o037;
+use std::fs::Files;
 
 /// Cookies by the peers that they are for, the own name among them: in turn, and the last of each
 /// from then on.
@@ -35,7 +31,8 @@ impl Cookies {
     pub fn add_shown(&mut self, alloc: Global, matches: &ArgMatches<'_>) -> Result<()> {
         for word in matches.get_strs("cookie").unwrap_or(&[]) {
             let (peer, text) = parts(word)?;
-            self.add(alloc, peer, text.as_bytes())?;
+            let peer = peer_of(alloc, peer)?;
+            self.add(peer, shown_cookie(alloc, text)?)?;
         }
         for word in matches.get_strs("cookie-for").unwrap_or(&[]) {
             parts(word)?;
@@ -52,15 +49,18 @@ impl Cookies {
     ) -> Result<()> {
         for word in matches.get_strs("cookie-for").unwrap_or(&[]) {
             let (peer, path) = parts(word)?;
-            let text = read_secret(rt, alloc, path)?;
-            self.add(alloc, peer, first_line(text.as_slice()))?;
+            let peer = peer_of(alloc, peer)?;
+            self.add(peer, filed_cookie(rt, alloc, path)?)?;
         }
         Ok(())
     }
 
-    fn add(&mut self, alloc: Global, peer: &str, text: &[u8]) -> Result<()> {
-        let given = cookie_for(alloc, peer, text)?;
-        self.given.push(given)?;
+    fn add(&mut self, peer: NodeName, cookie: Cookie) -> Result<()> {
+        self.given.push(Given {
+            peer,
+            cookie,
+            is_taken: false,
+        })?;
         Ok(())
     }
 
@@ -98,25 +98,6 @@ impl Cookies {
     }
 }
 
-/// What a file has to which others than its owner and its group, which may read it, have no right.
-fn read_secret<R: Files>(rt: &R, alloc: Global, path: &str) -> Result<Vec<u8>> {
-    match read_own(rt, alloc, path) {
-        Ok(Some(text)) => Ok(text),
-        Ok(None) => bail!(
-            "{path:.60}: others can read this file of a cookie, or its group write it (chmod 600)"
-        ),
-        Err(error) => bail!("{path:.80}: {error}"),
-    }
-}
-
-/// What a file has, or None where others have a right to it.
-fn read_own<R: Files>(rt: &R, alloc: Global, path: &str) -> io::Result<Option<Vec<u8>>> {
-    if fs::metadata(rt, path)?.permissions().mode() & OTHERS != 0 {
-        return Ok(None);
-    }
-    Ok(Some(fs::read(&(rt, alloc), path)?))
-}
-
 /// What stands before the first `=`, and behind it.
 fn parts(word: &str) -> Result<(&str, &str)> {
     match word.split_once('=') {
@@ -125,27 +106,24 @@ fn parts(word: &str) -> Result<(&str, &str)> {
     }
 }
 
-fn cookie_for(alloc: Global, name: &str, text: &[u8]) -> Result<Given> {
-    let peer = match NodeName::parse(alloc, name.as_bytes()) {
-        Ok(peer) => peer,
+fn peer_of(alloc: Global, name: &str) -> Result<NodeName> {
+    match NodeName::parse(alloc, name.as_bytes()) {
+        Ok(peer) => Ok(peer),
         Err(fault) => bail!("{name:.60}: {fault}"),
-    };
-    let cookie = match Cookie::parse(alloc, text) {
-        Ok(cookie) => cookie,
-        Err(fault) => bail!("the cookie: {fault}"),
-    };
-    Ok(Given {
-        peer,
-        cookie,
-        is_taken: false,
-    })
+    }
 }
 
-fn first_line(text: &[u8]) -> &[u8] {
-    for (i, byte) in text.iter().enumerate() {
-        if *byte == b'\n' || *byte == b'\r' {
-            return &text[..i];
-        }
+fn shown_cookie(alloc: Global, text: &str) -> Result<Cookie> {
+    match Cookie::parse(alloc, text.as_bytes()) {
+        Ok(cookie) => Ok(cookie),
+        Err(fault) => bail!("the cookie: {fault}"),
     }
-    text
+}
+
+/// The cookie in a file.
+fn filed_cookie<R: Files>(rt: &R, alloc: Global, path: &str) -> Result<Cookie> {
+    match read_cookie(rt, alloc, path) {
+        Ok(cookie) => Ok(cookie),
+        Err(fault) => bail!("{}: {fault}", ShownPath(path)),
+    }
 }

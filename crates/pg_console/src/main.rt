@@ -13,6 +13,7 @@ use anyhow::{Result, bail};
 use archive::Archive;
 use clap::ArgMatches;
 use command_line::{OUT_OF_MEMORY, failed, held_streams, matched, told, words};
+use named_files::ShownPath;
 use options::{command, opening};
 use pair::pair;
 use pg_script::{KeepFault, RunFault, play_keeping};
@@ -172,7 +173,8 @@ fn created<R: Files<File = File>>(rt: &R, path: Option<&str>) -> io::Result<Opti
 /// Ends a run whose archive can't be written. What was written of it stays.
 fn unwritten<R: AllocGlobal + Eprint>(rt: &R, path: Option<&str>, error: &io::Error) -> ExitCode {
     let path = path.unwrap_or("");
-    told(rt, 1, &format_args!("--archive: {path:.60}: {error}"))
+    let path = ShownPath(path);
+    told(rt, 1, &format_args!("--archive: {path}: {error}"))
 }
 
 /// Plays archives again, and prints how many of their lives and entries agreed.
@@ -212,7 +214,7 @@ fn play_files<R: AllocGlobal + Files<File = File>>(
     for path in matches.get_strs("ARCHIVE").unwrap_or(&[]) {
         let file = match File::open(rt, path) {
             Ok(file) => file,
-            Err(error) => bail!("{path:.60}: {error}"),
+            Err(error) => bail!("{}: {error}", ShownPath(path)),
         };
         let mut reader = BufReader::new(rt.alloc(), file)?;
         player.play(path, &mut reader)?;

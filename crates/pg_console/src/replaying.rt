@@ -2,6 +2,7 @@
 use crate::cookies::Cookies;
 use anyhow::{Error, Result, anyhow, bail};
 use dist_types::{NodeName, TryClone};
+use named_files::ShownPath;
 use pg_archive::{Asked, Life, Line, Replay, Scratch, Told, read_line};
 use pg_script::{RunFault, TURNS};
 use pg_text::without_feed;
@@ -86,7 +87,7 @@ impl Player {
                 Err(_) => return Err(of_file(path, "it can't be read")),
             }
             if let Err(error) = self.follow(without_feed(line.as_slice())) {
-                bail!("{path:.60}: line {}: {error}", turn + 1);
+                bail!("{}: line {}: {error}", ShownPath(path), turn + 1);
             }
         }
         Err(of_file(path, "it has too many lines"))
@@ -143,5 +144,5 @@ fn event_of(alloc: Global, cookies: &mut Cookies, name: &NodeName, asked: Asked)
 }
 
 fn of_file(path: &str, what: &str) -> Error {
-    anyhow!("{path:.60}: {what}")
+    anyhow!("{}: {what}", ShownPath(path))
 }

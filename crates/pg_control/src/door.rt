@@ -1,5 +1,6 @@
 //! The place of the control socket: a path that one program at a time serves.
 use anyhow::{Error, Result, anyhow, bail};
+use named_files::ShownPath;
 use pg_session::Rights;
 use std::alloc::Global;
 use std::fmt::Display;
@@ -40,8 +41,8 @@ impl DoorPlace<'_> {
     }
 
     fn fault(&self, reason: impl Display + Drop) -> Error {
-        let (option, path) = (self.option(), self.path);
-        anyhow!("{option}: {path:.60}: {reason}")
+        let (option, path) = (self.option(), ShownPath(self.path));
+        anyhow!("{option}: {path}: {reason}")
     }
 }
 

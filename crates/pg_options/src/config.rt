@@ -1,10 +1,10 @@
 //! A file of settings: the options' names as keys, in TOML. What the command line says goes first.
-use crate::cookies::{IS_OPEN, is_open};
 use crate::fault::{Fault, misused, unread};
 use crate::rows::{ROWS, Takes};
 use anyhow::anyhow;
 use clap::ArgMatches;
 use clap::parser::ValueSource;
+use named_files::{IS_OPEN, ShownPath, is_open};
 use std::alloc::{AllocError, AllocFailed, Global};
 use std::fmt::Display;
 use std::fs::{self, Files};
@@ -66,7 +66,8 @@ fn add_file<R: Files>(
         (Err(error), _) | (_, Err(error)) => return Err(unread("--config", path, error)),
     };
     let Ok(text) = str::from_utf8(bytes.as_slice()) else {
-        return Err(misused(anyhow!("--config: {path:.60}: it isn't UTF-8")));
+        let path = ShownPath(path);
+        return Err(misused(anyhow!("--config: {path}: it isn't UTF-8")));
     };
     let file = File {
         path,
@@ -96,8 +97,8 @@ fn unparsed(file: File<'_>, error: &TomlError) -> Fault {
         None => 0,
     };
     let line = line_at(text, start);
-    let message = error.message();
-    misused(anyhow!("--config: {path:.60}: line {line}: {message}"))
+    let (path, message) = (ShownPath(path), error.message());
+    misused(anyhow!("--config: {path}: line {line}: {message}"))
 }
 
 /// The line in which the byte at this place stands, from 1.
@@ -148,9 +149,10 @@ fn untaken(file: File<'_>, key: &str, unset: Unset) -> Fault {
         Unset::OutOfMemory => return Fault::of_memory(),
         Unset::Wrong(reason) => reason,
     };
+    let path = ShownPath(path);
     misused(match line_of(text, key) {
-        Some(line) => anyhow!("--config: {path:.60}: line {line}: {reason}: {key:.60}"),
-        None => anyhow!("--config: {path:.60}: {reason}: {key:.60}"),
+        Some(line) => anyhow!("--config: {path}: line {line}: {reason}: {key:.60}"),
+        None => anyhow!("--config: {path}: {reason}: {key:.60}"),
     })
 }
 

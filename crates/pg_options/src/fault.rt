@@ -1,5 +1,6 @@
 //! Why a program can't begin.
 use anyhow::{Error as Reason, anyhow};
+use named_files::ShownPath;
 use std::alloc::{AllocError, AllocFailed};
 use std::fmt::Display;
 use std::io;
@@ -53,7 +54,8 @@ pub fn alone(option: &str, other: &str) -> Fault {
     misused(anyhow!("--{option}: there is no --{other}"))
 }
 
-/// The file at this option can't be read.
-pub fn unread(option: &str, path: &str, error: io::Error) -> Fault {
-    failed(anyhow!("{option}: {path:.80}: {error}"))
+/// The file at this option can't be taken, for this reason.
+pub fn unread<D: Display + Drop>(option: &str, path: &str, error: D) -> Fault {
+    let path = ShownPath(path);
+    failed(anyhow!("{option}: {path}: {error}"))
 }
