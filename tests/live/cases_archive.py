@@ -9,7 +9,7 @@ import threading
 
 from cases_life import expect_one
 from field import COOKIE, case
-from node import asked, await_members, await_nodes, member, new_pid, size, start
+from node import asked, await_members, await_nodes, member, new_pid, shown, size, start
 from waiting import LIMIT, expect, expect_that, until
 
 # How many lines are sent before their answers are read.
@@ -189,7 +189,7 @@ def archive_of_something_else(field):
             file.write(text)
         node = field.start(name, "--audit", path)
         expect("the status", 1, node.status())
-        expect_one("its standard error", node.errors(), f"error: --audit: {path[:60]}: it is no archive")
+        expect_one("its standard error", node.errors(), f"error: --audit: {shown(path)}: it is no archive")
         with open(path, "rb") as file:
             expect("the file", text, file.read())
 
@@ -201,7 +201,7 @@ def archive_of_a_pipe(field):
     os.mkfifo(path)
     node = field.start("a@h", "--audit", path)
     expect("the status", 1, node.status())
-    expect_one("its standard error", node.errors(), f"error: --audit: {path[:60]}: it is a pipe")
+    expect_one("its standard error", node.errors(), f"error: --audit: {shown(path)}: it is a pipe")
 
 
 @case
@@ -212,7 +212,7 @@ def archive_of_another_node(field):
     start(a)
     other = field.start("b@h", "--audit", path)
     expect("the status", 1, other.status())
-    expect_one("its standard error", other.errors(), f"error: --audit: {path[:60]}: another program writes to it")
+    expect_one("its standard error", other.errors(), f"error: --audit: {shown(path)}: another program writes to it")
     a.process.kill()
     a.process.wait()
     b = field.node("b@h", "--audit", path)

@@ -68,6 +68,20 @@ def asked_from_a_shell(field):
 
 
 @case
+def asked_by_a_line_on_standard_input(field):
+    """With - pg_ask says the line on its standard input, as a cookie that no other user is to see; it takes no second one."""
+    a = field.node("a@h")
+    for text, status, said in ((b"cookie_for b@h secret\n", 0, ""), (b"nodes", 0, ""), (b"start  pg\n", 2, ""), (b"spwan\n", 2, ""),
+                               (b"nodes\nquit\n", 2, "standard input: more than one line"), (b"", 2, "it isn't one line"),
+                               (b"\xff\n", 2, "standard input: it isn't UTF-8"), (b"n" * 65537, 2, "more than 65536 bytes")):
+        done = subprocess.run([field.ask_program, a.control_path, "-"], input=text, capture_output=True, timeout=LIMIT, check=False)
+        errors = [line for line in done.stderr.decode().splitlines() if line.startswith("error")]
+        expect(f"the status of {text[:20]!r}", status, done.returncode)
+        expect_that(said in errors[0] if said else not errors, f"{said!r} for {text[:20]!r}", (errors, done.stdout))
+    expect_asked(field, [a.control_path, "nodes"], "nodes\n", 0)
+
+
+@case
 def asked_where_no_node_answers(field):
     """Where no node answers, or not in time, pg_ask ends with status 3 and a line that says so; at a fault of its words with 2."""
     a = field.node("a@h")

@@ -6,7 +6,7 @@ import stat
 import subprocess
 
 from field import case
-from node import asked, member, size
+from node import asked, member, shown, size
 from talk import Control
 from waiting import LIMIT, expect, expect_that
 
@@ -37,7 +37,7 @@ def settings_in_a_file(field):
                         ("allow = []\n", "line 1: an empty list would let all peers in: allow"), ("control-mode = 0660\n", "line 1: "),
                         ("hidden = 1\n", "line 1: not true or false: hidden"),
                         ("[listen]\n", "line 1: not a text"), ("a = 1\nb\n", "line 2: "), ("entries = 5\n", "entries"),
-                        ("listen = 'nowhere'\n", "--listen"), ("'entris' = 5\n", f"{file[:60]}: no such option: entris")):
+                        ("listen = 'nowhere'\n", "--listen"), ("'entris' = 5\n", f"{shown(file)}: no such option: entris")):
         write(text)
         done = subprocess.run([field.program, "a@h", "--config", file, "--cookie-file", cookie], stdin=subprocess.DEVNULL,
                               capture_output=True, timeout=LIMIT, check=False)
@@ -48,7 +48,7 @@ def settings_in_a_file(field):
                           capture_output=True, timeout=LIMIT, check=False)
     expect("the status without the file", 1, done.returncode)
     write('cookie = "c"\n')
-    open_to_others = f"error: --config: {file[:60]}: line 1: others can read this file, or its group write it (chmod 600): cookie"
+    open_to_others = f"error: --config: {shown(file)}: line 1: others can read this file, or its group write it (chmod 600): cookie"
     for mode, said in ((0o644, [open_to_others]), (0o660, [open_to_others]), (0o640, [])):
         os.chmod(file, mode)
         done = subprocess.run([field.program, "a@h", "--config", file], stdin=subprocess.DEVNULL, capture_output=True, timeout=LIMIT,
@@ -159,7 +159,7 @@ def options_that_do_not_fit(field):
                          (("--control-mode", "0660"), "--control-mode: there is no --control"),
                          (("--control-read-mode", "0660"), "--control-read-mode: there is no --control-read"),
                          (("--control", long + ".s", "--control-read", long + ".s"), "--control-read: the path of --control"),
-                         (("--control", long), f"--control: {long[:60]}: a path of more than 103 bytes"),
+                         (("--control", long), f"--control: {shown(long)}: a path of more than 103 bytes"),
                          (("--log-level", "debug"), "--log-level: not error, warn or info: debug"),
                          (("--http-anywhere",), "--http-anywhere: there is no --http"),
                          (("--otp-visible",), "--otp-visible: there is no --otp-listen and no --otp-dial"),

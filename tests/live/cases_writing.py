@@ -8,7 +8,7 @@ import subprocess
 
 from cases_archive import fill, field_of, files_of, lines_of, lives_of
 from field import case
-from node import asked, new_pid, start
+from node import asked, new_pid, shown, start
 from talk import Control
 from waiting import LIMIT, expect, expect_that, until
 
@@ -74,7 +74,7 @@ def half_a_line_at_the_end(field):
     limited = ["bash", "-c", f'trap "" XFSZ; exec prlimit --fsize={whole - 10} "$@"', "bash", *words]
     done = subprocess.run(limited, input=script.encode(), capture_output=True, timeout=LIMIT, check=False)
     expect("the status", 1, done.returncode)
-    expect("the last line", f"error: --audit: {path[:60]}: 1 entries are not in the file", done.stderr.decode().splitlines()[-1])
+    expect("the last line", f"error: --audit: {shown(path)}: 1 entries are not in the file", done.stderr.decode().splitlines()[-1])
     expect("the size of the file", whole - 10, os.path.getsize(path))
 
 

@@ -14,6 +14,11 @@ TIME = re.compile(r"\d{4}-\d\d-\d\dT\d\d:\d\d:\d\d\.\d{3}Z ")
 WRAPPER = re.compile(r"pg_(node|ask): (this build isn't proved|building without proofs)")
 
 
+def shown(path):
+    """A path as a line names it that says what is wrong with it."""
+    return path if len(path) <= 44 else f"..{path[-42:]}"
+
+
 class Node(Talk):
     """A node with its standard streams. Commands may be asked of it, as of each control connection."""
 

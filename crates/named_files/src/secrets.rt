@@ -1,6 +1,6 @@
 //! A file that holds a cookie.
-ghost use Rattle.std.specs.Prelude.{◌≡◌, ◌++◌, IfOk};
-ghost use Rattle.named_files.specs.Secrets.{ends_line, IsOnlyLine};
+ghost use Rattle.std.specs.Prelude.{◌≡◌, ◌++◌, false, All, IfOk, IfErr};
+ghost use Rattle.named_files.specs.Secrets.{ends_line, IsOnlyLine, IsSecretFault};
 
 use dist_types::{Cookie, TextFault};
 use std::alloc::Global;
@@ -62,7 +62,8 @@ pub fn is_open<R: Files>(rt: &R, path: &str) -> io::Result<bool> {
 
 /// The cookie that a text has as its only line.
 pub fn cookie_in(alloc: Global, text: &[u8]) -> Result<Cookie, SecretFault>
-    ensures { IfOk result (λ cookie. IsOnlyLine cookie text.now) }
+    ensures ok { IfOk result (λ cookie. IsOnlyLine cookie text.now) }
+    ensures refused { IfErr result (IsSecretFault text.now) }
 {
     let (line, rest) = first_line(text);
     if !rest.iter().all(|byte| ends_line(*byte)) {
@@ -73,14 +74,13 @@ pub fn cookie_in(alloc: Global, text: &[u8]) -> Result<Cookie, SecretFault>
 
 /// The first line, and what stands behind it.
 fn first_line(text: &[u8]) -> (&[u8], &[u8])
-    ensures { result.0.now ++ result.1.now ≡ text.now }
+    ensures whole { result.0.now ++ result.1.now ≡ text.now }
+    ensures line { All (λ b. ends_line b ≡ false) result.0.now }
 {
-    for (i, byte) in text.iter().enumerate() {
-        if ends_line(*byte) {
-            return text.split_at(i);
-        }
+    match text.iter().position(|byte| ends_line(*byte)) {
+        Some(end) => text.split_at(end),
+        None => (text, &[]),
     }
-    (text, &[])
 }
 
 /// Whether a byte is a line feed, or a carriage return.
