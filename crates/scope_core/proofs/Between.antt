@@ -1,11 +1,12 @@
 -- The changes where some rows leave and others join, or take the place of others.
 use Rattle.scope_core.proofs
-use proofs.Words.{Adds, AllByRecursion, arith, Bool, cond, Counted, counted_cmp, exact_bytes, false}
-use proofs.Words.{GroupChange, how_many, is_among, is_empty, is_row, IsDifference, IsEmptied}
-use proofs.Words.{IsGroupListing, IsProper, length, Less, List, map, mentions, no_count}
-use proofs.Words.{one_of_many, or_left, or_right, picked, Pid, refl, Rises, Row, same, same_decides}
-use proofs.Words.{tally, Tells, text_cmp, texts_total, times_beyond, total, true, ℕ, [], ◌&&◌, ◌+◌}
-use proofs.Words.{◌-◌, ◌<◌, ◌∙◌, ◌∷◌, ◌≡◌}
+use proofs.Words
+use Words.{Adds, AllByRecursion, arith, Bool, cond, Counted, counted_cmp, exact_bytes, false}
+use Words.{GroupChange, how_many, is_among, is_empty, is_row, IsDifference, IsEmptied}
+use Words.{IsGroupListing, IsProper, length, Less, List, map, mentions, no_count, one_of_many}
+use Words.{or_left, or_right, picked, Pid, refl, Rises, Row, same, same_decides, tally, Tells}
+use Words.{text_cmp, texts_total, times_beyond, total, true, [], ℕ, ◌&&◌, ◌+◌, ◌-◌, ◌<◌, ◌∙◌, ◌∷◌}
+use Words.{◌≡◌}
 use proofs.Rising.{all_unmapped, once, row_is, tally_absent}
 
 -- what holds of each that is among them holds of all
@@ -48,28 +49,21 @@ beyond_counts cs others r g p = picked_tally (times_beyond others) (is_row g p) 
         → total (λ c. cond (is_row g p c.row) (times_beyond others c) 0) xs
         ≡ tally (is_row g p) xs - tally (is_row g p) others
     each [] s = omega arith
-    each (x ∷ xs) s =
-        let none = λ (e : is_row g p x.row ≡ true). tally_absent g p xs (once g p x xs e s.0) in
-        grind (arith, each xs s.1, none, row_is g p x.row)
+    each (x ∷ xs) s = grind (arith, each xs s.1, tally_absent, once, row_is)
 
 -- the change where the rows take the place of those of the node
 pub synced_change : (n : List ℕ) (rows : List Row) (cs held counted : List Counted)
-    (changes : List GroupChange) → Rises counted_cmp held
-    → ((g : List ℕ) (p : Pid)
+    (changes : List GroupChange) → Rises counted_cmp held → ((g : List ℕ) (p : Pid)
     → tally (is_row g p) held ≡ cond (same p.node n) (tally (is_row g p) cs) 0)
     → Rises counted_cmp counted → Adds rows [] counted
     → Tells (picked (times_beyond counted) held) (picked (times_beyond held) counted) changes
     → ((g : List ℕ) (p : Pid) → same p.node n ≡ false → how_many (is_row g p) rows ≡ 0)
-    → (after : List ℕ → Pid → ℕ)
-    → ((g : List ℕ) (p : Pid)
+    → (after : List ℕ → Pid → ℕ) → ((g : List ℕ) (p : Pid)
     → after g p ≡ cond (same p.node n) (how_many (is_row g p) rows) (tally (is_row g p) cs))
     → IsDifference (λ g p. tally (is_row g p) cs) after changes
-synced_change n rows cs held counted changes r own s counts told others after is =
-    told _ after
-    (λ g p. grind
-    (arith, beyond_counts held counted r g p, own g p, counts (is_row g p), is g p, others g p))
-    (λ g p. grind
-    (arith, beyond_counts counted held s g p, own g p, counts (is_row g p), is g p, others g p))
+synced_change n rows cs held counted changes r own s counts told others after is = told _ after
+    (λ g p. grind (arith, beyond_counts, own g p, counts (is_row g p), is g p, others g p))
+    (λ g p. grind (arith, beyond_counts, own g p, counts (is_row g p), is g p, others g p))
 
 -- where no group changes, nothing does
 pub unchanged : (before after : List ℕ → Pid → ℕ) (changes : List GroupChange) → length changes ≡ 0
@@ -82,8 +76,7 @@ unchanged before after (c ∷ cs) e d g p = grind arith
 module _ (rows : List Counted) where
   emptied_proper : (c : GroupChange) → IsEmptied rows c
       → ((p : Pid) × (0 < tally (is_row c.group p) rows)) → IsProper c
-  emptied_proper c e some =
-      grind (arith, e.left, e.none, e.left.counts some.0, some.1, some_moved some.0 c.left c.joined)
+  emptied_proper c e some = grind (arith, e.left.counts some.0, some_moved)
 
   emptied_left : (g : List ℕ) (p : Pid) (changes : List GroupChange)
       → AllByRecursion (IsEmptied rows) changes
@@ -96,7 +89,7 @@ module _ (rows : List Counted) where
       → AllByRecursion (IsEmptied rows) changes
       → total (λ c. cond (same c.group g) (mentions p c.joined) 0) changes ≡ 0
   emptied_joined g p [] a = refl
-  emptied_joined g p (c ∷ cs) a = grind (arith, emptied_joined g p cs a.1, a.0.none)
+  emptied_joined g p (c ∷ cs) a = grind (arith, emptied_joined g p cs a.1)
 
   all_proper : (changes : List GroupChange) → AllByRecursion (IsEmptied rows) changes
       → AllByRecursion (λ c. (p : Pid) × (0 < tally (is_row c.group p) rows)) changes
@@ -111,15 +104,13 @@ module _ (rows : List Counted) where
       → IsDifference (λ g p. tally (is_row g p) rows) no_count changes
   all_emptied gs changes listing names emptied = record {
     groups = rw names listing.rises;
-    proper =
-        all_proper changes emptied
+    proper = all_proper changes emptied
         (all_unmapped (λ g. (p : Pid) × (0 < tally (is_row g p) rows)) (λ c. c.group) changes
         (rw names (all_among (λ g. (p : Pid) × (0 < tally (is_row g p) rows)) gs listing.found)));
     left = λ g p.
-        let one =
-        one_of_many text_cmp same texts_total exact_bytes same_decides
+        let one = one_of_many text_cmp same texts_total exact_bytes same_decides
         (λ k. tally (is_row k p) rows) g gs listing.rises in
         let told = rw names at (emptied_left g p changes emptied) in
-        grind (arith, told, one, listing.only g p);
-    joined = λ g p. grind (arith, emptied_joined g p changes emptied);
+        grind (arith, listing.only g p);
+    joined = λ g p. grind (arith, emptied_joined);
   }

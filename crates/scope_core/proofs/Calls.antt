@@ -1,15 +1,15 @@
 -- What the calls of a table change, and when there is room: for rows of one node, and for own
 -- processes.
 use Rattle.scope_core.proofs
-use proofs.Words.{Adds, All, All-map, AllByRecursion, arith, Bool, change_unless_empty, cond}
-use proofs.Words.{count_after_add, count_after_sync, Counted, Counts, Covers, false, GroupChange}
-use proofs.Words.{HasRoomFor, how_many, how_many_le, is_of_node, is_row, IsAddFault, IsDifference}
-use proofs.Words.{IsKept, IsNodeList, IsPidListing, IsSyncFault, Joins, length, length-map, List}
-use proofs.Words.{local_count, local_total, map, max_rows, mentions, min, not, not-false, not-true}
-use proofs.Words.{NotJoined, NotListed, one_difference, OutOfMemory, Pid, recursion_from_All, refl}
-use proofs.Words.{Row, row_in, RowsFull, same, same_decides, same_length, same_pid}
-use proofs.Words.{same_pid_decides, same_sym, sym, Table, TableFault, tally, Tells, true}
-use proofs.Words.{without_node, ℕ, [], ◌+◌, ◌∷◌, ◌≡◌, ◌≤◌}
+use proofs.Words
+use Words.{Adds, All, All-map, AllByRecursion, arith, Bool, change_unless_empty, cond}
+use Words.{count_after_add, count_after_sync, Counted, Counts, Covers, false, GroupChange}
+use Words.{HasRoomFor, how_many, how_many_le, is_of_node, is_row, IsAddFault, IsDifference, IsKept}
+use Words.{IsNodeList, IsPidListing, IsSyncFault, Joins, length, length-map, List, local_count}
+use Words.{local_total, map, max_rows, mentions, min, not, not-false, not-true, NotJoined}
+use Words.{NotListed, one_difference, OutOfMemory, Pid, recursion_from_All, refl, Row, row_in}
+use Words.{RowsFull, same, same_decides, same_length, same_pid, same_pid_decides, same_sym, sym}
+use Words.{Table, TableFault, tally, Tells, true, without_node, [], ℕ, ◌+◌, ◌∷◌, ◌≡◌, ◌≤◌}
 use proofs.Rising.{all_map, gone_counts, none_pass, own_from_tally, row_is, tally_all, tally_none}
 use proofs.Shares.{fewer_rows}
 use proofs.Unnamed.{same_members, unnamed_same}
@@ -32,7 +32,7 @@ module _ (n : List ℕ) where
       → how_many (is_row g p) rows ≡ 0
   rows_of_none g p [] a e = refl
   rows_of_none g p (r ∷ rows) a e =
-      grind (arith, rows_of_none g p rows a.1 e, same_pid_decides r.pid p, same_decides p.node n)
+      grind (arith, rows_of_none g p rows a.1 e, same_pid_decides, same_decides)
 
   -- how many own rows go with those of a node
   pub own_left : (own : List ℕ) (cs : List Counted) (m : ℕ) → m ≡ tally (is_of_node own) cs
@@ -48,10 +48,10 @@ module _ (n : List ℕ) where
   pub first_fault : (t : Table) (rows : List Row) (limit : ℕ) (fault : TableFault)
       → tally (is_of_node n) t.rows ≡ 0 → IsAddFault t n rows limit fault
       → IsSyncFault rows limit fault
-  first_fault t rows limit RowsFull none h = omega (arith, none, h)
+  first_fault t rows limit RowsFull none h = omega arith
   first_fault t rows limit NotJoined none h = h
   first_fault t rows limit NotListed none h = h
-  first_fault t rows limit OutOfMemory none h = omega (arith, h)
+  first_fault t rows limit OutOfMemory none h = omega arith
 
 module _ (n : List ℕ) (rows : List Row) (own : All (λ r. r.pid.node ≡ n) rows) where
   all_of_one : AllByRecursion (λ r. r.pid.node ≡ n) rows
@@ -80,21 +80,19 @@ module _ (n : List ℕ) (rows : List Row) (own : All (λ r. r.pid.node ≡ n) ro
       none_other : (rs : List Row) → AllByRecursion (λ r. r.pid.node ≡ n) rs
           → how_many (λ r. not (is_of_node n r)) rs ≡ 0
       none_other [] a = refl
-      none_other (r ∷ rs) a = grind (arith, none_other rs a.1, same_decides r.pid.node n)
+      none_other (r ∷ rs) a = grind (arith, none_other rs a.1, same_decides)
 
   -- what is counted with them in place of those of the node
   pub sync_counts : (cs counted new : List Counted) → Adds rows [] counted
-      → Joins counted (without_node n cs) new → (g : List ℕ) (p : Pid)
-      → tally (is_row g p) new
+      → Joins counted (without_node n cs) new → (g : List ℕ) (p : Pid) → tally (is_row g p) new
       ≡ cond (same p.node n) (how_many (is_row g p) rows) (tally (is_row g p) cs)
-  sync_counts cs counted new counts joins g p =
-      grind (
-        arith,
-        counts (is_row g p),
-        joins (is_row g p),
-        gone_counts (λ q. same q.node n) g p cs,
-        no_others g p,
-      )
+  sync_counts cs counted new counts joins g p = grind (
+    arith,
+    counts (is_row g p),
+    joins (is_row g p),
+    gone_counts (λ q. same q.node n) g p cs,
+    no_others,
+  )
 
   -- where the node has no rows, they are put in the place of none
   pub first_counts : (t new : Table) → tally (is_of_node n) t.rows ≡ 0
@@ -102,27 +100,24 @@ module _ (n : List ℕ) (rows : List Row) (own : All (λ r. r.pid.node ≡ n) ro
   first_counts t new none added = record {
     own = added.own;
     counts = λ g p.
-        let old =
-        λ (e : same p.node n ≡ true).
-        none_counted n (is_row g p) (λ r f. grind (arith, row_is g p r f, e)) t.rows none in
-        grind (arith, added.counts g p, old, no_others g p);
+        let old = λ (e : same p.node n ≡ true).
+        none_counted n (is_row g p) (λ r f. grind (arith, row_is)) t.rows none in
+        grind (arith, added.counts g p, no_others g p);
   }
 
   -- where they replace those of the node, a group whose difference isn't told has processes of the
   -- node as before
   pub sync_covered : (cs counted : List Counted) (changes : List GroupChange) → Adds rows [] counted
-      → (after : List ℕ → Pid → ℕ)
-      → ((g : List ℕ) (p : Pid)
+      → (after : List ℕ → Pid → ℕ) → ((g : List ℕ) (p : Pid)
       → after g p ≡ cond (same p.node n) (how_many (is_row g p) rows) (tally (is_row g p) cs))
       → IsDifference (λ g p. tally (is_row g p) cs) after changes → Covers changes n cs counted
-  sync_covered cs counted changes counts after is d g e =
-      same_members g n counted cs
+  sync_covered cs counted changes counts after is d g e = same_members g n counted cs
       (λ p m. grind (
         arith,
         unnamed_same _ after changes d g e p,
         is g p,
         counts (is_row g p),
-        same_decides p.node n,
+        same_decides,
       ))
 
 -- the change where rows are added
@@ -147,8 +142,7 @@ added_covered n counted changes told =
 
 -- the change where rows are taken
 pub taken_change : (rows : List Row) (cs counted new : List Counted) (changes : List GroupChange)
-    → Tells counted [] changes → Adds rows [] counted
-    → ((g : List ℕ) (p : Pid)
+    → Tells counted [] changes → Adds rows [] counted → ((g : List ℕ) (p : Pid)
     → tally (is_row g p) cs ≡ tally (is_row g p) new + how_many (is_row g p) rows)
     → IsDifference (λ g p. tally (is_row g p) cs) (λ g p. tally (is_row g p) new) changes
 taken_change rows cs counted new changes told counts taken =
@@ -161,7 +155,7 @@ taken_change rows cs counted new changes told counts taken =
 pub mentions_in : (g h : List ℕ) (p : Pid) (ps : List Pid)
     → how_many (is_row h p) (map (row_in g) ps) ≡ cond (same h g) (mentions p ps) 0
 mentions_in g h p [] = grind arith
-mentions_in g h p (q ∷ qs) = grind (arith, mentions_in g h p qs, same_sym g h)
+mentions_in g h p (q ∷ qs) = grind (arith, mentions_in g h p qs, same_sym)
 
 -- the change of a join
 pub joined_change : (g : List ℕ) (ps sorted : List Pid) (before after : List ℕ → Pid → ℕ)
@@ -173,22 +167,19 @@ joined_change g ps sorted before after listing is = grind (arith, one_difference
 -- the rows of own processes are own rows
 pub own_rows : (own : List ℕ) (ps : List Pid) → All (λ p. p.node ≡ own) ps → (g node : List ℕ)
     → how_many (is_of_node node) (map (row_in g) ps) ≡ cond (same own node) (length ps) 0
-own_rows own ps all g node =
-    grind (
-      arith,
-      all_or_none own (map (row_in g) ps)
-          (All-map (λ r. r.pid.node ≡ own) (row_in g) ps all) node,
-      length-map ps (row_in g),
-    )
+own_rows own ps all g node = grind (
+  arith,
+  all_or_none own (map (row_in g) ps) (All-map (λ r. r.pid.node ≡ own) (row_in g) ps all) node,
+  length-map,
+)
 
 -- own processes of one group are no more than all own rows
 pub length-part : (t : Table) (g : List ℕ) (ps : List Pid)
     → ((p : Pid) → mentions p ps ≤ local_count t g p) → length ps ≤ local_total t
 length-part t g ps few =
-    let rows =
-    fewer_rows t.own t (map (row_in g) ps)
-    (λ r. grind (arith, mentions_in g r.group r.pid ps, few r.pid, same_decides r.group g)) in
-    omega (arith, rows, length-map ps (row_in g))
+    let rows = fewer_rows t.own t (map (row_in g) ps)
+    (λ r. grind (arith, mentions_in g r.group r.pid ps, few r.pid, same_decides)) in
+    omega (arith, length-map ps (row_in g))
 
 -- ---- own processes that would leave
 
@@ -196,20 +187,12 @@ length-part t g ps few =
 unmentioned : (own : List ℕ) (ps : List Pid) → All (λ q. q.node ≡ own) ps → (p : Pid)
     → same p.node own ≡ false → mentions p ps ≡ 0
 unmentioned own ps all p other =
-    none_pass (λ q. same_pid q p) ps
-    (all_map (λ q. q.node ≡ own) (λ q. same_pid q p ≡ false)
-    (λ q is. grind (arith, is, same_pid_decides q p, same_decides p.node own)) ps
-    (recursion_from_All _ _ all))
+    grind (arith, none_pass, all_map, same_pid_decides, same_decides, recursion_from_All)
 
 module _ (t : Table) (g : List ℕ) (ps gone : List Pid) (all : All (λ q. q.node ≡ t.own) ps)
     (listing : IsPidListing (λ p. min (mentions p ps) (tally (is_row g p) t.rows)) gone) where
   pub leaving_listing : IsPidListing (λ p. min (mentions p ps) (local_count t g p)) gone
-  leaving_listing =
-      record {
-        ascends = listing.ascends;
-        counts =
-            λ p. grind (arith, listing.counts p, unmentioned t.own ps all p);
-      }
+  leaving_listing = grind (arith, unmentioned)
 
   pub leaving_few : length gone ≤ local_total t
   leaving_few = length-part t g gone (λ p. grind (arith, leaving_listing.counts p))
@@ -223,9 +206,8 @@ module _ (own g : List ℕ) (ps sorted : List Pid) (all : All (λ q. q.node ≡ 
   each_own [] few = tt
   each_own (q ∷ qs) few =
       let mine = λ (e : same q.node own ≡ false). unmentioned own ps all q e in (
-        grind (arith, few q, same_pid_decides q q, same_decides q.node own, mine),
-        each_own qs
-            (λ p. grind (arith, few p)),
+        grind (arith, few q, same_pid_decides, same_decides),
+        each_own qs (λ p. grind (arith, few p)),
       )
 
   sorted_own : All (λ q. q.node ≡ own) sorted
@@ -239,14 +221,12 @@ module _ (own g : List ℕ) (ps sorted : List Pid) (all : All (λ q. q.node ≡ 
   sorted_length = same_length same_pid same_pid_decides sorted ps (λ p. listing.counts p)
 
   pub fresh_fit : length ps ≤ max_rows → HasRoomFor (map (row_in g) sorted) []
-  fresh_fit few =
-      alone_fit (map (row_in g) sorted)
-      (omega (arith, few, sorted_length, length-map sorted (row_in g)))
+  fresh_fit few = grind (arith, alone_fit, sorted_length, length-map)
 
   module _ (counted : List Counted) (added : Adds (map (row_in g) sorted) [] counted) where
     pub fresh_counts : (h : List ℕ) (p : Pid)
         → tally (is_row h p) counted ≡ cond (same h g) (mentions p ps) 0
-    fresh_counts h p = grind (arith, added (is_row h p), mentions_in g h p sorted, listing.counts p)
+    fresh_counts h p = grind (arith, added (is_row h p), mentions_in, listing.counts p)
 
     pub fresh_total : (node : List ℕ)
         → tally (is_of_node node) counted ≡ cond (same own node) (length ps) 0
@@ -258,6 +238,5 @@ module _ (own g : List ℕ) (ps sorted : List Pid) (all : All (λ q. q.node ≡ 
 
     pub fresh_change : IsDifference (λ h p. 0) (λ h p. tally (is_row h p) counted)
         (change_unless_empty g [] sorted)
-    fresh_change =
-        joined_change g ps sorted (λ h p. 0) (λ h p. tally (is_row h p) counted) listing
-        (λ h p. grind (arith, fresh_counts h p))
+    fresh_change = joined_change g ps sorted (λ h p. 0) (λ h p. tally (is_row h p) counted) listing
+        (λ h p. grind (arith, fresh_counts))

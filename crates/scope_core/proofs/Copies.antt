@@ -1,31 +1,19 @@
 -- The index of a node's processes, made of lists of their groups.
 use Rattle.scope_core.proofs
-use Rattle.scope_core.specs
-use proofs.Words.{all_from, AllByRecursion, AllWithin, ap, arith, Ascends, Bool, cond}
-use proofs.Words.{Counted, drop, eq_by_cmp, false, get_or, HoldsAt, is_eq, is_gt, is_lt, is_some}
-use proofs.Words.{IsPermutation, length, Less, List, list_any, lookup, map, None, Option, Ordering}
-use proofs.Words.{refl, Rises, slice_get, Some, subst, suc, sym, take, text_cmp, texts_total}
-use proofs.Words.{tied_itself, true, zero, ℕ, [], ◌&&◌, ◌++◌, ◌<◌, ◌||◌, ◌∙◌, ◌∷◌, ◌≡◌}
-use proofs.Words.{◌≤◌}
-use Rattle.std.specs.Prelude.{IfSome}
-use Rattle.std.specs.Option.{option_to_list}
-use Rattle.std.specs.Ordering.{ordering_reverse}
-use Rattle.std.specs.Map.{keys_of}
-use Rattle.std.specs.List.{IsDistinct}
-use Rattle.std.specs.Set.{is_member}
-use specs.declared.process_key.ProcessKey.{ProcessKey}
-use specs.declared.small_map.SmallMap.{SmallMap}
-use specs.declared.small_map.SmallMap.TheVariants.{One}
-use specs.SmallMap.{find, found}
-use specs.HashedRows.{key_cmp, key_of, row_at, stands}
-use specs.Copies.{is_held, is_keyed, keyed, keyed_maps, process_keys}
+use proofs.Words
+use Words.{all_from, AllByRecursion, AllWithin, ap, arith, Ascends, Bool, cond, Counted, drop}
+use Words.{eq_by_cmp, eq_by_cmp_equiv, false, find, found, get_or, HoldsAt, IfSome, is_eq, is_gt}
+use Words.{is_held, is_keyed, is_lt, is_member, is_some, IsPermutation, IsSortedByKey, key_cmp}
+use Words.{key_of, keyed, keyed_maps, keys_of, length, Less, List, list_any, list_any-IsPermutation}
+use Words.{lookup, map, None, One, Option, option_to_list, Ordering, ordering_reverse, process_keys}
+use Words.{ProcessKey, ranks_by, refl, Rises, row_at, slice_get, SmallMap, Some, sorted_far, stands}
+use Words.{subst, suc, sym, take, text_cmp, texts_total, tied_itself, true, zero, [], ℕ, ◌&&◌, ◌++◌}
+use Words.{◌<◌, ◌||◌, ◌∙◌, ◌∷◌, ◌≡◌, ◌≤◌}
 use proofs.HashedRows.{keys_total, one_key, one_place, same_key_decides}
 use proofs.Pushed.{rises_push}
 use proofs.Rising.{all_map, all_mapped}
-use Rattle.std.specs.List.Sorted.{IsSortedByKey}
+use Rattle.std.specs.List.{IsDistinct}
 use Rattle.std.proofs.lemmas.List.Folds.{list_any-append}
-use Rattle.std.proofs.lemmas.List.Sorted.{list_any-IsPermutation, ranks_by, sorted_far}
-use Rattle.std.proofs.lemmas.Cmp.{eq_by_cmp_equiv}
 
 abbrev pub Names : Type 0
 Names = SmallMap (List ℕ) (Unit {0})
@@ -37,9 +25,7 @@ Maps = List (ProcessKey × Names)
 
 above_next : (l k : ProcessKey) (ks : List ProcessKey) → key_cmp l k ≡ Less
     → AllByRecursion (λ q. key_cmp k q ≡ Less) ks → AllByRecursion (λ q. key_cmp l q ≡ Less) ks
-above_next l k ks less a =
-    all_map (λ q. key_cmp k q ≡ Less) (λ q. key_cmp l q ≡ Less)
-    (λ q m. keys_total.trans l k q less m) ks a
+above_next l k ks less a = grind (arith, all_map, keys_total)
 
 -- a key before those that rise, where it is below the first
 pub rises_next : (o : Option ProcessKey) (k : ProcessKey) (ks : List ProcessKey)
@@ -63,42 +49,29 @@ rising_apart (k ∷ ks) r = (all_unlike k ks r.0, rising_apart ks r.1)
 none_held : (k l : ProcessKey) (g : List ℕ) (es : Maps) → eq_by_cmp key_cmp k l ≡ true
     → AllByRecursion (λ q. key_cmp l q ≡ Less) (keys_of es) → is_held k g es ≡ false
 none_held k l g [] e a = refl
-none_held k l g (x ∷ es) e a =
-    grind (
-      arith,
-      none_held k l g es e a.1,
-      a.0,
-      one_key k l,
-      one_key k x.0,
-      tied_itself keys_total l,
-      e,
-    )
+none_held k l g (x ∷ es) e a = grind (arith, none_held k l g es e a.1, one_key, tied_itself)
 
 -- where the keys rise, a group is found where it is held
 pub found_held : (k : ProcessKey) (g : List ℕ) (es : Maps) → Rises key_cmp (keys_of es)
     → is_some (found text_cmp (lookup (λ q. is_eq (key_cmp k q)) es) g) ≡ is_held k g es
 found_held k g [] s = refl
-found_held k g (e ∷ es) s =
-    let none = λ (h : eq_by_cmp key_cmp k e.0 ≡ true). none_held k e.0 g es h s.0 in
-    grind (arith, found_held k g es s.1, none)
+found_held k g (e ∷ es) s = grind (arith, found_held k g es s.1, none_held)
 
 -- the groups are found under the keys of the rows' processes
 pub keyed_is : (node : List ℕ) (k : ProcessKey) (g : List ℕ) (rows : List Counted)
     → AllByRecursion (λ c. c.row.pid.node ≡ node) rows
     → is_keyed k g (keyed rows) ≡ stands (row_at node g k) rows
 keyed_is node k g [] own = refl
-keyed_is node k g (c ∷ cs) own =
-    grind (
-      arith,
-      keyed_is node k g cs own.1,
-      one_place node g k c.row own.0,
-      (eq_by_cmp_equiv keys_total).symm k (key_of c.row.pid),
-    )
+keyed_is node k g (c ∷ cs) own = grind (
+  arith,
+  keyed_is node k g cs own.1,
+  one_place,
+  (eq_by_cmp_equiv keys_total).symm k (key_of c.row.pid),
+)
 
 pub one_found : (group g : List ℕ)
     → is_some (find text_cmp (One group (tt {0})) g) ≡ eq_by_cmp text_cmp group g
-one_found group g =
-    by (is_eq (text_cmp g group)) ∙ (eq_by_cmp_equiv texts_total).symm g group
+one_found group g = by (is_eq (text_cmp g group)) ∙ (eq_by_cmp_equiv texts_total).symm g group
   where
     by : (b : Bool) → is_some (cond b (Some (tt {0})) None) ≡ b
     by true = refl
@@ -112,7 +85,7 @@ maps_are k g (c ∷ cs) =
 
 pub keys_of_maps : (rows : List Counted) → keys_of (keyed_maps rows) ≡ process_keys rows
 keys_of_maps [] = refl
-keys_of_maps (c ∷ cs) = ap (λ ks. key_of c.row.pid ∷ ks) (keys_of_maps cs)
+keys_of_maps (c ∷ cs) = grind (arith, keys_of_maps cs)
 
 -- ---- the names of one process, and those behind them
 
@@ -121,8 +94,7 @@ Named = List (ProcessKey × List ℕ)
 
 behind : (l k q : ProcessKey) → key_cmp l k ≡ Less → is_gt (key_cmp k q) ≡ false
     → key_cmp l q ≡ Less
-behind l k q less n =
-    grind (arith, keys_total.trans l k q, one_key k q, same_key_decides k q, n, less)
+behind l k q less n = grind (arith, keys_total.trans l k q, one_key, same_key_decides)
 
 -- where none is below a key, the first ones stand under it, and all behind them above it
 key_run : (key : ProcessKey) (n : ℕ) (ps : Named) → Ascends key_cmp (keys_of ps)
@@ -134,22 +106,12 @@ key_run : (key : ProcessKey) (n : ℕ) (ps : Named) → Ascends key_cmp (keys_of
 key_run key zero [] s b a l e = (tt, tt)
 key_run key zero (p ∷ ps) s b a l e =
     let other = e (omega arith) p in
-    let up : key_cmp key p.0 ≡ Less =
-    grind (
-      arith,
-      b.0,
-      other,
-      one_key key p.0,
-      one_key p.0 key,
-      same_key_decides key p.0,
-      same_key_decides p.0 key,
-    ) in
+    let up : key_cmp key p.0 ≡ Less = grind (arith, one_key, same_key_decides) in
     (tt, (up, all_map _ _ (λ q n. behind key p.0 q up n) (keys_of ps) s.0))
-key_run key (suc n) [] s b a l e = absurd (omega (arith, l))
+key_run key (suc n) [] s b a l e = absurd (omega arith)
 key_run key (suc n) (p ∷ ps) s b a l e =
-    let rest =
-    key_run key n ps s.1 b.1 (λ k d m h. a (suc k) d (omega arith) (omega (arith, h)))
-    (omega (arith, l)) (λ h d. e (omega (arith, h)) d) in
+    let rest = key_run key n ps s.1 b.1 (λ k d m h. a (suc k) d (omega arith) (omega arith))
+    (omega arith) (λ h d. e (omega arith) d) in
     let same : p.0 ≡ key =
     (same_key_decides p.0 key).0 (sym (one_key p.0 key) ∙ a 0 p (omega arith) (omega arith)) in
     ((same, rest.0), rest.1)
@@ -166,36 +128,33 @@ none_below_key : (first : ProcessKey × List ℕ) (ps : Named) → Some first �
     → AllByRecursion (λ q. is_gt (key_cmp first.0 q) ≡ false) (keys_of ps)
 none_below_key first [] e s = tt
 none_below_key first (p ∷ ps) e s =
-    let same : first ≡ p = grind (arith, e) in
+    let same : first ≡ p = grind arith in
     let itself = tied_itself keys_total p.0 in
-    subst
-    (λ (f : ProcessKey × List ℕ).
+    subst (λ (f : ProcessKey × List ℕ).
     AllByRecursion (λ q. is_gt (key_cmp f.0 q) ≡ false) (keys_of (p ∷ ps)))
     (sym same) (ap is_gt itself, s.0)
 
 begins : (first : ProcessKey × List ℕ) (n : ℕ) (all : Named) → Some first ≡ slice_get all 0
     → n ≤ length all → (n < length all → HoldsAt (λ p. is_eq (key_cmp p.0 first.0) ≡ false) all n)
     → 0 < length (take n all)
-begins first n [] is l e = absurd (grind (arith, is))
+begins first n [] is l e = grind arith
 begins first zero (p ∷ ps) is l e =
     let other = e (omega arith) p in
-    absurd (grind (arith, is, other, tied_itself keys_total p.0))
+    absurd (grind (arith, tied_itself))
 begins first (suc n) (p ∷ ps) is l e = omega arith
 
 pub name_run : (first : ProcessKey × List ℕ) (n : ℕ) (all run others : Named)
     → Some first ≡ slice_get all 0 → Ascends key_cmp (keys_of all)
     → AllWithin (λ p. is_eq (key_cmp p.0 first.0) ≡ true) all 0 n → n ≤ length all
     → (n < length all → HoldsAt (λ p. is_eq (key_cmp p.0 first.0) ≡ false) all n)
-    → run ≡ take n all → others ≡ drop n all → all ≡ run ++ others
-    → NameRun first.0 all run others
+    → run ≡ take n all → others ≡ drop n all → all ≡ run ++ others → NameRun first.0 all run others
 name_run first n all run others is s a l e front back whole =
     let parts = key_run first.0 n all s (none_below_key first all is s) a l e in
     record {
       whole = whole;
       some = subst (λ ps. 0 < length ps) (sym front) (begins first n all is l e);
       alike = subst (AllByRecursion (λ p. p.0 ≡ first.0)) (sym front) parts.0;
-      above =
-          subst (λ ps. AllByRecursion (λ q. key_cmp first.0 q ≡ Less) (keys_of ps)) (sym back)
+      above = subst (λ ps. AllByRecursion (λ q. key_cmp first.0 q ≡ Less) (keys_of ps)) (sym back)
           parts.1;
     }
 
@@ -211,7 +170,7 @@ pub record Folds (names rest : Named) (es : Maps) : Type 0 where
 keys_push : (es : Maps) (k : ProcessKey) (m : Names)
     → keys_of (es ++ (k, m) ∷ []) ≡ keys_of es ++ k ∷ []
 keys_push [] k m = refl
-keys_push (e ∷ es) k m = ap (λ ks. e.0 ∷ ks) (keys_push es k m)
+keys_push (e ∷ es) k m = grind (arith, keys_push es k m)
 
 all_push : (P : ProcessKey → Type 0) (k : ProcessKey) (ks : List ProcessKey) → AllByRecursion P ks
     → P k → AllByRecursion P (ks ++ k ∷ [])
@@ -229,16 +188,15 @@ ascends_behind [] ys s = s
 ascends_behind (x ∷ xs) ys s = ascends_behind xs ys s.1
 
 keyed_run : (key k : ProcessKey) (g : List ℕ) (run : Named) → AllByRecursion (λ p. p.0 ≡ key) run
-    → is_keyed k g run
-    ≡ (is_eq (key_cmp k key) && list_any (λ p. eq_by_cmp text_cmp p.1 g) run)
+    → is_keyed k g run ≡ (is_eq (key_cmp k key) && list_any (λ p. eq_by_cmp text_cmp p.1 g) run)
 keyed_run key k g [] a = grind arith
-keyed_run key k g (p ∷ ps) a = grind (arith, keyed_run key k g ps a.1, a.0)
+keyed_run key k g (p ∷ ps) a = grind (arith, keyed_run key k g ps a.1)
 
 below_run : (key q : ProcessKey) (run others : Named) → 0 < length run
     → AllByRecursion (λ p. p.0 ≡ key) run
     → AllByRecursion (λ r. key_cmp q r ≡ Less) (keys_of (run ++ others)) → key_cmp q key ≡ Less
-below_run key q [] others some a below = absurd (omega (arith, some))
-below_run key q (p ∷ ps) others some a below = subst (λ r. key_cmp q r ≡ Less) a.0 below.0
+below_run key q [] others some a below = grind arith
+below_run key q (p ∷ ps) others some a below = grind arith
 
 pub folds_next : (key : ProcessKey) (names all run others : Named) (es : Maps) (m : Names)
     → NameRun key all run others
@@ -253,26 +211,14 @@ folds_next key names all run others es m r has f =
     all_map _ _ (λ q a. all_behind (λ r. key_cmp q r ≡ Less) run others a) (keys_of es) was.below in
     record {
       ascends = ascends_behind run others was.ascends;
-      rises =
-          subst (Rises key_cmp) keys
-          (rises_push key_cmp (keys_of es) key was.rises low);
+      rises = subst (Rises key_cmp) keys (rises_push key_cmp (keys_of es) key was.rises low);
       below =
           subst (AllByRecursion (λ q. AllByRecursion (λ r. key_cmp q r ≡ Less) (keys_of others)))
           keys (all_push _ key (keys_of es) left r.above);
-      held = λ k g.
-          grind (
-            arith,
-            was.held k g,
-            keyed_run key k g run r.alike,
-            has g,
-            list_any-append (λ e. is_eq (key_cmp k e.0) && is_some (find text_cmp e.1 g)) es
-                ((key, m) ∷ []),
-            list_any-append (λ p. is_eq (key_cmp k p.0) && eq_by_cmp text_cmp p.1 g) run others,
-          );
+      held = λ k g. grind (arith, was.held k g, keyed_run, has g, list_any-append);
     }
 
-pub named : (g : List ℕ) (names : Named)
-    → is_member (eq_by_cmp text_cmp) (map (λ n. n.1) names) g
+pub named : (g : List ℕ) (names : Named) → is_member (eq_by_cmp text_cmp) (map (λ n. n.1) names) g
     ≡ list_any (λ n. eq_by_cmp text_cmp n.1 g) names
 named g [] = refl
 named g (n ∷ names) = grind (arith, named g names, (eq_by_cmp_equiv texts_total).symm g n.1)
@@ -280,33 +226,26 @@ named g (n ∷ names) = grind (arith, named g names, (eq_by_cmp_equiv texts_tota
 pub folds_all : (names rest : Named) (es : Maps) → None ≡ slice_get rest 0 → Folds names rest es
     → (k : ProcessKey) (g : List ℕ) → is_held k g es ≡ is_keyed k g names
 folds_all names [] es e f k g = grind (arith, f.held k g)
-folds_all names (p ∷ ps) es e f k g = grind (arith, e)
+folds_all names (p ∷ ps) es e f k g = grind arith
 
 -- ---- what is found in the map
 
 -- in a map of these, whose keys rise, the groups of the rows are found
 pub names_found : (rows : List Counted) (es : Maps) (at : ProcessKey → Option Names)
     → (IsDistinct (eq_by_cmp key_cmp) (keys_of es)
-    → (k : ProcessKey) → at k ≡ lookup (λ q. is_eq (key_cmp k q)) es)
-    → Rises key_cmp (keys_of es)
+    → (k : ProcessKey) → at k ≡ lookup (λ q. is_eq (key_cmp k q)) es) → Rises key_cmp (keys_of es)
     → ((k : ProcessKey) (g : List ℕ) → is_held k g es ≡ is_keyed k g (keyed rows))
     → (node : List ℕ) → AllByRecursion (λ c. c.row.pid.node ≡ node) rows
     → (k : ProcessKey) (g : List ℕ)
     → is_some (found text_cmp (at k) g) ≡ stands (row_at node g k) rows
 names_found rows es at is rises held node own k g =
-    ap (λ o. is_some (found text_cmp o g)) (is (rising_apart (keys_of es) rises) k)
-    ∙ found_held k g es rises ∙ held k g ∙ keyed_is node k g rows own
+    grind (arith, rising_apart, found_held, keyed_is)
 
 -- the same rows in another order
 pub keyed_sorted : (k : ProcessKey) (g : List ℕ) (rows : List Counted)
-    (names sorted : List (ProcessKey × List ℕ))
-    → names ≡ keyed rows → IsPermutation names sorted
+    (names sorted : List (ProcessKey × List ℕ)) → names ≡ keyed rows → IsPermutation names sorted
     → is_keyed k g sorted ≡ is_keyed k g (keyed rows)
-keyed_sorted k g rows names sorted is moved =
-    sym
-    (list_any-IsPermutation (λ p. is_eq (key_cmp k p.0) && eq_by_cmp text_cmp p.1 g) names sorted
-    moved)
-    ∙ ap (is_keyed k g) is
+keyed_sorted k g rows names sorted is moved = grind (arith, list_any-IsPermutation)
 
 reversed : (o : Ordering) → is_gt (ordering_reverse o) ≡ is_lt o
 reversed o = grind arith
@@ -314,14 +253,13 @@ reversed o = grind arith
 module _ (ps : List (ProcessKey × List ℕ)) where
   keys_ascend : (xs : List (ProcessKey × List ℕ))
       → ((i j : ℕ) (d : ProcessKey × List ℕ) → i ≤ j → j < length xs
-      → is_gt (key_cmp (get_or xs i d).0 (get_or xs j d).0) ≡ false)
-      → Ascends key_cmp (keys_of xs)
+      → is_gt (key_cmp (get_or xs i d).0 (get_or xs j d).0) ≡ false) → Ascends key_cmp (keys_of xs)
   keys_ascend [] f = tt
   keys_ascend (x ∷ xs) f = (
     all_mapped (λ q. is_gt (key_cmp x.0 q) ≡ false) (λ y. y.0) xs
         (all_from (λ y. is_gt (key_cmp x.0 y.0) ≡ false) xs
-        (λ k d l h. f 0 (suc k) d (omega arith) (omega (arith, h)))),
-    keys_ascend xs (λ i j d l h. f (suc i) (suc j) d (omega (arith, l)) (omega (arith, h))),
+        (λ k d l h. f 0 (suc k) d (omega arith) (omega arith))),
+    keys_ascend xs (λ i j d l h. f (suc i) (suc j) d (omega arith) (omega arith)),
   )
 
   -- copies that are sorted by their keys

@@ -1,18 +1,19 @@
 -- What the index of groups counts: the rows of the node, and what changes where all leave.
 use Rattle.scope_core.proofs
-use proofs.Words.{all_append, AllByRecursion, ap, append-nil, arith, Ascends, BTreeMap}
-use proofs.Words.{change_unless_empty, cond, counted_in, entries_of, false, flat_map, group_rows}
-use proofs.Words.{GroupChange, how_many, how_many_append, is_gt, is_row, IsDifference, IsHashed}
-use proofs.Words.{IsProper, key_cmp, key_of, keys_of, length, Less, List, map, mentions, Pid}
-use proofs.Words.{pid_cmp, pid_of, pids_total, ProcessKey, refl, replicate, Rises, Row, row_in}
-use proofs.Words.{same, same_decides, same_row, SmallMap, spread, spread_ascends, spread_counts}
-use proofs.Words.{subst, suc, sym, tally, text_cmp, texts_total, tied_itself, times_joined}
-use proofs.Words.{times_left, true, zero, ℕ, [], ◌++◌, ◌-◌, ◌==◌, ◌∙◌, ◌∷◌, ◌≡◌}
-use Rattle.std.specs.List.Sorted.{IsStrictlySortedBy}
+use proofs.Words
+use Words.{all_append, AllByRecursion, ap, append-nil, arith, Ascends, BTreeMap}
+use Words.{change_unless_empty, cond, counted_in, entries_of, false, flat_map, group_rows}
+use Words.{GroupChange, how_many, how_many_append, is_gt, is_row, IsDifference, IsHashed, IsProper}
+use Words.{key_cmp, key_of, keys_of, length, Less, List, map, mentions, Pid, pid_cmp, pid_of}
+use Words.{pids_total, ProcessKey, refl, replicate, Rises, Row, row_in, same, same_decides}
+use Words.{same_row, SmallMap, spread, spread_ascends, spread_counts, subst, suc, sym, tally}
+use Words.{text_cmp, texts_total, tied_itself, times_joined, times_left, true, zero, [], ℕ, ◌++◌}
+use Words.{◌-◌, ◌==◌, ◌∙◌, ◌∷◌, ◌≡◌}
 use proofs.HashedWrites.{in_group_count}
 use proofs.Tallies.{none_mentioned, tally_append}
 use proofs.GroupRows.{entries_others, flat, flat_others, flat_tally, group_total, member_counts}
 use proofs.GroupRows.{other_group, SortedMembers}
+use Rattle.std.specs.List.Sorted.{IsStrictlySortedBy}
 
 abbrev Members : Type 0
 Members = List (ProcessKey × ℕ)
@@ -39,11 +40,7 @@ module _ (node : List ℕ) where
       → how_many (is_row g p) (repeated es) ≡ tally (is_row g p) (flat node es)
   repeated_times g p [] = refl
   repeated_times g p (e ∷ es) =
-      let test = is_row g p in
-      let ms = entries_of e.1 in
-      let times = how_many_append test (members_repeated e.0 ms) (repeated es) in
-      let counts = tally_append test (group_rows node e.0 ms) (flat node es) in
-      grind (arith, repeated_times g p es, members_times g e.0 p ms, times, counts)
+      grind (arith, repeated_times g p es, how_many_append, tally_append, flat, members_times)
 
   -- ---- what changes where all leave
 
@@ -57,7 +54,7 @@ module _ (node : List ℕ) where
       → AllByRecursion (λ k. key_cmp a k ≡ Less) (keys_of ms)
       → AllByRecursion (λ m. pid_cmp (pid_of node a) (pid_of node m.0) ≡ Less) ms
   left_above a [] l = tt
-  left_above a (m ∷ ms) l = (grind (arith, l.0, tied_itself texts_total node), left_above a ms l.1)
+  left_above a (m ∷ ms) l = grind (arith, left_above a ms l.1, tied_itself, texts_total)
 
   left_rises : (ms : Members) → IsStrictlySortedBy key_cmp (keys_of ms)
       → Rises (λ m n. pid_cmp (pid_of node m.0) (pid_of node n.0)) ms
@@ -66,9 +63,7 @@ module _ (node : List ℕ) where
   left_rises (m ∷ ms) s = (left_above m.0 ms s.0, left_rises ms s.1)
 
   pub left_ascends : (e : GroupEntry) → SortedMembers e → Ascends pid_cmp (left_of e)
-  left_ascends e s =
-      let ms = entries_of e.1 in
-      spread_ascends pid_cmp pids_total (λ m. pid_of node m.0) (λ m. m.1) ms (left_rises ms s)
+  left_ascends e s = grind (arith, spread_ascends, pids_total, left_rises)
 
   copies_own : (k : ProcessKey) (n : ℕ)
       → AllByRecursion (λ p. p.node ≡ node) (replicate n (pid_of node k))
@@ -84,7 +79,7 @@ module _ (node : List ℕ) where
       → AllByRecursion (λ q. q.node ≡ node) qs
       → AllByRecursion (λ q. is_gt (pid_cmp p q) ≡ false) qs
   not_above p [] l own = tt
-  not_above p (q ∷ qs) l own = (grind (arith, l, own.0), not_above p qs l own.1)
+  not_above p (q ∷ qs) l own = (grind arith, not_above p qs l own.1)
 
   -- behind processes of nodes below they ascend too
   pub left_behind : (e : GroupEntry) → SortedMembers e → (ps : List Pid)
@@ -105,7 +100,7 @@ module _ (node : List ℕ) where
   above_all : (g : List ℕ) (es : List GroupEntry) → Above g (keys_of es)
       → Above g (groups_in (all_gone es))
   above_all g [] l = tt
-  above_all g (e ∷ es) l = grind (arith, above_all g es l.1, l.0)
+  above_all g (e ∷ es) l = grind (arith, above_all g es l.1)
 
   gone_rises : (es : List GroupEntry) → IsStrictlySortedBy text_cmp (keys_of es)
       → Rises text_cmp (groups_in (all_gone es))
@@ -116,13 +111,12 @@ module _ (node : List ℕ) where
   gone_proper : (es : List GroupEntry) → AllByRecursion SortedMembers es
       → AllByRecursion IsProper (all_gone es)
   gone_proper [] a = tt
-  gone_proper (e ∷ es) a = grind (arith, gone_proper es a.1, left_ascends e a.0)
+  gone_proper (e ∷ es) a = grind (arith, gone_proper es a.1, left_ascends)
 
   members_left : (g h : List ℕ) (p : Pid) (ms : Members)
       → cond (same h g) (mentions p (spread (λ m. pid_of node m.0) (λ m. m.1) ms)) 0
       ≡ tally (is_row g p) (group_rows node h ms)
-  members_left g h p ms =
-      grind (arith, member_counts node h p ms, other_group node g h p ms, same_decides h g)
+  members_left g h p ms = grind (arith, member_counts, other_group, same_decides)
 
   gone_left : (g : List ℕ) (p : Pid) (es : List GroupEntry)
       → times_left g p (all_gone es) ≡ tally (is_row g p) (flat node es)
@@ -130,8 +124,7 @@ module _ (node : List ℕ) where
   gone_left g p (e ∷ es) =
       let ms = entries_of e.1 in
       let all = tally_append (is_row g p) (group_rows node e.0 ms) (flat node es) in
-      let none = none_mentioned p (left_of e) in
-      grind (arith, gone_left g p es, members_left g e.0 p ms, all, none)
+      grind (arith, none_mentioned, gone_left g p es, members_left g e.0 p ms)
 
   gone_joined : (g : List ℕ) (p : Pid) (es : List GroupEntry) → times_joined g p (all_gone es) ≡ 0
   gone_joined g p [] = refl
@@ -154,7 +147,7 @@ module _ (node : List ℕ) where
         ∙ sym (in_group_count node g p es _ is.once n (is.by_group g (key_of p))) in
         let other = λ (h : same node p.node ≡ false).
         flat_others node g p groups.entries h ∙ sym (entries_others node g p es is.own h) in
-        grind (arith, mine, other)
+        grind arith
 
     -- a list of all rows has each as often as it is counted
     pub all_repeated : (rows : List Row) → rows ≡ repeated groups.entries ++ []

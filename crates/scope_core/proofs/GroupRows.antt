@@ -1,15 +1,15 @@
 -- The rows of a node, as the index of groups has them in order.
 use Rattle.scope_core.proofs
-use proofs.Words.{all_append, AllByRecursion, ap, append_assoc, arith, Bool, cond, Counted}
-use proofs.Words.{counted_cmp, counted_in, entries_of, false, flat_map, found, group_rows, is_eq}
-use proofs.Words.{is_row, key_cmp, key_of, keys_of, Less, List, lookup, mentions, Pid, pid_of}
-use proofs.Words.{ProcessKey, refl, replicate, Rises, Row, row_cmp, row_in, same, same_decides}
-use proofs.Words.{same_pid, same_sym, SmallMap, spread, spread_counts, sym, tally, text_cmp}
-use proofs.Words.{texts_total, tied_itself, total, true, unwrap_or, ℕ, [], ◌++◌, ◌+◌, ◌∙◌, ◌∷◌, ◌≡◌}
-use Rattle.std.proofs.lemmas.List.{replicate_more}
-use Rattle.std.specs.List.Sorted.{IsStrictlySortedBy}
+use proofs.Words
+use Words.{all_append, AllByRecursion, ap, append_assoc, arith, Bool, cond, Counted, counted_cmp}
+use Words.{counted_in, entries_of, false, flat_map, found, group_rows, is_eq, is_row, key_cmp}
+use Words.{key_of, keys_of, Less, List, lookup, mentions, Pid, pid_of, ProcessKey, refl, replicate}
+use Words.{replicate_more, Rises, Row, row_cmp, row_in, same, same_decides, same_pid, same_sym}
+use Words.{SmallMap, spread, spread_counts, sym, tally, text_cmp, texts_total, tied_itself, total}
+use Words.{true, unwrap_or, [], ℕ, ◌++◌, ◌+◌, ◌∙◌, ◌∷◌, ◌≡◌}
 use proofs.HashedRows.{one_key, one_text}
 use proofs.Tallies.{tally_append}
+use Rattle.std.specs.List.Sorted.{IsStrictlySortedBy}
 
 abbrev Groups : Type 0
 Groups = List (List ℕ × SmallMap ProcessKey ℕ)
@@ -25,10 +25,7 @@ module _ (node : List ℕ) where
   above_key : (g : List ℕ) (a : ProcessKey) (ms : List (ProcessKey × ℕ))
       → AllByRecursion (λ k. key_cmp a k ≡ Less) (keys_of ms) → IsBelow g a (group_rows node g ms)
   above_key g a [] l = tt
-  above_key g a (m ∷ ms) l = (
-    grind (arith, l.0, tied_itself texts_total g, tied_itself texts_total node),
-    above_key g a ms l.1,
-  )
+  above_key g a (m ∷ ms) l = grind (arith, above_key g a ms l.1, tied_itself, texts_total)
 
   members_rise : (g : List ℕ) (ms : List (ProcessKey × ℕ)) → IsStrictlySortedBy key_cmp (keys_of ms)
       → Rises counted_cmp (group_rows node g ms)
@@ -42,7 +39,7 @@ module _ (node : List ℕ) where
   above_rows : (g h : List ℕ) (a : ProcessKey) (ms : List (ProcessKey × ℕ)) → text_cmp g h ≡ Less
       → IsBelow g a (group_rows node h ms)
   above_rows g h a [] l = tt
-  above_rows g h a (m ∷ ms) l = (grind (arith, l), above_rows g h a ms l)
+  above_rows g h a (m ∷ ms) l = (grind arith, above_rows g h a ms l)
 
   above_flat : (g : List ℕ) (a : ProcessKey) (es : Groups)
       → AllByRecursion (λ h. text_cmp g h ≡ Less) (keys_of es) → IsBelow g a (flat es)
@@ -63,9 +60,7 @@ module _ (node : List ℕ) where
       → AllByRecursion SortedMembers es → Rises counted_cmp (flat es)
   unfolding IsStrictlySortedBy
   flat_rises [] s a = tt
-  flat_rises (e ∷ es) s a =
-      rise_before e.0 (entries_of e.1) es (members_rise e.0 (entries_of e.1) a.0) s.0
-      (flat_rises es s.1 a.1)
+  flat_rises (e ∷ es) s a = grind (arith, flat_rises es s.1 a.1, rise_before, members_rise)
 
   -- ---- counts
 
@@ -83,27 +78,17 @@ module _ (node : List ℕ) where
       → AllByRecursion (λ q. key_cmp k q ≡ Less) (keys_of ms)
       → tally (is_row g p) (group_rows node h ms) ≡ 0
   above_none g h p k [] e a = refl
-  above_none g h p k (m ∷ ms) e a =
-      grind (arith, above_none g h p k ms e a.1, one_key k m.0, a.0, e)
+  above_none g h p k (m ∷ ms) e a = grind (arith, above_none g h p k ms e a.1, one_key)
 
   members_tally : (g : List ℕ) (p : Pid) (ms : List (ProcessKey × ℕ)) → p.node ≡ node
-      → IsStrictlySortedBy key_cmp (keys_of ms)
-      → tally (is_row g p) (group_rows node g ms)
+      → IsStrictlySortedBy key_cmp (keys_of ms) → tally (is_row g p) (group_rows node g ms)
       ≡ unwrap_or (lookup (λ q. is_eq (key_cmp (key_of p) q)) ms) 0
   unfolding IsStrictlySortedBy
   members_tally g p [] own s = refl
   members_tally g p (m ∷ ms) own s =
       let rest = members_tally g p ms own s.1 in
       let none = λ (h : m.0 ≡ key_of p). above_none g g p m.0 ms h s.0 in
-      grind (
-        arith,
-        rest,
-        none,
-        one_key (key_of p) m.0,
-        same_decides g g,
-        same_decides node p.node,
-        own,
-      )
+      grind (arith, one_key, same_decides)
 
   later_groups : (g : List ℕ) (p : Pid) (h : List ℕ) (es : Groups) → h ≡ g
       → AllByRecursion (λ k. text_cmp h k ≡ Less) (keys_of es) → tally (is_row g p) (flat es) ≡ 0
@@ -111,16 +96,7 @@ module _ (node : List ℕ) where
   later_groups g p h (x ∷ es) e a =
       let rest = later_groups g p h es e a.1 in
       let mine = other_group g x.0 p (entries_of x.1) in
-      grind (
-        arith,
-        rest,
-        mine,
-        tally_append (is_row g p) (group_rows node x.0 (entries_of x.1)) (flat es),
-        a.0,
-        e,
-        same_decides x.0 g,
-        tied_itself texts_total g,
-      )
+      grind (arith, tally_append, same_decides, tied_itself texts_total g)
 
   pub group_total : (test : Row → Bool) (g : List ℕ) (ms : List (ProcessKey × ℕ))
       → tally test (group_rows node g ms)
@@ -138,7 +114,7 @@ module _ (node : List ℕ) where
           → total (λ m. cond (same_pid (pid_of node m.0) p) m.1 0) xs
           ≡ tally (is_row g p) (group_rows node g xs)
       each [] = refl
-      each (m ∷ xs) = grind (arith, each xs, same_decides g g)
+      each (m ∷ xs) = grind (arith, each xs, same_decides)
 
   -- processes of a group are mentioned as often as they are found there
   pub member_mentions : (g : List ℕ) (p : Pid) (ms : List (ProcessKey × ℕ))
@@ -146,11 +122,9 @@ module _ (node : List ℕ) where
       → mentions p (spread (λ m. pid_of node m.0) (λ m. m.1) ms)
       ≡ cond (same node p.node) (unwrap_or (lookup (λ q. is_eq (key_cmp (key_of p) q)) ms) 0) 0
   member_mentions g p ms s =
-      let mine =
-      λ (h : same node p.node ≡ true).
+      let mine = λ (h : same node p.node ≡ true).
       members_tally g p ms (sym ((same_decides node p.node).0 h)) s in
-      let other = λ (h : same node p.node ≡ false). other_node g g p ms h in
-      grind (arith, member_counts g p ms, mine, other)
+      grind (arith, λ (h : same node p.node ≡ false). other_node g g p ms h, member_counts)
 
   -- a process of the node is counted in the index as it is found there
   pub flat_tally : (g : List ℕ) (p : Pid) (es : Groups) → p.node ≡ node
@@ -164,35 +138,19 @@ module _ (node : List ℕ) where
       let none = λ (h : e.0 ≡ g). later_groups g p e.0 es h s.0 in
       let mine = members_tally e.0 p (entries_of e.1) own a.0 in
       let other = other_group g e.0 p (entries_of e.1) in
-      grind (
-        arith,
-        rest,
-        none,
-        mine,
-        other,
-        one_text g e.0,
-        same_decides g e.0,
-        same_sym e.0 g,
-        tally_append (is_row g p) (group_rows node e.0 (entries_of e.1)) (flat es),
-      )
+      grind (arith, one_text, same_decides, same_sym, tally_append)
 
   pub flat_others : (g : List ℕ) (p : Pid) (es : Groups) → same node p.node ≡ false
       → tally (is_row g p) (flat es) ≡ 0
   flat_others g p [] e = refl
-  flat_others g p (x ∷ es) e =
-      grind (
-        arith,
-        flat_others g p es e,
-        other_node g x.0 p (entries_of x.1) e,
-        tally_append (is_row g p) (group_rows node x.0 (entries_of x.1)) (flat es),
-      )
+  flat_others g p (x ∷ es) e = grind (arith, flat_others g p es e, other_node, tally_append)
 
 -- the map has none of another node's processes
 pub entries_others : (node g : List ℕ) (p : Pid) (es : List (Row × ℕ))
     → AllByRecursion (λ e. e.0.pid.node ≡ node) es → same node p.node ≡ false
     → tally (is_row g p) (counted_in es) ≡ 0
 entries_others node g p [] a e = refl
-entries_others node g p (x ∷ es) a e = grind (arith, entries_others node g p es a.1 e, a.0)
+entries_others node g p (x ∷ es) a e = grind (arith, entries_others node g p es a.1 e)
 
 -- one row more of a process
 pub behind_next : (rows rest others : List Row) (n : ℕ) (x row : Row) → rows ≡ replicate n x ++ rest

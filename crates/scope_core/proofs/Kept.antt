@@ -1,28 +1,24 @@
 -- What is kept of groups that stay as they are.
 use Rattle.scope_core.proofs
-use proofs.Words.{ap, AreListings, arith, Bool, cond, Counted, false, Forgets, get_or, GroupChange}
-use proofs.Words.{has_members, is_named, is_row, IsDifference, IsGroupListing, IsPidListing, Joins}
-use proofs.Words.{length, List, list_any, lookup, of_node, Pid, refl, same, same_decides, same_pid}
-use proofs.Words.{same_pid_decides, Some, sym, take, take_more, tally, true, without_node, ℕ, []}
-use proofs.Words.{◌++◌, ◌+◌, ◌<◌, ◌||◌, ◌∙◌, ◌∷◌, ◌≡◌}
+use proofs.Words
+use Words.{ap, AreListings, arith, Bool, cond, Counted, false, Forgets, get_or, GroupChange}
+use Words.{has_members, is_named, is_row, IsDifference, IsGroupListing, IsPidListing, Joins}
+use Words.{kept_of, KeptLists, length, List, list_any, lookup, of_node, Pid, refl, same}
+use Words.{same_decides, same_pid, same_pid_decides, Some, sym, take, take_more, tally, true}
+use Words.{without_node, [], ℕ, ◌++◌, ◌+◌, ◌<◌, ◌||◌, ◌∙◌, ◌∷◌, ◌≡◌}
 use proofs.Rising.{gone_counts, kept_counts}
 use proofs.Unnamed.{row_there, unnamed_same}
-use Rattle.scope_core.specs.Kept.{kept_of, KeptLists}
 
 -- a listing is one of each count that is the same
 still_listing : (before after : Pid → ℕ) (ps : List Pid) → ((p : Pid) → before p ≡ after p)
     → IsPidListing before ps → IsPidListing after ps
-still_listing before after ps is l = record { ascends = l.ascends; counts = λ p. l.counts p ∙ is p }
+still_listing before after ps is l = grind arith
 
 -- so is one of the groups
 pub still_groups : (before after : List ℕ → Pid → ℕ) (gs : List (List ℕ))
     → ((g : List ℕ) (p : Pid) → before g p ≡ after g p) → IsGroupListing before gs
     → IsGroupListing after gs
-still_groups before after gs is l = record {
-  rises = l.rises;
-  found = λ g h. let there = l.found g h in (there.0, grind (arith, there.1, is g there.0));
-  only = λ g p h. l.only g p (grind (arith, h, is g p));
-}
+still_groups before after gs is l = grind arith
 
 module _ (was now : KeptLists) (before after : List ℕ → Pid → ℕ)
     (listed : AreListings before was) where
@@ -35,10 +31,9 @@ module _ (was now : KeptLists) (before after : List ℕ → Pid → ℕ)
       pids g ps e = by (gone g) refl
         where
           by : (b : Bool) → gone g ≡ b → IsPidListing (after g) ps
-          by true h = grind (arith, forgot.pids g, e, h)
-          by false h =
-              still_listing (before g) (after g) ps (stays g h)
-              (listed.pids g ps (grind (arith, forgot.pids g, e, h)))
+          by true h = grind (arith, forgot.pids g)
+          by false h = still_listing (before g) (after g) ps (stays g h)
+              (listed.pids g ps (grind (arith, forgot.pids g)))
 
       groups : (gs : List (List ℕ)) → now.groups ≡ Some gs → IsGroupListing after gs
       groups gs e = let kept = forgot.groups gs e in
@@ -56,7 +51,7 @@ module _ (count : List ℕ → Pid → ℕ) (was now : KeptLists) (listed : AreL
       → ((g : List ℕ) → kept_of now g ≡ cond (same group g) (Some pids) (kept_of was g))
       → now.groups ≡ was.groups → AreListings count now
   kept_listed group pids listing keeps groups = record {
-    pids = λ g ps e. grind (arith, keeps g, e, listed.pids g ps, listing, same_decides group g);
+    pids = λ g ps e. grind (arith, keeps g, listed.pids g ps, same_decides);
     groups = λ gs e. listed.groups gs (sym groups ∙ e);
   }
 
@@ -65,7 +60,7 @@ module _ (count : List ℕ → Pid → ℕ) (was now : KeptLists) (listed : AreL
       → now.groups ≡ Some groups → AreListings count now
   kept_groups groups listing pids keeps = record {
     pids = λ g ps e. listed.pids g ps (sym (ap (lookup (same g)) pids) ∙ e);
-    groups = λ gs e. grind (arith, keeps, e, listing);
+    groups = λ gs e. grind arith;
   }
 
 pub still_listings : (before after : List ℕ → Pid → ℕ) (kept : KeptLists)
@@ -121,15 +116,13 @@ module _ (c : Counted) (old new : List Counted) (joins : Joins (c ∷ []) new ol
   -- the listings that are kept are right still, without that of its group
   pub popped_listed : (was now : KeptLists) → AreListings (λ g p. tally (is_row g p) old) was
       → Forgets (λ g. same c.row.group g) was now → AreListings (λ g p. tally (is_row g p) new) now
-  popped_listed was now listed forgot =
-      still_listed was now (λ g p. tally (is_row g p) old) (λ g p. tally (is_row g p) new) listed
-      (λ g. same c.row.group g) forgot (λ g e p. grind (arith, joins (is_row g p), e))
+  popped_listed was now listed forgot = grind (arith, still_listed)
 
 -- where no row of a process is counted, none of its groups has it
 pub none_of_process : (q : Pid) (g : List ℕ) (p : Pid) (rows : List Counted)
     → tally (λ r. same_pid r.pid q) rows ≡ 0 → same_pid p q ≡ true → tally (is_row g p) rows ≡ 0
 none_of_process q g p [] e s = refl
-none_of_process q g p (c ∷ cs) e s = grind (arith, none_of_process q g p cs, same_pid_decides p q)
+none_of_process q g p (c ∷ cs) e s = grind (arith, none_of_process q g p cs, same_pid_decides)
 
 -- ---- a node that goes
 
@@ -139,5 +132,4 @@ pub dropped_same : (n : List ℕ) (rows list : List Counted) → list ≡ of_nod
 dropped_same n rows list is g e p =
     let gone = gone_counts (λ r. same r.node n) g p rows in
     let mine = kept_counts (λ r. same r.node n) g p rows in
-    let there = ap (tally (is_row g p)) is in
-    grind (arith, gone, mine, there, row_there g p list, e, same_decides p.node n)
+    grind (arith, ap, row_there, same_decides)

@@ -1,11 +1,11 @@
 -- Processes in order: those that are the same stand in a run.
 use Rattle.scope_core.proofs
-use proofs.Words.{AllByRecursion, AllWithin, ap, append_assoc, arith, Ascends, cases_lt, drop}
-use proofs.Words.{exact_pids, false, how_many_append, how_many_is, how_many_replicate, inl, inr}
-use proofs.Words.{is_gt, IsPartitionedBy, length, length-filter, length-take-le, List, mentions}
-use proofs.Words.{min, Pid, pid_cmp, pids_total, refl, replicate, same_pid, same_pid_decides, subst}
-use proofs.Words.{suc, sym, take, take-append-drop, true, zero, ℕ, [], ◌++◌, ◌+◌, ◌∙◌, ◌∷◌, ◌≡◌}
-use proofs.Words.{◌≤◌}
+use proofs.Words
+use Words.{AllByRecursion, AllWithin, ap, append_assoc, arith, Ascends, cases_lt, drop, exact_pids}
+use Words.{false, how_many_append, how_many_is, how_many_replicate, inl, inr, is_gt}
+use Words.{IsPartitionedBy, length, length-filter, length-take-le, List, mentions, min, Pid}
+use Words.{pid_cmp, pids_total, refl, replicate, same_pid, same_pid_decides, subst, suc, sym, take}
+use Words.{take-append-drop, true, zero, [], ℕ, ◌++◌, ◌+◌, ◌∙◌, ◌∷◌, ◌≡◌, ◌≤◌}
 use proofs.Runs.{all_at, filter_takes}
 
 -- where neither comes after the other, they are the same
@@ -18,11 +18,11 @@ pub run_partitions : (q : Pid) (ps : List Pid) → Ascends pid_cmp (q ∷ ps)
 run_partitions q [] a i j d l h e = grind arith
 run_partitions q (p ∷ ps) a zero zero d l h e = e
 run_partitions q (p ∷ ps) a zero (suc j) d l h e =
-    let up = all_at (λ x. is_gt (pid_cmp p x) ≡ false) ps j d a.1.0 (omega (arith, h)) in
-    grind (arith, up, e, a.0.0, same_pid_decides, neither_above p q)
+    let up = all_at (λ x. is_gt (pid_cmp p x) ≡ false) ps j d a.1.0 (omega arith) in
+    grind (arith, same_pid_decides, neither_above p q)
 run_partitions q (p ∷ ps) a (suc i) zero d l h e = grind arith
 run_partitions q (p ∷ ps) a (suc i) (suc j) d l h e =
-    run_partitions q ps (a.0.1, a.1.1) i j d (omega (arith, l)) (omega (arith, h)) e
+    run_partitions q ps (a.0.1, a.1.1) i j d (omega arith) (omega arith) e
 
 -- so the front is a run of the same
 pub front_is : (q : Pid) (n : ℕ) (ps : List Pid) → n ≤ length ps
@@ -30,9 +30,8 @@ pub front_is : (q : Pid) (n : ℕ) (ps : List Pid) → n ≤ length ps
 front_is q zero ps l a = refl
 front_is q (suc n) [] l a = grind arith
 front_is q (suc n) (p ∷ ps) l a =
-    let rest =
-    front_is q n ps (omega (arith, l)) (λ k d m h. a (suc k) d (omega arith) (omega (arith, h))) in
-    grind (arith, same_pid_decides p q, a 0 p, rest)
+    let rest = front_is q n ps (omega arith) (λ k d m h. a (suc k) d (omega arith) (omega arith)) in
+    grind (arith, same_pid_decides, a 0 p)
 
 -- and there are no more of them behind it
 pub front_counts : (q : Pid) (n : ℕ) (ps : List Pid) → n ≤ length ps
@@ -62,9 +61,8 @@ ascends_less : (xs : List Pid) (q : Pid) (m n : ℕ) (zs : List Pid) → m ≤ n
 ascends_less xs q zero zero zs l a = a
 ascends_less xs q (suc m) zero zs l a = grind arith
 ascends_less xs q m (suc n) zs l a = elim (cases_lt m (suc n)) [
-  | inl b ↦ ascends_less xs q m n zs (omega (arith, b))
-      (ascends_without xs q (replicate n q ++ zs) a)
-  | inr b ↦ let e : suc n ≡ m = omega (arith, b, l) in
+  | inl b ↦ ascends_less xs q m n zs (omega arith) (ascends_without xs q (replicate n q ++ zs) a)
+  | inr b ↦ let e : suc n ≡ m = omega arith in
       subst (λ k. Ascends pid_cmp (xs ++ (replicate k q ++ zs))) e a
 ]
 
@@ -81,7 +79,7 @@ module _ (q : Pid) (n : ℕ) (ps : List Pid) (run : take n ps ≡ replicate n q)
       → Ascends pid_cmp ((gone ++ replicate m q) ++ drop n ps)
   ascends_on gone m l a =
       subst (Ascends pid_cmp) (sym (append_assoc gone (replicate m q) (drop n ps)))
-      (ascends_less gone q m (suc n) (drop n ps) (omega (arith, l))
+      (ascends_less gone q m (suc n) (drop n ps) (omega arith)
       (subst (λ xs. Ascends pid_cmp (gone ++ q ∷ xs)) front_first a))
 
   -- as many are put there as count has of them
@@ -90,13 +88,4 @@ module _ (q : Pid) (n : ℕ) (ps : List Pid) (run : take n ps ≡ replicate n q)
       → mentions p (gone ++ replicate m q) + min (mentions p (drop n ps)) (count p)
       ≡ mentions p gone + min (mentions p (q ∷ ps)) (count p)
   counts_on all count gone m is p =
-      let test = λ (x : Pid). same_pid x p in
-      let run = ap (mentions p) front_first ∙ how_many_append test (replicate n q) (drop n ps) in
-      grind (
-        arith,
-        run,
-        how_many_append test gone (replicate m q),
-        how_many_replicate test n q,
-        how_many_replicate test m q,
-        same_pid_decides q p,
-      )
+      grind (arith, front_first, how_many_append, how_many_replicate, same_pid_decides)

@@ -1,9 +1,10 @@
 -- Rows that come, counted, and what they are more than others.
 use Rattle.scope_core.proofs
-use proofs.Words.{AllByRecursion, append_assoc, arith, Bool, cond, Counted, counted_cmp, drop}
-use proofs.Words.{exact_rows, is_row, Less, List, picked, refl, Rises, Row, row_cmp, rows_total}
-use proofs.Words.{same_row, same_row_decides, slice_get, Some, suc, tally, tied_itself, zero, ℕ, []}
-use proofs.Words.{◌++◌, ◌<◌, ◌∙◌, ◌∷◌, ◌≡◌, ◌≢◌, ◌≤◌}
+use proofs.Words
+use Words.{AllByRecursion, append_assoc, arith, Bool, cond, Counted, counted_cmp, drop, exact_rows}
+use Words.{is_row, Less, List, picked, refl, Rises, Row, row_cmp, rows_total, same_row}
+use Words.{same_row_decides, slice_get, Some, suc, tally, tied_itself, zero, [], ℕ, ◌++◌, ◌<◌, ◌∙◌}
+use Words.{◌∷◌, ◌≡◌, ◌≢◌, ◌≤◌}
 use proofs.Rising.{all_map, once, tally_absent}
 
 -- a row below all of these isn't among them
@@ -20,26 +21,22 @@ pub first_counted : (b : Bool) (row : Row) (rows : List Counted) (c : Counted)
     → AllByRecursion (λ d. row_cmp row d.row ≡ Less) (drop 1 rows)
     → cond b c.count 0 ≡ tally (is_row row.group row.pid) rows
 first_counted b row [] c e same a = grind arith
-first_counted b row (x ∷ xs) c e same a = grind (arith, e, same, below_none row xs a)
+first_counted b row (x ∷ xs) c e same a = grind (arith, below_none)
 
 -- what is above a row that isn't lower than another is above that one
 above_next : (row : Row) (c d : Counted) → row_cmp c.row row ≢ Less → counted_cmp c d ≡ Less
     → row_cmp row d.row ≡ Less
-above_next row c d n l =
-    grind (
-      arith,
-      rows_total.trans row c.row d.row,
-      rows_total.antisymm c.row row,
-      exact_rows c.row row,
-      n,
-      l,
-    )
+above_next row c d n l = grind (
+  arith,
+  rows_total.trans row c.row d.row,
+  rows_total.antisymm c.row row,
+  exact_rows c.row row,
+)
 
 pub above_all : (row : Row) (c : Counted) (cs : List Counted) → row_cmp c.row row ≢ Less
     → AllByRecursion (λ d. counted_cmp c d ≡ Less) cs
     → AllByRecursion (λ d. row_cmp row d.row ≡ Less) cs
-above_all row c cs n a =
-    all_map _ _ (λ d. above_next row c d n) cs a
+above_all row c cs n a = all_map _ _ (λ d. above_next row c d n) cs a
 
 -- ---- a row on, in the loop over rows of which some are more
 
@@ -58,7 +55,7 @@ module _ (row : Row) (rest left others : List Counted)
     → tally (is_row r.group r.pid) left ≡ tally (is_row r.group r.pid) rest) where
   low_one : (d : Counted) → row_cmp row d.row ≡ Less
       → tally (is_row d.row.group d.row.pid) left ≡ tally (is_row d.row.group d.row.pid) rest
-  low_one d l = low d.row (grind (arith, rows_total.antisymm d.row row, l))
+  low_one d l = grind (arith, rows_total)
 
   -- the rows above it are counted among those left as before
   pub low_all : (ds : List Counted) → AllByRecursion (λ d. row_cmp row d.row ≡ Less) ds
@@ -68,20 +65,14 @@ module _ (row : Row) (rest left others : List Counted)
 
   -- and so is the row itself
   pub low_itself : tally (is_row row.group row.pid) left ≡ tally (is_row row.group row.pid) rest
-  low_itself = low row (grind (arith, tied_itself rows_total row))
+  low_itself = grind (arith, tied_itself, rows_total)
 
 module _ (times : Counted → ℕ) (more : List Counted) (c : Counted) (cs : List Counted) where
   pub picked_more : (n : ℕ) → n ≡ times c → 0 < n
       → (more ++ record { row = c.row; count = n } ∷ []) ++ picked times cs
       ≡ more ++ picked times (c ∷ cs)
-  picked_more n e l =
-      grind (
-        arith,
-        e,
-        l,
-        append_assoc more (record { row = c.row; count = n } ∷ []) (picked times cs),
-      )
+  picked_more n e l = grind (arith, append_assoc)
 
   pub picked_none : (n : ℕ) → n ≡ times c → n ≤ 0
       → more ++ picked times cs ≡ more ++ picked times (c ∷ cs)
-  picked_none n e l = grind (arith, e, l)
+  picked_none n e l = grind arith

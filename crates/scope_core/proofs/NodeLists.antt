@@ -1,16 +1,15 @@
 -- The list of one node among those of all.
 use Rattle.scope_core.proofs
-use proofs.Words.{All, all_rows, AllByRecursion, ap, append-nil, are_all_in, AreCounted, arith}
-use proofs.Words.{Bool, Counted, false, filter, filter-append, insert_entry, is_of_node, is_row}
-use proofs.Words.{IsDistinct-head, IsDistinct-tail, IsNodeList, Joins, keys_of, length, List}
-use proofs.Words.{list_all, lookup, max_rows, nat_le, None, not, occurrences, of_node, Pid}
-use proofs.Words.{recursion_from_All, refl, remove_entry, Row, same, same_decides, same_pid_decides}
-use proofs.Words.{same_row, same_sym, set_value, Some, subst, sym, tally, total, true, without_node}
-use proofs.Words.{ℕ, [], ◌&&◌, ◌++◌, ◌+◌, ◌==◌, ◌∙◌, ◌∷◌, ◌≡◌, ◌≤◌}
+use proofs.Words
+use Words.{All, all_rows, AllByRecursion, ap, append-nil, are_all_in, AreCounted, arith, Bool}
+use Words.{Counted, false, filter, filter-append, insert_entry, is_of_node, is_row, IsDistinct}
+use Words.{IsDistinct-head, IsDistinct-tail, IsNodeList, Joins, keys_of, length, List, list_all}
+use Words.{lookup, max_rows, nat_le, None, none_passes_from_lookup, not, occurrences, of_node, Pid}
+use Words.{recursion_from_All, refl, remove_entry, Row, same, same_decides, same_pid_decides}
+use Words.{same_row, same_sym, set_value, Some, subst, sym, tally, total, true, without_node, [], ℕ}
+use Words.{◌&&◌, ◌++◌, ◌+◌, ◌==◌, ◌∙◌, ◌∷◌, ◌≡◌, ◌≤◌}
 use proofs.Rising.{all_unmapped, own_from_tally, tally_all}
 use proofs.Tallies.{tally_append}
-use Rattle.std.specs.List.{IsDistinct}
-use Rattle.std.proofs.lemmas.Map.{none_passes_from_lookup}
 
 abbrev pub Lists : Type 0
 Lists = List (List ℕ × List Counted)
@@ -29,8 +28,7 @@ Others node es = AllByRecursion (λ e. same node e.0 ≡ false) es
 
 rest_others : (node : List ℕ) (e : List ℕ × List Counted) (es : Lists)
     → IsDistinct same (keys_of (e ∷ es)) → same node e.0 ≡ true → Others node es
-rest_others node e es d h =
-    all_unmapped (λ k. same node k ≡ false) (λ x. x.0) es
+rest_others node e es d h = all_unmapped (λ k. same node k ≡ false) (λ x. x.0) es
     (subst (λ n. AllByRecursion (λ k. same n k ≡ false) (keys_of es))
     (sym ((same_decides node e.0).0 h)) (IsDistinct-head _ _ _ d))
 
@@ -43,14 +41,11 @@ module _ (node : List ℕ) where
         → AllByRecursion (λ c. c.row.pid.node ≡ other) rows → same node other ≡ false
         → filter keep rows ≡ rows
     kept_list other [] a e = refl
-    kept_list other (c ∷ cs) a e =
-        let stays = others c (same_sym c.row.pid.node node ∙ ap (same node) a.0 ∙ e) in
-        grind (arith, kept_list other cs a.1 e, stays)
+    kept_list other (c ∷ cs) a e = grind (arith, kept_list other cs a.1 e, same_sym)
 
     kept_all : (es : Lists) → Each es → Others node es → filter keep (all_rows es) ≡ all_rows es
     kept_all [] a o = refl
-    kept_all (e ∷ es) a o =
-        filter-append keep e.1 (all_rows es)
+    kept_all (e ∷ es) a o = filter-append keep e.1 (all_rows es)
         ∙ (λ j. kept_list e.0 e.1 a.0.own o.0 j ++ kept_all es a.1 o.1 j)
 
     pub none_filtered : (es : Lists) → AreLists es → lookup (same node) es ≡ None
@@ -66,14 +61,11 @@ module _ (node : List ℕ) where
         → AllByRecursion (λ c. c.row.pid.node ≡ other) rows → same node other ≡ false
         → filter test rows ≡ []
     none_list other [] a e = refl
-    none_list other (c ∷ cs) a e =
-        let goes = others c (same_sym c.row.pid.node node ∙ ap (same node) a.0 ∙ e) in
-        grind (arith, none_list other cs a.1 e, goes)
+    none_list other (c ∷ cs) a e = grind (arith, none_list other cs a.1 e, same_sym)
 
     none_all : (es : Lists) → Each es → Others node es → filter test (all_rows es) ≡ []
     none_all [] a o = refl
-    none_all (e ∷ es) a o =
-        filter-append test e.1 (all_rows es)
+    none_all (e ∷ es) a o = filter-append test e.1 (all_rows es)
         ∙ (λ j. none_list e.0 e.1 a.0.own o.0 j ++ none_all es a.1 o.1 j)
 
   of_others : (c : Counted) → same c.row.pid.node node ≡ false → is_of_node node c.row ≡ false
@@ -82,7 +74,7 @@ module _ (node : List ℕ) where
   own_rows : (rows : List Counted) → AllByRecursion (λ c. c.row.pid.node ≡ node) rows
       → of_node node rows ≡ rows
   own_rows [] a = refl
-  own_rows (c ∷ cs) a = grind (arith, own_rows cs a.1, same_decides c.row.pid.node node)
+  own_rows (c ∷ cs) a = grind (arith, own_rows cs a.1, same_decides)
 
   -- the rows of a node's list are all of the node
   pub own_total : (rows : List Counted) → IsNodeList node rows
@@ -92,12 +84,11 @@ module _ (node : List ℕ) where
       each : (rows : List Counted) → AllByRecursion (λ c. c.row.pid.node ≡ node) rows
           → total (λ c. c.count) rows ≡ tally (is_of_node node) rows
       each [] a = refl
-      each (c ∷ cs) a = grind (arith, each cs a.1, same_decides c.row.pid.node node)
+      each (c ∷ cs) a = grind (arith, each cs a.1, same_decides)
 
   pub no_list : (es : Lists) → AreLists es → lookup (same node) es ≡ None
       → of_node node (all_rows es) ≡ []
-  no_list es are none =
-      none_all (λ c. is_of_node node c.row) of_others es are.each
+  no_list es are none = none_all (λ c. is_of_node node c.row) of_others es are.each
       (none_passes_from_lookup (same node) es none)
 
   own_all : (es : Lists) (v : List Counted) → Each es → IsDistinct same (keys_of es)
@@ -105,25 +96,13 @@ module _ (node : List ℕ) where
   own_all [] v a d found = grind arith
   own_all (e ∷ es) v a d found =
       let rest = own_all es v a.1 (IsDistinct-tail _ _ _ d) in
-      let none =
-      λ (h : same node e.0 ≡ true).
+      let none = λ (h : same node e.0 ≡ true).
       none_all (λ c. is_of_node node c.row) of_others es a.1 (rest_others node e es d h) in
-      let mine =
-      λ (h : same node e.0 ≡ true).
-      own_rows e.1 (subst (λ n. AllByRecursion (λ c. c.row.pid.node ≡ n) e.1)
-      (sym ((same_decides node e.0).0 h)) a.0.own) in
-      let other =
-      λ (h : same node e.0 ≡ false).
+      let mine = λ (h : same node e.0 ≡ true).
+      own_rows e.1 (rw ((same_decides node e.0).0 h) a.0.own) in
+      let other = λ (h : same node e.0 ≡ false).
       none_list (λ c. is_of_node node c.row) of_others e.0 e.1 a.0.own h in
-      grind (
-        arith,
-        filter-append (λ c. is_of_node node c.row) e.1 (all_rows es),
-        rest,
-        none,
-        mine,
-        other,
-        append-nil e.1,
-      )
+      grind (arith, filter-append, append-nil)
 
   -- the rows of the node are those of its list
   pub own_list : (es : Lists) (v : List Counted) → AreLists es → lookup (same node) es ≡ Some v
@@ -133,11 +112,7 @@ module _ (node : List ℕ) where
   each_found : (es : Lists) (v : List Counted) → Each es → lookup (same node) es ≡ Some v
       → IsNodeList node v
   each_found [] v a found = grind arith
-  each_found (e ∷ es) v a found =
-      let mine =
-      λ (h : same node e.0 ≡ true).
-      subst (λ n. IsNodeList n e.1) (sym ((same_decides node e.0).0 h)) a.0 in
-      grind (arith, each_found es v a.1, mine)
+  each_found (e ∷ es) v a found = grind (arith, each_found es v a.1, same_decides)
 
   pub list_found : (es : Lists) (v : List Counted) → AreLists es → lookup (same node) es ≡ Some v
       → IsNodeList node v
@@ -145,37 +120,20 @@ module _ (node : List ℕ) where
 
   -- and all other rows stay
   pub set_tally : (es : Lists) (v w : List Counted) → lookup (same node) es ≡ Some v
-      → (test : Row → Bool)
-      → tally test (all_rows (set_value (same node) es w)) + tally test v
+      → (test : Row → Bool) → tally test (all_rows (set_value (same node) es w)) + tally test v
       ≡ tally test (all_rows es) + tally test w
   set_tally [] v w found test = grind arith
   set_tally (e ∷ es) v w found test =
       let rest = λ (f : lookup (same node) es ≡ Some v). set_tally es v w f test in
-      grind (
-        arith,
-        tally_append test e.1 (all_rows es),
-        tally_append test w (all_rows es),
-        tally_append test e.1 (all_rows (set_value (same node) es w)),
-        rest,
-      )
+      grind (arith, tally_append)
 
   -- ---- a list in the place of the node's, or a first one
 
   pub put_tally : (es : Lists) (w : List Counted) (test : Row → Bool)
       → tally test (all_rows (insert_entry same es node w))
       ≡ tally test (all_rows (remove_entry (same node) es)) + tally test w
-  put_tally [] w test = grind (arith, tally_append test w [])
-  put_tally (e ∷ es) w test =
-      let first = tally_append test e.1 in
-      grind (
-        arith,
-        first (all_rows es),
-        tally_append test w (all_rows es),
-        first
-            (all_rows (insert_entry same es node w)),
-        first (all_rows (remove_entry (same node) es)),
-        put_tally es w test,
-      )
+  put_tally [] w test = grind (arith, tally_append)
+  put_tally (e ∷ es) w test = grind (arith, put_tally es w test, tally_append)
 
   -- ---- no list any more
 
@@ -188,17 +146,15 @@ module _ (node : List ℕ) where
       let rest = removed_all es a.1 (IsDistinct-tail _ _ _ d) in
       let stay =
       λ (h : same node e.0 ≡ true). kept_all keep others es a.1 (rest_others node e es d h) in
-      let mine =
-      λ (h : same node e.0 ≡ true).
-      gone_list e.1 (subst (λ n. AllByRecursion (λ c. c.row.pid.node ≡ n) e.1)
-      (sym ((same_decides node e.0).0 h)) a.0.own) in
+      let mine = λ (h : same node e.0 ≡ true).
+      gone_list e.1 (rw ((same_decides node e.0).0 h) a.0.own) in
       let other = λ (h : same node e.0 ≡ false). kept_list keep others e.0 e.1 a.0.own h in
-      grind (arith, filter-append keep e.1 (all_rows es), rest, stay, mine, other)
+      grind (arith, filter-append)
     where
       gone_list : (rows : List Counted) → AllByRecursion (λ c. c.row.pid.node ≡ node) rows
           → without_node node rows ≡ []
       gone_list [] a = refl
-      gone_list (c ∷ cs) a = grind (arith, gone_list cs a.1, same_decides c.row.pid.node node)
+      gone_list (c ∷ cs) a = grind (arith, gone_list cs a.1, same_decides)
 
   pub removed_rows : (es : Lists) → AreLists es
       → all_rows (remove_entry (same node) es) ≡ without_node node (all_rows es)
@@ -209,49 +165,34 @@ module _ (node : List ℕ) where
   own_tally : (rows : List Counted) → AllByRecursion (λ c. c.row.pid.node ≡ node) rows
       → tally (λ r. not (is_of_node node r)) rows ≡ 0
   own_tally [] a = refl
-  own_tally (c ∷ cs) a = grind (arith, own_tally cs a.1, same_decides c.row.pid.node node)
+  own_tally (c ∷ cs) a = grind (arith, own_tally cs a.1, same_decides)
 
   -- where rows come or go, all are the node's still
   pub joined_list : (old more new : List Counted) → IsNodeList node old → IsNodeList node more
       → Joins more old new → AreCounted new
       → ((n : List ℕ) → tally (is_of_node n) new ≤ max_rows) → IsNodeList node new
-  joined_list old more new is and joins counted few = record {
-    counted = counted;
-    few = few;
-    own =
-        own_from_tally node new counted
-        (joins (λ r. not (is_of_node node r))
-        ∙ (λ j. own_tally old is.own j + own_tally more and.own j));
-  }
+  joined_list old more new is and joins counted few = grind (arith, own_from_tally, own_tally)
 
   pub lessened_list : (old new : List Counted) → IsNodeList node old
       → ((test : Row → Bool) → tally test new ≤ tally test old) → AreCounted new
       → IsNodeList node new
-  lessened_list old new is less counted = record {
-    counted = counted;
-    few = λ n. let a = less (is_of_node n) in let b = is.few n in omega (arith, a, b);
-    own = let e : tally (λ r. not (is_of_node node r)) new ≡ 0 =
-        omega (arith, less (λ r. not (is_of_node node r)), own_tally old is.own) in
-        own_from_tally node new counted e;
-  }
+  lessened_list old new is less counted = grind (arith, own_tally, own_from_tally)
 
   pub set_same : (es : Lists) (v w : List Counted) → lookup (same node) es ≡ Some v → w ≡ v
       → all_rows (set_value (same node) es w) ≡ all_rows es
   set_same [] v w found is = refl
   set_same (e ∷ es) v w found is =
-      let rest = λ (f : lookup (same node) es ≡ Some v). set_same es v w f is in
-      grind (arith, rest)
+      grind (arith, λ (f : lookup (same node) es ≡ Some v). set_same es v w f is)
 
   -- what is of the node alone is counted in its list
   pub node_tally : (test : Row → Bool) → ((r : Row) → is_of_node node r ≡ false → test r ≡ false)
       → (rows : List Counted) → tally test rows ≡ tally test (of_node node rows)
-  node_tally test h rows = sym (tally_all (λ c. is_of_node node c.row) test (λ c e. h c.row e) rows)
+  node_tally test h rows = grind (arith, tally_all)
 
   -- as many rows as the node has, its list has
   pub list_total : (es : Lists) (v : List Counted) → AreLists es → lookup (same node) es ≡ Some v
       → total (λ c. c.count) v ≡ tally (is_of_node node) (all_rows es)
-  list_total es v are found =
-      own_total v (list_found es v are found)
+  list_total es v are found = own_total v (list_found es v are found)
       ∙ sym (node_tally (is_of_node node) (λ r h. h) (all_rows es)
       ∙ ap (tally (is_of_node node)) (own_list es v are found))
 
@@ -260,8 +201,7 @@ module _ (node : List ℕ) where
       → (more : List Counted) → AreLists es → IsNodeList node more
       → tally (is_of_node node) (all_rows es) + tally (is_of_node node) more ≤ max_rows
       → total (λ c. c.count) v + total (λ c. c.count) more ≤ max_rows
-  list_fits es v found more are is few =
-      omega (arith, list_total es v are found, own_total more is, few)
+  list_fits es v found more are is few = omega (arith, list_total es v are found, own_total)
 
   -- a process of the node is counted in its list alone
   pub row_tally : (g : List ℕ) (p : Pid) → p.node ≡ node → (rows : List Counted)
@@ -278,8 +218,7 @@ module _ (node : List ℕ) where
   pub lone_row : (h : List ℕ) (p : Pid) → same p.node node ≡ false → (rows : List Counted)
       → AllByRecursion (λ c. c.row.pid.node ≡ node) rows → tally (is_row h p) rows ≡ 0
   lone_row h p e [] a = refl
-  lone_row h p e (c ∷ cs) a =
-      grind (arith, lone_row h p e cs a.1, same_pid_decides c.row.pid p, same_decides p.node node)
+  lone_row h p e (c ∷ cs) a = grind (arith, lone_row h p e cs a.1, same_pid_decides, same_decides)
 
   all_in_each : (gone : List Row) (rows some : List Counted) → some ≡ of_node node rows
       → (rs : List Row) → AllByRecursion (λ r. r.pid.node ≡ node) rs
@@ -294,9 +233,7 @@ module _ (node : List ℕ) where
   pub all_in_list : (gone : List Row) → All (λ r. r.pid.node ≡ node) gone
       → (rows some : List Counted) → of_node node rows ≡ some
       → are_all_in rows gone ≡ are_all_in some gone
-  all_in_list gone own rows some is =
-      all_in_each gone rows some (sym is) gone
-      (recursion_from_All _ _ own)
+  all_in_list gone own rows some is = grind (arith, all_in_each, recursion_from_All)
 
 -- among no rows is none
 pub none_in : (gone : List Row) → are_all_in [] gone ≡ (length gone == 0)

@@ -1,16 +1,13 @@
 -- The tables of all nodes, and what a call does to one of them.
 use Rattle.scope_core.proofs
-use proofs.Words.{all_rows, AllByRecursion, ap, arith, Bool, cond, Counted, false, has_members}
-use proofs.Words.{IfSome, insert_entry, is_of_node, is_row, is_there, IsNodeList, Joins}
-use proofs.Words.{keys-set_value, keys_of, length, length-append, List, lookup, max_rows, nat_lt}
-use proofs.Words.{NodeTable, None, not, of_node, Option, Pid, refl, remove_entry, Row, rows_by_node}
-use proofs.Words.{same, same_decides, same_pid, set_value, Some, subst, sym, tally, total, true}
-use proofs.Words.{without_node, ℕ, [], ◌+◌, ◌∙◌, ◌∷◌, ◌≡◌, ◌≤◌}
+use proofs.Words
+use Words.{all_rows, AllByRecursion, ap, AreNodeLists, arith, Bool, Bor, cond, Counted, false}
+use Words.{has_members, IfNone, IfSome, insert_entry, is_of_node, is_row, is_there, IsDistinct}
+use Words.{IsNodeList, Joins, keys-set_value, keys_of, length, length-append, List, lookup}
+use Words.{max_rows, NodeTable, None, not, of_node, Option, option_copied, option_map, Pid, refl}
+use Words.{remove_entry, Row, rows_by_node, same, same_decides, same_pid, set_value, Some, subst}
+use Words.{sym, tally, total, true, without_node, [], ℕ, ◌+◌, ◌∙◌, ◌∷◌, ◌≡◌, ◌≤◌}
 use proofs.Rising.{kept_counts}
-use Rattle.scope_core.specs.NodeLists.{AreNodeLists}
-use Rattle.std.specs.Option.{IfNone, option_copied, option_map}
-use Rattle.std.proofs.Common.{Bor}
-use Rattle.std.specs.List.{IsDistinct}
 use proofs.NodeLists.{AreLists, Each, list_fits, list_found, Lists, no_list, node_tally}
 use proofs.NodeLists.{none_filtered, own_list, put_tally, removed_rows, row_tally, set_same}
 use proofs.NodeLists.{set_tally}
@@ -43,19 +40,15 @@ inserted_by_node n t (e ∷ es) = grind (arith, inserted_by_node n t es)
 
 keys_by_node : (es : List (List ℕ × NodeTable)) → keys_of (rows_by_node es) ≡ keys_of es
 keys_by_node [] = refl
-keys_by_node (e ∷ es) = ap (λ ks. e.0 ∷ ks) (keys_by_node es)
+keys_by_node (e ∷ es) = grind (arith, keys_by_node es)
 
 pub lists_of : (es : List (List ℕ × NodeTable)) → AreNodeLists es → AreLists (rows_by_node es)
-lists_of es are =
-    record {
-      each = each es are.each;
-      apart =
-          subst (IsDistinct same) (sym (keys_by_node es)) are.apart;
-    }
+lists_of es are = record {
+  each = each es are.each;
+  apart = rw (keys_by_node es) are.apart;
+}
   where
-    each : (es : List (List ℕ × NodeTable))
-        → AllTables es
-        → Each (rows_by_node es)
+    each : (es : List (List ℕ × NodeTable)) → AllTables es → Each (rows_by_node es)
     each [] a = tt
     each (e ∷ es) a = (a.0.1, each es a.1)
 
@@ -64,14 +57,12 @@ lists_of es are =
 module _ (n : List ℕ) where
   by_name : (es : List (List ℕ × NodeTable)) (t : NodeTable) → lookup (same n) es ≡ Some t
       → lookup (same n) (rows_by_node es) ≡ Some t.rows
-  by_name es t found = lookup_by_node n es ∙ ap (option_map (λ x. x.rows)) found
+  by_name es t found = grind (arith, lookup_by_node)
 
-  pub table_node : (es : List (List ℕ × NodeTable)) (t : NodeTable)
-      → AllTables es
+  pub table_node : (es : List (List ℕ × NodeTable)) (t : NodeTable) → AllTables es
       → lookup (same n) es ≡ Some t → t.node ≡ n
   table_node [] t a found = grind arith
-  table_node (e ∷ es) t a found =
-      grind (arith, table_node es t a.1, a.0.0, found, same_decides n e.0)
+  table_node (e ∷ es) t a found = grind (arith, table_node es t a.1, same_decides)
 
   pub table_list : (es : List (List ℕ × NodeTable)) (t : NodeTable) → AreNodeLists es
       → lookup (same n) es ≡ Some t → IsNodeList n t.rows
@@ -80,9 +71,7 @@ module _ (n : List ℕ) where
 
   pub table_lists : (es : List (List ℕ × NodeTable)) (t : NodeTable) → AreNodeLists es
       → lookup (same n) es ≡ Some t → IsNodeList t.node t.rows
-  table_lists es t are found =
-      subst (λ k. IsNodeList k t.rows) (sym (table_node es t are.each found))
-      (table_list es t are found)
+  table_lists es t are found = grind (arith, table_node, table_list)
 
   pub table_rows : (es : List (List ℕ × NodeTable)) (t : NodeTable) → AreNodeLists es
       → lookup (same n) es ≡ Some t → t.rows ≡ of_node n (all_rows (rows_by_node es))
@@ -91,22 +80,18 @@ module _ (n : List ℕ) where
 
   pub no_table : (es : List (List ℕ × NodeTable)) → AreNodeLists es → lookup (same n) es ≡ None
       → of_node n (all_rows (rows_by_node es)) ≡ []
-  no_table es are none =
-      no_list n (rows_by_node es) (lists_of es are)
+  no_table es are none = no_list n (rows_by_node es) (lists_of es are)
       (lookup_by_node n es ∙ ap (option_map (λ x. x.rows)) none)
 
-  tables_rest : (es : List (List ℕ × NodeTable))
-      → AllTables es
+  tables_rest : (es : List (List ℕ × NodeTable)) → AllTables es
       → AllTables (remove_entry (same n) es)
   tables_rest [] a = tt
-  tables_rest (e ∷ es) a = grind (arith, tables_rest es a.1, a.0, a.1)
+  tables_rest (e ∷ es) a = grind (arith, tables_rest es a.1)
 
   pub tables_removed : (es new : List (List ℕ × NodeTable)) → AreNodeLists es
       → new ≡ remove_entry (same n) es → IsDistinct same (keys_of new) → AreNodeLists new
   tables_removed es new are is apart = record {
-    each =
-        subst AllTables (sym is)
-        (tables_rest es are.each);
+    each = subst AllTables (sym is) (tables_rest es are.each);
     apart = apart;
   }
 
@@ -126,42 +111,34 @@ module _ (n : List ℕ) where
           → tally (is_of_node n) (all_rows (rows_by_node es)) ≤ max_rows
       by None none =
           let e = node_tally n (is_of_node n) (λ r h. h) (all_rows (rows_by_node es))
-          ∙ ap (tally (is_of_node n)) (no_table es are none) in omega (arith, e)
+          ∙ ap (tally (is_of_node n)) (no_table es are none) in omega arith
       by (Some t) found =
           let e = node_tally n (is_of_node n) (λ r h. h) (all_rows (rows_by_node es))
           ∙ ap (tally (is_of_node n)) (sym (table_rows es t are found)) in
-          omega (arith, e, (table_list es t are found).few n)
+          omega (arith, (table_list es t are found).few n)
 
   -- another table in the place of the node's, or a first one
   put_each : (es : List (List ℕ × NodeTable)) (t : NodeTable) → t.node ≡ n → IsNodeList n t.rows
-      → AllTables es
-      → AllTables (insert_entry same es n t)
+      → AllTables es → AllTables (insert_entry same es n t)
   put_each [] t m is a = ((m, is), tt)
   put_each (e ∷ es) t m is a = put_case (same n e.0) refl (put_each es t m is a.1)
     where
       put_case : (b : Bool) → same n e.0 ≡ b → AllTables (insert_entry same es n t)
           → AllTables (cond b ((e.0, t) ∷ es) (e ∷ insert_entry same es n t))
-      put_case true h rest = let here = (same_decides n e.0).0 h in
-          ((m ∙ here, subst (λ k. IsNodeList k t.rows) here is), a.1)
+      put_case true h rest = grind (arith, same_decides)
       put_case false h rest = (a.0, rest)
 
   pub tables_put : (es new : List (List ℕ × NodeTable)) (t : NodeTable) → AreNodeLists es
       → t.node ≡ n → IsNodeList n t.rows → new ≡ insert_entry same es n t
       → IsDistinct same (keys_of new) → AreNodeLists new
-  tables_put es new t are m is e apart = record {
-    each = subst AllTables (sym e)
-        (put_each es t m is are.each);
-    apart = apart;
-  }
+  tables_put es new t are m is e apart = grind (arith, put_each)
 
   pub rows_put : (es new : List (List ℕ × NodeTable)) (t : NodeTable) → AreNodeLists es
       → new ≡ insert_entry same es n t
       → Joins t.rows (without_node n (all_rows (rows_by_node es))) (all_rows (rows_by_node new))
-  rows_put es new t are e test =
-      ap (λ xs. tally test (all_rows (rows_by_node xs))) e
+  rows_put es new t are e test = ap (λ xs. tally test (all_rows (rows_by_node xs))) e
       ∙ ap (λ xs. tally test (all_rows xs)) (inserted_by_node n t es)
-      ∙ put_tally n (rows_by_node es) t.rows test
-      ∙ ap (λ rows. tally test rows + tally test t.rows)
+      ∙ put_tally n (rows_by_node es) t.rows test ∙ ap (λ rows. tally test rows + tally test t.rows)
       (removed_rows n (rows_by_node es) (lists_of es are))
 
   -- where the node has no table, all rows are of others
@@ -182,7 +159,7 @@ module _ (n : List ℕ) where
   -- whether a process of the node is in a group shows in its rows
   pub members_of_node : (g : List ℕ) (rows : List Counted)
       → tally (is_there g n) rows ≡ tally (is_there g n) (of_node n rows)
-  members_of_node g rows = node_tally n (is_there g n) (λ r h. grind (arith, h)) rows
+  members_of_node g rows = grind (arith, node_tally)
 
 pub if_some : {A : Type 0} {P : A → Type 0} (o : Option (Bor A)) (l : Option A)
     → option_copied o ≡ l → ((t : A) → l ≡ Some t → P t) → IfSome o (λ b. P b.now)
@@ -198,15 +175,13 @@ if_none (Some b) l e f = tt
 
 module _ (n : List ℕ) where
   set_each : (es : List (List ℕ × NodeTable)) (t : NodeTable) → t.node ≡ n → IsNodeList n t.rows
-      → AllTables es
-      → AllTables (set_value (same n) es t)
+      → AllTables es → AllTables (set_value (same n) es t)
   set_each [] t m is a = tt
   set_each (e ∷ es) t m is a = set_case (same n e.0) refl (set_each es t m is a.1)
     where
       set_case : (b : Bool) → same n e.0 ≡ b → AllTables (set_value (same n) es t)
           → AllTables (cond b ((e.0, t) ∷ es) (e ∷ set_value (same n) es t))
-      set_case true h rest = let here = (same_decides n e.0).0 h in
-          ((m ∙ here, subst (λ k. IsNodeList k t.rows) here is), a.1)
+      set_case true h rest = grind (arith, same_decides)
       set_case false h rest = (a.0, rest)
 
   set_length : (es : Lists) (v w : List Counted) → lookup (same n) es ≡ Some v
@@ -214,14 +189,7 @@ module _ (n : List ℕ) where
   set_length [] v w found = grind arith
   set_length (e ∷ es) v w found =
       let rest = λ (f : lookup (same n) es ≡ Some v). set_length es v w f in
-      grind (
-        arith,
-        rest,
-        length-append e.1 (all_rows es),
-        length-append w (all_rows es),
-        length-append e.1 (all_rows (set_value (same n) es w)),
-        found,
-      )
+      grind (arith, length-append)
 
 -- w in the place of v, which is the node's
 module _ (n : List ℕ) (es fs : List (List ℕ × NodeTable)) (v w : NodeTable)
@@ -230,60 +198,41 @@ module _ (n : List ℕ) (es fs : List (List ℕ × NodeTable)) (v w : NodeTable)
   all_now = all_rows (rows_by_node fs)
 
   by_lists : all_now ≡ all_rows (set_value (same n) (rows_by_node es) w.rows)
-  by_lists = ap (λ xs. all_rows (rows_by_node xs)) is ∙ ap all_rows (set_by_node n w es)
+  by_lists = grind (arith, set_by_node)
 
   pub tables_tally : (test : Row → Bool) → tally test all_now + tally test v.rows
       ≡ tally test (all_rows (rows_by_node es)) + tally test w.rows
-  tables_tally test =
-      ap (λ xs. tally test xs + tally test v.rows) by_lists
-      ∙ set_tally n (rows_by_node es) v.rows w.rows (by_name n es v found) test
+  tables_tally test = grind (arith, by_lists, set_tally, by_name)
 
   pub tables_length : length all_now + length v.rows
       ≡ length (all_rows (rows_by_node es)) + length w.rows
-  tables_length =
-      ap (λ xs. length xs + length v.rows) by_lists
-      ∙ set_length n (rows_by_node es) v.rows w.rows (by_name n es v found)
+  tables_length = grind (arith, by_lists, set_length, by_name)
 
   pub tables_same : w ≡ v → all_now ≡ all_rows (rows_by_node es)
-  tables_same alike =
-      by_lists
-      ∙ set_same n (rows_by_node es) v.rows w.rows (by_name n es v found)
-      (ap (λ (t : NodeTable). t.rows) alike)
+  tables_same alike = grind (arith, by_lists, set_same, by_name)
 
   module _ (are : AreNodeLists es) (node : w.node ≡ v.node) where
     its_node : w.node ≡ n
-    its_node = node ∙ table_node n es v are.each found
+    its_node = grind (arith, table_node)
 
     pub tables_set : IsNodeList w.node w.rows → AreNodeLists fs
-    tables_set list =
-        subst AreNodeLists (sym is) (record {
-          each = set_each n es w its_node (subst (λ k. IsNodeList k w.rows) its_node list) are.each;
-          apart = subst (IsDistinct same) (sym (keys-set_value (same n) es w)) are.apart;
-        })
+    tables_set list = grind (arith, set_each, its_node, keys-set_value)
 
     -- in which groups the node has processes shows in its table
     pub tables_members : (g : List ℕ) → has_members g w.node w.rows ≡ has_members g n all_now
-    tables_members g =
-        let all = tables_tally (is_there g n) in
-        let was = members_of_node n g (all_rows (rows_by_node es))
-        ∙ ap (tally (is_there g n)) (sym (table_rows n es v are found)) in
-        ap (λ k. has_members g k w.rows) its_node
-        ∙ ap (nat_lt 0) (let e : tally (is_there g n) w.rows ≡ tally (is_there g n) all_now =
-        omega (arith, all, was) in e)
+    tables_members g = grind (arith, tables_tally, members_of_node, table_rows, its_node)
 
 module _ (n : List ℕ) where
   -- a row of the node is counted in its table
   pub table_count : (es : List (List ℕ × NodeTable)) (v : NodeTable) → AreNodeLists es
       → lookup (same n) es ≡ Some v → (g : List ℕ) (p : Pid) → p.node ≡ n
       → tally (is_row g p) (all_rows (rows_by_node es)) ≡ tally (is_row g p) v.rows
-  table_count es v are found g p e =
-      row_tally n g p e (all_rows (rows_by_node es))
-      ∙ ap (tally (is_row g p)) (sym (table_rows n es v are found))
+  table_count es v are found g p e = grind (arith, row_tally, table_rows)
 
 -- a process is counted among the rows of its node
 pub process_tally : (p : Pid) (rows : List Counted)
     → tally (λ r. same_pid r.pid p) rows ≡ tally (λ r. same_pid r.pid p) (of_node p.node rows)
-process_tally p rows = node_tally p.node (λ r. same_pid r.pid p) (λ r h. grind (arith, h)) rows
+process_tally p rows = grind (arith, node_tally)
 
 -- the rows of a node are what is counted of its processes
 pub node_count : (n g : List ℕ) (p : Pid) (all rows : List Counted) → rows ≡ of_node n all

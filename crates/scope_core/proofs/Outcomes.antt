@@ -1,9 +1,8 @@
 -- What a call ensures, where its result is known.
-use Rattle.std.specs.Prelude.{Err, false, IfOk, IfSome, IsOk, None, Ok, OnErr, OnOk, Option, Result}
-use Rattle.std.specs.Prelude.{Some, true, ◌≡◌}
-use Rattle.std.specs.Option.{IfNone, is_some}
+use Rattle.scope_core.proofs.Words
+use Words.{Err, false, IfNone, IfOk, IfSome, is_some, IsOk, None, Ok, OnErr, OnOk, Option, refl}
+use Words.{Result, Some, sym, true, ◌≡◌}
 use Rattle.std.specs.Result.{is_err}
-use Rattle.std.proofs.Common.{refl, sym}
 
 pub on_err : {T E P : Type 0} (r : Result T E) → P → OnErr r P
 on_err (Ok x) p = tt

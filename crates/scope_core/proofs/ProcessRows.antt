@@ -1,25 +1,25 @@
 -- The changes where one process of a node leaves its groups.
 use Rattle.scope_core.proofs
-use proofs.Words.{AllByRecursion, ap, append-nil, arith, Ascends, BTreeMap, changes_left_by, cond}
-use proofs.Words.{Counted, counted_in, exact_bytes, false, found, GroupChange, has_row}
-use proofs.Words.{how_many_replicate, is_among, is_eq, is_row, is_some, IsDifference, IsHashed}
-use proofs.Words.{IsProper, key_cmp, key_of, keys_of, length, Less, List, lookup, map, None}
-use proofs.Words.{one_of_many, Pid, pid_cmp, pids_total, ProcessKey, refl, replicate, Rises, Row}
-use proofs.Words.{row_in, same, same_decides, same_pid, same_pid_decides, same_row, same_sym}
-use proofs.Words.{SmallMap, spread_ascends, subst, sym, tally, text_cmp, texts_total, times_joined}
-use proofs.Words.{times_left, total, true, ℕ, [], ◌-◌, ◌∙◌, ◌∷◌, ◌≡◌}
-use Rattle.std.specs.List.{IsDistinct}
-use Rattle.std.specs.List.Sorted.{IsStrictlySortedBy}
+use proofs.Words
+use Words.{AllByRecursion, ap, append-nil, arith, Ascends, BTreeMap, changes_left_by, cond, Counted}
+use Words.{counted_in, exact_bytes, false, found, GroupChange, has_row, how_many_replicate}
+use Words.{is_among, is_eq, is_row, is_some, IsDifference, IsDistinct, IsHashed, IsProper, key_cmp}
+use Words.{key_of, keys_of, length, Less, List, lookup, map, None, one_of_many, Pid, pid_cmp}
+use Words.{pids_total, ProcessKey, refl, replicate, Rises, Row, row_in, same, same_decides}
+use Words.{same_pid, same_pid_decides, same_row, same_sym, SmallMap, spread_ascends, subst, sym}
+use Words.{tally, text_cmp, texts_total, times_joined, times_left, total, true, [], ℕ, ◌-◌, ◌∙◌}
+use Words.{◌∷◌, ◌≡◌}
 use proofs.GroupRows.{entries_others}
 use proofs.HashedRows.{count_is, one_key, one_text, same_key_decides}
 use proofs.HashedWrites.{in_group_count}
 use proofs.Tallies.{none_mentioned}
+use Rattle.std.specs.List.Sorted.{IsStrictlySortedBy}
 
 -- a group is found among those of the process where it is one of them
 pub in_keys : {V : Type 0} (g : List ℕ) (es : List (List ℕ × V))
     → is_some (lookup (λ h. is_eq (text_cmp g h)) es) ≡ is_among g (keys_of es)
 in_keys g [] = refl
-in_keys g (e ∷ es) = grind (arith, in_keys g es, one_text g e.0, same_sym g e.0)
+in_keys g (e ∷ es) = grind (arith, in_keys g es, one_text, same_sym)
 
 pub sorted_rises : (gs : List (List ℕ)) → IsStrictlySortedBy text_cmp gs → Rises text_cmp gs
 unfolding IsStrictlySortedBy
@@ -40,7 +40,7 @@ module _ (rows : List Counted) (p : Pid) where
 
   above : (g : List ℕ) (gs : List (List ℕ)) → Above g gs → Above g (map (λ c. c.group) (left gs))
   above g [] l = tt
-  above g (h ∷ gs) l = grind (arith, above g gs l.1, l.0)
+  above g (h ∷ gs) l = grind (arith, above g gs l.1)
 
   left_rises : (gs : List (List ℕ)) → Rises text_cmp gs
       → Rises text_cmp (map (λ c. c.group) (left gs))
@@ -48,30 +48,26 @@ module _ (rows : List Counted) (p : Pid) where
   left_rises (g ∷ gs) r = grind (arith, left_rises gs r.1, above g gs r.0)
 
   copies_ascend : (n : ℕ) → Ascends pid_cmp (replicate n p)
-  copies_ascend n =
-      subst (Ascends pid_cmp) (append-nil (replicate n p))
+  copies_ascend n = subst (Ascends pid_cmp) (append-nil (replicate n p))
       (spread_ascends pid_cmp pids_total (λ q. q) (λ q. n) (p ∷ []) (tt, tt))
 
   left_proper : (gs : List (List ℕ)) → AllByRecursion IsProper (left gs)
   left_proper [] = tt
-  left_proper (g ∷ gs) = grind (arith, left_proper gs, copies_ascend (count g))
+  left_proper (g ∷ gs) = grind (arith, left_proper gs, copies_ascend)
 
-  left_counted : (g : List ℕ) (q : Pid) (gs : List (List ℕ))
-      → times_left g q (left gs)
+  left_counted : (g : List ℕ) (q : Pid) (gs : List (List ℕ)) → times_left g q (left gs)
       ≡ total (λ h. cond (same h g) (cond (same_pid p q) (count h) 0) 0) gs
   left_counted g q [] = refl
-  left_counted g q (h ∷ gs) =
-      grind (
-        arith,
-        left_counted g q gs,
-        how_many_replicate (λ r. same_pid r q) (count h) p,
-        none_mentioned q (replicate (count h) p),
-      )
+  left_counted g q (h ∷ gs) = grind (
+    arith,
+    left_counted g q gs,
+    how_many_replicate,
+    none_mentioned q (replicate (count h) p),
+  )
 
   left_once : (g : List ℕ) (q : Pid) (gs : List (List ℕ)) → Rises text_cmp gs
       → times_left g q (left gs) ≡ cond (is_among g gs) (cond (same_pid p q) (count g) 0) 0
-  left_once g q gs r =
-      left_counted g q gs
+  left_once g q gs r = left_counted g q gs
       ∙ one_of_many text_cmp same texts_total exact_bytes same_decides
       (λ h. cond (same_pid p q) (count h) 0) g gs r
 
@@ -91,52 +87,37 @@ module _ (es : List (Row × ℕ)) (once : IsDistinct same_row (keys_of es)) (p :
   all_times : (g : List ℕ) (q : Pid)
       → cond (is_among g gs) (cond (same_pid p q) (tally (is_row g p) rows) 0) 0
       ≡ cond (same_pid q p) (tally (is_row g q) rows) 0
-  all_times g q =
-      grind (
-        arith,
-        is g,
-        count_is (row_in g p) es once,
-        same_pid_decides p q,
-        same_pid_decides q p,
-      )
+  all_times g q = grind (arith, is g, count_is (row_in g p) es once, same_pid_decides)
 
   -- the changes are each difference in which the process leaves all groups
-  pub process_leaves : (before after : List ℕ → Pid → ℕ)
-      → ((g : List ℕ) (q : Pid)
+  pub process_leaves : (before after : List ℕ → Pid → ℕ) → ((g : List ℕ) (q : Pid)
       → before g q - after g q ≡ cond (same_pid q p) (tally (is_row g q) rows) 0)
       → ((g : List ℕ) (q : Pid) → after g q - before g q ≡ 0)
       → IsDifference before after (changes_left_by rows p gs)
-  process_leaves before after goes none = record {
-    groups = left_rises rows p gs rises;
-    proper = left_proper rows p gs;
-    left = λ g q. left_once rows p g q gs rises ∙ all_times g q ∙ sym (goes g q);
-    joined = λ g q. none_joined rows p g q gs ∙ sym (none g q);
-  }
+  process_leaves before after goes none =
+      grind (arith, left_rises, left_proper, left_once, all_times, none_joined)
 
 -- of a single entry, no other key is found
 only_one : {V : Type 0} (k j : ProcessKey) (es : List (ProcessKey × V)) → length es ≡ 1
     → is_some (lookup (λ q. is_eq (key_cmp k q)) es) ≡ true → is_eq (key_cmp k j) ≡ false
     → lookup (λ q. is_eq (key_cmp j q)) es ≡ None
 only_one k j [] l there other = refl
-only_one k j (e ∷ []) l there other =
-    grind (arith, there, other, one_key k e.0, one_key j e.0, one_key k j, same_key_decides k e.0)
-only_one k j (e ∷ f ∷ es) l there other = grind (arith, l)
+only_one k j (e ∷ []) l there other = grind (arith, one_key, same_key_decides)
+only_one k j (e ∷ f ∷ es) l there other = grind arith
 
 -- where the index has the entry of one process alone, no row of another is counted
 pub none_beside : {node : List ℕ} {es : List (Row × ℕ)}
     {groups : BTreeMap (List ℕ) (SmallMap ProcessKey ℕ)}
     {processes : BTreeMap ProcessKey (SmallMap (List ℕ) (Unit {0}))}
-    → IsHashed node es groups processes → (q : Pid) → q.node ≡ node
-    → length processes.entries ≡ 1
+    → IsHashed node es groups processes → (q : Pid) → q.node ≡ node → length processes.entries ≡ 1
     → is_some (lookup (λ k. is_eq (key_cmp (key_of q) k)) processes.entries) ≡ true
     → (g : List ℕ) (p : Pid) → same_pid p q ≡ false → tally (is_row g p) (counted_in es) ≡ 0
 none_beside {node} {es} {groups} {processes} h q own one there g p other =
     let here : same node p.node ≡ true → tally (is_row g p) (counted_in es) ≡ 0 = λ e.
     let key : is_eq (key_cmp (key_of q) (key_of p)) ≡ false =
-    grind (arith, e, other, own, same_decides node p.node, one_key (key_of q) (key_of p)) in
-    let none = sym (h.by_process (key_of p) g)
-    ∙ ap (λ o. is_some (found text_cmp o g))
+    grind (arith, same_decides, one_key) in
+    let none = sym (h.by_process (key_of p) g) ∙ ap (λ o. is_some (found text_cmp o g))
     (only_one (key_of q) (key_of p) processes.entries one there key) in
     let count = in_group_count node g p es _ h.once ((same_decides node p.node).0 e) refl in
-    grind (arith, none, count) in
-    grind (arith, here, entries_others node g p es h.own)
+    grind (arith, count) in
+    grind (arith, entries_others)

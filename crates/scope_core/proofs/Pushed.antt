@@ -1,7 +1,7 @@
 -- An element behind others that rise.
-use Rattle.scope_core.proofs
-use proofs.Words.{AllByRecursion, ap, arith, IsTotalOrder, length, length_push, Less, List}
-use proofs.Words.{Ordering, refl, Rises, slice_get, Some, subst, suc, [], ◌++◌, ◌-◌, ◌∙◌, ◌∷◌, ◌≡◌}
+use Rattle.scope_core.proofs.Words
+use Words.{AllByRecursion, ap, arith, IsTotalOrder, length, length_push, Less, List, Ordering, refl}
+use Words.{Rises, slice_get, Some, subst, suc, [], ◌++◌, ◌-◌, ◌∙◌, ◌∷◌, ◌≡◌}
 
 module _ {A K : Type 0} {cmp : K → K → Ordering} (order : IsTotalOrder cmp) (key : A → K) where
   -- where the last is below a key, all are
@@ -9,7 +9,7 @@ module _ {A K : Type 0} {cmp : K → K → Ordering} (order : IsTotalOrder cmp) 
       → slice_get xs (length xs - 1) ≡ Some last → cmp (key last) k ≡ Less
       → AllByRecursion (λ x. cmp (key x) k ≡ Less) xs
   all_below k [] last r e l = tt
-  all_below k (x ∷ []) last r e l = grind (arith, e, l)
+  all_below k (x ∷ []) last r e l = grind arith
   all_below k (x ∷ y ∷ ys) last r e l =
       let n : length (x ∷ y ∷ ys) - 1 ≡ suc (length (y ∷ ys) - 1) = omega arith in
       let rest =
@@ -30,7 +30,7 @@ module _ {A : Type 0} (R : A → A → Ordering) where
 pub last_pushed : {A : Type 0} (xs : List A) (x : A)
     → slice_get (xs ++ x ∷ []) (length (xs ++ x ∷ []) - 1) ≡ Some x
 last_pushed xs x =
-    let n : length (xs ++ x ∷ []) - 1 ≡ length xs = omega (arith, length_push xs x) in
+    let n : length (xs ++ x ∷ []) - 1 ≡ length xs = omega (arith, length_push) in
     ap (slice_get (xs ++ x ∷ [])) n ∙ at xs
   where
     at : (ys : List _) → slice_get (ys ++ x ∷ []) (length ys) ≡ Some x

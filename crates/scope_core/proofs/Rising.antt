@@ -1,9 +1,9 @@
 -- Rows that rise: what is filtered from them rises and is counted, and a row stands in them once.
-use Rattle.scope_core.proofs
-use proofs.Words.{AllByRecursion, and_parts, arith, Bool, cond, Counted, counted_cmp, false, filter}
-use proofs.Words.{how_many, in_one_group, is_gt, is_in, is_of_node, is_row, Less, List, map, not}
-use proofs.Words.{Pid, pid_cmp, refl, Rises, Row, rows_total, same_decides, same_pid_decides, tally}
-use proofs.Words.{text_cmp, tied_itself, true, without_node, ℕ, [], ◌<◌, ◌∷◌, ◌≡◌}
+use Rattle.scope_core.proofs.Words
+use Words.{AllByRecursion, and_parts, arith, Bool, cond, Counted, counted_cmp, false, filter}
+use Words.{how_many, in_one_group, is_gt, is_in, is_of_node, is_row, Less, List, map, not, Pid}
+use Words.{pid_cmp, refl, Rises, Row, rows_total, same_decides, same_pid_decides, tally, text_cmp}
+use Words.{tied_itself, true, without_node, [], ℕ, ◌<◌, ◌∷◌, ◌≡◌}
 
 pub all_map : {A : Type 0} (P Q : A → Type 0) → ((x : A) → P x → Q x) → (xs : List A)
     → AllByRecursion P xs → AllByRecursion Q xs
@@ -38,7 +38,7 @@ in_group_rises g [] r = tt
 in_group_rises g (c ∷ cs) r =
     let above =
     λ (e : is_in g c ≡ true). in_group_above g c cs ((same_decides c.row.group g).0 e) r.0 in
-    grind (arith, in_group_rises g cs r.1, above)
+    grind (arith, in_group_rises g cs r.1)
 
 pub row_is : (g : List ℕ) (p : Pid) (r : Row) → is_row g p r ≡ true → (r.group ≡ g) × (r.pid ≡ p)
 row_is g p r h = grind (arith, and_parts, same_decides, same_pid_decides)
@@ -74,13 +74,13 @@ pub gone_counts : (hits : Pid → Bool) (g : List ℕ) (p : Pid) (cs : List Coun
     → tally (is_row g p) (filter (λ c. not (hits c.row.pid)) cs)
     ≡ cond (hits p) 0 (tally (is_row g p) cs)
 gone_counts hits g p [] = grind arith
-gone_counts hits g p (c ∷ cs) = grind (arith, gone_counts hits g p cs, same_pid_decides c.row.pid p)
+gone_counts hits g p (c ∷ cs) = grind (arith, gone_counts hits g p cs, same_pid_decides)
 
 -- and what is counted where no others stay
 pub kept_counts : (hits : Pid → Bool) (g : List ℕ) (p : Pid) (cs : List Counted)
     → tally (is_row g p) (filter (λ c. hits c.row.pid) cs) ≡ cond (hits p) (tally (is_row g p) cs) 0
 kept_counts hits g p [] = grind arith
-kept_counts hits g p (c ∷ cs) = grind (arith, kept_counts hits g p cs, same_pid_decides c.row.pid p)
+kept_counts hits g p (c ∷ cs) = grind (arith, kept_counts hits g p cs, same_pid_decides)
 
 -- where none of the rows is this one, it isn't counted
 pub tally_absent : (g : List ℕ) (p : Pid) (cs : List Counted)
@@ -92,12 +92,10 @@ tally_absent g p (c ∷ cs) a = grind (arith, tally_absent g p cs a.1)
 pub own_from_tally : (node : List ℕ) (cs : List Counted) → AllByRecursion (λ c. 0 < c.count) cs
     → tally (λ r. not (is_of_node node r)) cs ≡ 0 → AllByRecursion (λ c. c.row.pid.node ≡ node) cs
 own_from_tally node [] a e = tt
-own_from_tally node (c ∷ cs) a e =
-    grind (arith, own_from_tally node cs a.1, same_decides c.row.pid.node node)
+own_from_tally node (c ∷ cs) a e = grind (arith, own_from_tally node cs a.1, same_decides)
 
 -- where a node has no rows, those of the others are all
 pub tally_others : (n : List ℕ) (test : Row → Bool) (cs : List Counted)
-    → tally (is_of_node n) cs ≡ 0
-    → tally test (without_node n cs) ≡ tally test cs
+    → tally (is_of_node n) cs ≡ 0 → tally test (without_node n cs) ≡ tally test cs
 tally_others n test [] none = refl
-tally_others n test (c ∷ cs) none = grind (arith, tally_others n test cs, none)
+tally_others n test (c ∷ cs) none = grind (arith, tally_others n test cs)

@@ -1,26 +1,25 @@
 -- Rows in order as the entries of a map, and the map with its indexes.
 use Rattle.scope_core.proofs
-use proofs.Words.{AllByRecursion, ap, append_assoc, arith, BTreeMap, Counted, counted_cmp}
-use proofs.Words.{counted_in, entries_in, false, find_in, is_some, IsHashed, key_cmp}
-use proofs.Words.{keys_of, Less, List, lookup, None, ProcessKey, refl, Rises, Row, row_at}
-use proofs.Words.{rows_total, same_row, same_row_decides, SmallMap, stands, subst, sym, text_cmp}
-use proofs.Words.{tied_itself, ℕ, [], ◌++◌, ◌∙◌, ◌∷◌, ◌≡◌}
-use Rattle.std.specs.List.{IsDistinct}
+use proofs.Words
+use Words.{AllByRecursion, ap, append_assoc, arith, BTreeMap, Counted, counted_cmp, counted_in}
+use Words.{entries_in, false, find_in, is_some, IsHashed, key_cmp, keys_of, Less, List, lookup}
+use Words.{None, ProcessKey, refl, Rises, Row, row_at, rows_total, same_row, same_row_decides}
+use Words.{SmallMap, stands, subst, sym, text_cmp, tied_itself, [], ℕ, ◌++◌, ◌∙◌, ◌∷◌, ◌≡◌}
 use proofs.HashedRows.{rows_equal, stands_is}
 use proofs.Rising.{all_mapped}
+use Rattle.std.specs.List.{IsDistinct}
 
 abbrev Entries : Type 0
 Entries = List (Row × ℕ)
 
 pub back_again : (rows : List Counted) → counted_in (entries_in rows) ≡ rows
 back_again [] = refl
-back_again (c ∷ cs) = ap (λ ds. c ∷ ds) (back_again cs)
+back_again (c ∷ cs) = grind (arith, back_again cs)
 
 apart : (c : Counted) (cs : List Counted) → AllByRecursion (λ d. counted_cmp c d ≡ Less) cs
     → AllByRecursion (λ r. same_row c.row r ≡ false) (keys_of (entries_in cs))
 apart c [] l = tt
-apart c (d ∷ cs) l =
-    grind (arith, apart c cs l.1, l.0, same_row_decides c.row d.row, tied_itself rows_total c.row)
+apart c (d ∷ cs) l = grind (arith, apart c cs l.1, same_row_decides, tied_itself rows_total c.row)
 
 pub rising_once : (rows : List Counted) → Rises counted_cmp rows
     → IsDistinct same_row (keys_of (entries_in rows))
@@ -41,25 +40,17 @@ once_before : (row : Row) (n : ℕ) (es fs : Entries)
     → IsDistinct same_row (keys_of (es ++ (row, n) ∷ fs)) → lookup (same_row row) es ≡ None
 unfolding IsDistinct
 once_before row n [] fs d = refl
-once_before row n (e ∷ es) fs d =
-    let other = at_middle e.0 row n es fs d.0 in
-    grind (arith, once_before row n es fs d.1, other, rows_equal.symm e.0 row)
+once_before row n (e ∷ es) fs d = grind (arith, once_before row n es fs d.1, at_middle, rows_equal)
 
 -- the entries of the rows so far are es, and c is the next row
 module _ (rows rest more : List Counted) (c : Counted) (es : Entries)
     (all : es ++ entries_in rest ≡ entries_in rows) (next : rest ≡ c ∷ more) where
   pub next_fresh : Rises counted_cmp rows → lookup (same_row c.row) es ≡ None
-  next_fresh rises =
-      let split = sym all ∙ ap (λ cs. es ++ entries_in cs) next in
-      let once = subst (λ xs. IsDistinct same_row (keys_of xs)) split (rising_once rows rises) in
-      once_before c.row c.count es (entries_in more) once
+  next_fresh rises = grind (arith, rising_once, once_before)
 
   pub next_in : (fs : Entries) → fs ≡ es ++ (c.row, c.count) ∷ []
       → fs ++ entries_in more ≡ entries_in rows
-  next_in fs is =
-      ap (λ xs. xs ++ entries_in more) is
-      ∙ append_assoc es ((c.row, c.count) ∷ []) (entries_in more)
-      ∙ sym (ap (λ cs. es ++ entries_in cs) next) ∙ all
+  next_in fs is = grind (arith, append_assoc)
 
 -- ---- the map and its indexes
 
@@ -67,12 +58,10 @@ pub hashed_of : (node : List ℕ) (rows : List Counted) (es : Entries)
     (groups : BTreeMap (List ℕ) (SmallMap ProcessKey ℕ))
     (processes : BTreeMap ProcessKey (SmallMap (List ℕ) (Unit {0})))
     → AllByRecursion (λ c. c.row.pid.node ≡ node) rows → Rises counted_cmp rows
-    → es ≡ entries_in rows
-    → ((g : List ℕ) (k : ProcessKey) → find_in text_cmp key_cmp groups g k
+    → es ≡ entries_in rows → ((g : List ℕ) (k : ProcessKey) → find_in text_cmp key_cmp groups g k
     ≡ lookup (same_row (row_at node g k)) (entries_in rows))
     → ((k : ProcessKey) (g : List ℕ) → is_some (find_in key_cmp text_cmp processes k g)
-    ≡ stands (row_at node g k) rows)
-    → IsHashed node es groups processes
+    ≡ stands (row_at node g k) rows) → IsHashed node es groups processes
 hashed_of node rows es groups processes own rises made by_group by_process =
     let there = λ (r : Row).
     ap (stands r) (sym (back_again rows)) ∙ stands_is r (entries_in rows) in

@@ -1,13 +1,13 @@
 -- The rows of a group stand in a row.
-use Rattle.scope_core.proofs
-use proofs.Words.{AllByRecursion, AllWithin, arith, Bool, false, filter, get_or, length, List, refl}
-use proofs.Words.{suc, take, true, zero, ℕ, [], ◌<◌, ◌∷◌, ◌≡◌, ◌≤◌}
+use Rattle.scope_core.proofs.Words
+use Words.{AllByRecursion, AllWithin, arith, Bool, false, filter, get_or, length, List, refl, suc}
+use Words.{take, true, zero, [], ℕ, ◌<◌, ◌∷◌, ◌≡◌, ◌≤◌}
 
 module _ {A : Type 0} (p : A → Bool) where
   filter_none : (xs : List A) → AllWithin (λ x. p x ≡ false) xs 0 (length xs) → filter p xs ≡ []
   filter_none [] a = refl
   filter_none (x ∷ xs) a =
-      grind (arith, a 0 x, filter_none xs (λ k d l h. a (suc k) d (omega arith) (omega (arith, h))))
+      grind (arith, a 0 x, filter_none xs (λ k d l h. a (suc k) d (omega arith) (omega arith)))
 
   -- those up to n are all that pass
   pub filter_takes : (n : ℕ) (xs : List A) → n ≤ length xs → AllWithin (λ x. p x ≡ true) xs 0 n
@@ -16,14 +16,13 @@ module _ {A : Type 0} (p : A → Bool) where
   filter_takes (suc n) [] l a b = refl
   filter_takes (suc n) (x ∷ xs) l a b =
       let front =
-      λ (k : ℕ) (d : A) (m : 0 ≤ k) (h : k < n). a (suc k) d (omega arith) (omega (arith, h)) in
-      let back =
-      λ (k : ℕ) (d : A) (m : n ≤ k) (h : k < length xs).
-      b (suc k) d (omega (arith, m)) (omega (arith, h)) in
-      grind (arith, a 0 x, filter_takes n xs (omega (arith, l)) front back)
+      λ (k : ℕ) (d : A) (m : 0 ≤ k) (h : k < n). a (suc k) d (omega arith) (omega arith) in
+      let back = λ (k : ℕ) (d : A) (m : n ≤ k) (h : k < length xs).
+      b (suc k) d (omega arith) (omega arith) in
+      grind (arith, a 0 x, filter_takes n xs (omega arith) front back)
 
 pub all_at : {A : Type 0} (P : A → Type 0) (xs : List A) (k : ℕ) (d : A) → AllByRecursion P xs
     → k < length xs → P (get_or xs k d)
 all_at P [] k d a l = grind arith
 all_at P (x ∷ xs) zero d a l = a.0
-all_at P (x ∷ xs) (suc k) d a l = all_at P xs k d a.1 (omega (arith, l))
+all_at P (x ∷ xs) (suc k) d a l = all_at P xs k d a.1 (omega arith)

@@ -1,10 +1,9 @@
 -- Elements that rise by a key: where a key is among them, and one more of them or one less.
-use Rattle.scope_core.proofs
-use proofs.Words.{add-one, all_from, AllByRecursion, ap, arith, Err, false, get_or, IfErr, insert}
-use proofs.Words.{is_lt, IsBinarySearchResult, IsPartitionPoint, IsSortedBy, IsTotalOrder, length}
-use proofs.Words.{Less, List, Ok, Ordering, remove, Result, Rises, searchable_from_sorted, suc}
-use proofs.Words.{zero, ℕ, [], ◌<◌, ◌∙◌, ◌∷◌, ◌≡◌, ◌≤◌}
-use Rattle.std.specs.declared.cmp.Ordering.TheVariants.{Greater}
+use Rattle.scope_core.proofs.Words
+use Words.{add-one, all_from, AllByRecursion, ap, arith, Err, false, get_or, Greater, IfErr, insert}
+use Words.{is_lt, IsBinarySearchResult, IsPartitionPoint, IsSortedBy, IsTotalOrder, length, Less}
+use Words.{List, Ok, Ordering, remove, Result, Rises, searchable_from_sorted, suc, zero, [], ℕ, ◌<◌}
+use Words.{◌∙◌, ◌∷◌, ◌≡◌, ◌≤◌}
 
 module _ {A : Type 0} (P : A → Type 0) where
   pub all_insert : (xs : List A) (i : ℕ) (y : A) → P y → AllByRecursion P xs
@@ -32,14 +31,14 @@ module _ {A K : Type 0} {cmp : K → K → Ordering} (order : IsTotalOrder cmp) 
       → suc k < length xs → is_lt (cmp (key (get_or xs (suc k) d)) (key (get_or xs k d))) ≡ false
   rising_next [] r k d h = grind arith
   rising_next (x ∷ []) r k d h = grind arith
-  rising_next (x ∷ y ∷ ys) r zero d h = grind (arith, order.antisymm)
-  rising_next (x ∷ y ∷ ys) r (suc k) d h = rising_next (y ∷ ys) r.1 k d (omega (arith, h))
+  rising_next (x ∷ y ∷ ys) r zero d h = grind arith
+  rising_next (x ∷ y ∷ ys) r (suc k) d h = rising_next (y ∷ ys) r.1 k d (omega arith)
 
   rising_sorted : (xs : List A) → Rises (λ x y. cmp (key x) (key y)) xs
       → IsSortedBy (λ x y. is_lt (cmp (key x) (key y))) xs
   rising_sorted xs r k d l h =
       ap (λ n. is_lt (cmp (key (get_or xs n d)) (key (get_or xs k d)))) (add-one k)
-      ∙ rising_next xs r k d (omega (arith, h))
+      ∙ rising_next xs r k d (omega arith)
 
   -- a search that finds nothing answers where the key goes
   pub gap_in : (xs : List A) (k : K) (r : Result ℕ ℕ) → Rises (λ x y. cmp (key x) (key y)) xs
@@ -53,12 +52,12 @@ module _ {A K : Type 0} {cmp : K → K → Ordering} (order : IsTotalOrder cmp) 
       → Rises (λ x y. cmp (key x) (key y)) xs
       → IsPartitionPoint (λ y. cmp (key y) (key x) ≡ Less) (λ y. cmp (key y) (key x) ≡ Greater) xs i
       → Rises (λ x y. cmp (key x) (key y)) (insert xs i x)
-  rises_with xs zero x l r p = grind (arith, order.antisymm, all_from)
+  rises_with xs zero x l r p = grind (arith, all_from)
   rises_with [] (suc i) x l r p = grind arith
   rises_with (y ∷ ys) (suc i) x l r p = (
     all_insert _ ys i x (p.0 0 y (omega arith) (omega arith)) r.0,
-    rises_with ys i x (omega (arith, l)) r.1 (
-      (λ k d m h. p.0 (suc k) d (omega arith) (omega (arith, h))),
-      (λ k d m h. p.1 (suc k) d (omega arith) (omega (arith, h))),
+    rises_with ys i x (omega arith) r.1 (
+      (λ k d m h. p.0 (suc k) d (omega arith) (omega arith)),
+      (λ k d m h. p.1 (suc k) d (omega arith) (omega arith)),
     ),
   )

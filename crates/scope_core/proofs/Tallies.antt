@@ -1,8 +1,8 @@
 -- Sums over lists of rows that are joined.
-use Rattle.scope_core.proofs
-use proofs.Words.{ap, arith, Bool, cond, Counted, drop, get_or, is_empty, length, List, mentions}
-use proofs.Words.{Pid, refl, Row, suc, sym, take, take-append-drop, take_more, tally, total, true}
-use proofs.Words.{zero, ℕ, [], ◌++◌, ◌+◌, ◌<◌, ◌∙◌, ◌∷◌, ◌≡◌, ◌≤◌}
+use Rattle.scope_core.proofs.Words
+use Words.{ap, arith, Bool, cond, Counted, drop, get_or, is_empty, length, List, mentions, Pid}
+use Words.{refl, Row, suc, sym, take, take-append-drop, take_more, tally, total, true, zero, [], ℕ}
+use Words.{◌++◌, ◌+◌, ◌<◌, ◌∙◌, ◌∷◌, ◌≡◌, ◌≤◌}
 
 pub tally_append : (test : Row → Bool) (xs ys : List Counted)
     → tally test (xs ++ ys) ≡ tally test xs + tally test ys
@@ -35,4 +35,4 @@ tally_parts test n xs =
 
 pub none_mentioned : (p : Pid) (ps : List Pid) → is_empty ps ≡ true → mentions p ps ≡ 0
 none_mentioned p [] e = refl
-none_mentioned p (q ∷ ps) e = grind (arith, e)
+none_mentioned p (q ∷ ps) e = grind arith

@@ -1,9 +1,9 @@
 -- Groups that an answer doesn't name have the members that they had.
-use Rattle.scope_core.proofs
-use proofs.Words.{AllByRecursion, arith, Bool, cond, Counted, false, GroupChange, has_members}
-use proofs.Words.{is_empty, is_named, is_row, is_there, IsDifference, IsProper, List, mentions}
-use proofs.Words.{nat_lt, Pid, refl, same, same_decides, same_pid_decides, subst, sym, tally}
-use proofs.Words.{times_joined, times_left, total, true, ℕ, [], ◌&&◌, ◌+◌, ◌<◌, ◌∷◌, ◌≡◌, ◌≤◌}
+use Rattle.scope_core.proofs.Words
+use Words.{AllByRecursion, arith, Bool, cond, Counted, false, GroupChange, has_members, is_empty}
+use Words.{is_named, is_row, is_there, IsDifference, IsProper, List, mentions, nat_lt, Pid, refl}
+use Words.{same, same_decides, same_pid_decides, sym, tally, times_joined, times_left, total, true}
+use Words.{[], ℕ, ◌&&◌, ◌+◌, ◌<◌, ◌∷◌, ◌≡◌, ◌≤◌}
 
 named_total : (part : GroupChange → List Pid) (g : List ℕ) (p : Pid) (changes : List GroupChange)
     → is_named g changes ≡ false
@@ -17,8 +17,7 @@ pub unnamed_same : (before after : List ℕ → Pid → ℕ) (changes : List Gro
     → before g p ≡ after g p
 unnamed_same before after changes d g e p =
     let left = named_total (λ c. c.left) g p changes e in
-    let joined = named_total (λ c. c.joined) g p changes e in
-    omega (arith, d.left g p, d.joined g p, left, joined)
+    omega (arith, named_total (λ c. c.joined) g p changes e, d.left g p, d.joined g p)
 
 -- in a group that is named somebody leaves or joins
 pub named_moves : (g : List ℕ) (cs : List GroupChange) → AllByRecursion IsProper cs
@@ -31,10 +30,10 @@ named_moves g (c ∷ cs) a e =
         → (is_empty l && is_empty j) ≡ false
         → (is_named g cs ≡ true → (p : Pid) × (0 < times_left g p cs + times_joined g p cs))
         → (p : Pid) × (0 < times_left g p (c ∷ cs) + times_joined g p (c ∷ cs))
-    by true (q ∷ l) j s x y m rest = (q, grind (arith, s, x, same_pid_decides q q))
-    by true [] (q ∷ j) s x y m rest = (q, grind (arith, s, y, same_pid_decides q q))
+    by true (q ∷ l) j s x y m rest = (q, grind (arith, same_pid_decides))
+    by true [] (q ∷ j) s x y m rest = (q, grind (arith, same_pid_decides))
     by true [] [] s x y m rest = grind arith
-    by false l j s x y m rest = let r = rest (grind (arith, s, e)) in (r.0, grind (arith, s, r.1))
+    by false l j s x y m rest = grind arith
 
 pub row_there : (g : List ℕ) (p : Pid) (rows : List Counted)
     → tally (is_row g p) rows ≤ tally (is_there g p.node) rows
@@ -50,24 +49,15 @@ some_row g n (c ∷ cs) l = by (is_there g n c.row) (nat_lt 0 c.count) refl refl
     by : (b s : Bool) → is_there g n c.row ≡ b → nat_lt 0 c.count ≡ s
         → (0 < tally (is_there g n) cs → (p : Pid) × (p.node ≡ n) × (0 < tally (is_row g p) cs))
         → (p : Pid) × (p.node ≡ n) × (0 < tally (is_row g p) (c ∷ cs))
-    by true true e s rest = (
-      c.row.pid,
-      grind (arith, e, same_decides c.row.pid.node n),
-      grind (arith, e, s, same_pid_decides c.row.pid c.row.pid),
-    )
-    by true false e s rest = let r = rest (grind (arith, e, s, l)) in (r.0, r.1, grind (arith, r.2))
-    by false s e t rest = let r = rest (grind (arith, e, l)) in (r.0, r.1, grind (arith, r.2))
+    by true true e s rest = grind (arith, same_decides, same_pid_decides)
+    by true false e s rest = grind arith
+    by false s e t rest = grind arith
 
 -- where each process is counted as often, or more often, a node with processes has some
 pub some_more : (g n : List ℕ) (xs ys : List Counted)
     → ((p : Pid) → p.node ≡ n → tally (is_row g p) xs ≤ tally (is_row g p) ys)
     → has_members g n xs ≡ true → has_members g n ys ≡ true
-some_more g n xs ys e h =
-    let there = some_row g n xs (grind (arith, h)) in
-    let le = row_there g there.0 ys in
-    let has : has_members g there.0.node ys ≡ true =
-    grind (arith, le, e there.0 there.1, there.2) in
-    subst (λ m. has_members g m ys ≡ true) there.1 has
+some_more g n xs ys e h = grind (arith, some_row, row_there)
 
 -- rows with the same count of each process have processes in the same groups
 pub same_members : (g n : List ℕ) (xs ys : List Counted)

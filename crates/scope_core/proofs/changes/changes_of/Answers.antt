@@ -1,9 +1,9 @@
 use Rattle.scope_core.proofs
-use proofs.Words.{ap, append-nil, append_assoc, arith, change_unless_empty, subst, sym, [], ◌++◌}
-use proofs.Words.{◌∙◌, ◌≡◌}
+use proofs.Words
+use Words.{ap, append-nil, append_assoc, arith, change_unless_empty, subst, sym, [], ◌++◌, ◌∙◌, ◌≡◌}
 use proofs.Told.{pids, rises_back, Run, run_at, some_run, Told, told_next, told_none}
 use Rattle.scope_core.proofs.changes.changes_of.Goals.{After-split_at-in-Some}
-use Rattle.scope_core.proofs.changes.changes_of.Goals as goal
+use proofs.changes.changes_of.Goals as goal
 
 -- those that leave the lowest group, and those that leave the others
 gone : (c : After-split_at-in-Some)
@@ -37,14 +37,7 @@ loop-group-smaller c =
     let some =
     some_run g c.loop-group.left.now c.loop-group.more.now one.result.0.now one.result.1.now
     two.result.0.now two.result.1.now (gone at) (joined at) c.in-Some.ensures.some in
-    omega (
-      arith,
-      some,
-      one.ensures.front_len,
-      one.ensures.back_len,
-      two.ensures.front_len,
-      two.ensures.back_len,
-    )
+    omega arith
 
 pub loop-group-preserved : goal.loop-group-preserved
 loop-group-preserved c =
@@ -56,13 +49,11 @@ loop-group-preserved c =
     let was = c.loop-group.changes.items in
     let one = change_unless_empty g (pids xs) (pids ys) in
     let at = (goal.at.loop-group-preserved c).After-split_at-in-Some in
-    let pushed : c.push_change.new.changes.items ≡ was ++ one =
-    grind (arith, c.in_ok-push_change.ensures, c.in_ok-goes.ensures, c.in_ok-comes.ensures) in
+    let pushed : c.push_change.new.changes.items ≡ was ++ one = grind arith in
     record {
       left = rises_back xs cs (gone at).rises;
       more = rises_back ys ds (joined at).rises;
-      told = λ rest told.
-          subst (Told c.args.gone.now c.args.joined.now)
+      told = λ rest told. subst (Told c.args.gone.now c.args.joined.now)
           (sym (ap (λ ks. ks ++ rest) pushed ∙ append_assoc was one rest))
           (c.loop-group.invariant.told (one ++ rest)
           (told_next g c.loop-group.left.now c.loop-group.more.now xs cs ys ds (gone at) (joined at)
@@ -71,8 +62,7 @@ loop-group-preserved c =
 
 pub returns : goal.returns
 returns c =
-    let none =
-    told_none c.loop-group.left.now c.loop-group.more.now c.in_default.ensures.none.0
+    let none = told_none c.loop-group.left.now c.loop-group.more.now c.in_default.ensures.none.0
     c.in_default.ensures.none.1 in
     (subst (Told c.args.gone.now c.args.joined.now) (append-nil c.loop-group.changes.items)
     (c.loop-group.invariant.told [] none)).tells

@@ -1,7 +1,7 @@
 use Rattle.scope_core.proofs
 use proofs.Words.{counted_cmp, GroupChange, length, List, Rises, ◌++◌, ◌+◌}
 use proofs.Told.{Told}
-use Rattle.scope_core.proofs.changes.changes_of.Given as goal
+use proofs.changes.changes_of.Given as goal
 
 -- with what is told of the rows to come, all is told
 abbrev pub invariant-loop-group : goal.invariant-loop-group

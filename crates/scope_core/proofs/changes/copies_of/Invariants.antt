@@ -1,5 +1,6 @@
-use Rattle.scope_core.proofs.Words.{take, ◌≡◌}
-use Rattle.scope_core.proofs.changes.copies_of.Given as goal
+use Rattle.scope_core.proofs
+use proofs.Words.{take, ◌≡◌}
+use proofs.changes.copies_of.Given as goal
 
 -- the copies so far
 abbrev pub invariant-loop-item : goal.invariant-loop-item

@@ -1,16 +1,16 @@
 use Rattle.scope_core.proofs
 use proofs.Words.{arith, false, is_gt, or_left, or_right, text_cmp, texts_total, ◌≡◌}
 use proofs.Told.{first_in, itself, none_below_first}
-use Rattle.scope_core.proofs.changes.first_group.Goals.{else-lt, then-lt}
-use Rattle.scope_core.proofs.changes.first_group.Goals as goal
+use proofs.changes.first_group.Goals.{else-lt, then-lt}
+use proofs.changes.first_group.Goals as goal
 
 pub returns-after-lt-clause-gone : goal.returns-after-lt-clause-gone
 returns-after-lt-clause-gone c =
     let one = c.in-Some-Some.one.now in
     let g = c.if-lt.result.now in
     let low : is_gt (text_cmp g one.row.group) ≡ false = elim c.if-lt.branch [
-      | then-lt w ↦ grind (arith, w.result-is, w.if-lt.ensures)
-      | else-lt w ↦ grind (arith, w.result-is, itself one.row.group)
+      | then-lt w ↦ grind arith
+      | else-lt w ↦ grind (arith, itself)
     ] in none_below_first g c.args.gone.now one c.in-Some-Some.ensures.value low c.requires.gone
 
 pub returns-after-lt-clause-joined : goal.returns-after-lt-clause-joined
@@ -19,27 +19,13 @@ returns-after-lt-clause-joined c =
     let other = c.in-Some-Some.other.now in
     let g = c.if-lt.result.now in
     let low : is_gt (text_cmp g other.row.group) ≡ false = elim c.if-lt.branch [
-      | then-lt w ↦ grind (arith, w.result-is, itself other.row.group)
-      | else-lt w ↦
-          grind (
-            arith,
-            w.result-is,
-            w.if-lt.ensures,
-            texts_total.antisymm one.row.group other.row.group,
-          )
+      | then-lt w ↦ grind (arith, itself)
+      | else-lt w ↦ grind (arith, texts_total.antisymm one.row.group other.row.group)
     ] in
     none_below_first g c.args.joined.now other c.in-Some-Some.ensures'.value low c.requires.joined
 
 pub returns-after-lt-clause-some : goal.returns-after-lt-clause-some
-returns-after-lt-clause-some c =
-    let one = c.in-Some-Some.one.now in
-    let other = c.in-Some-Some.other.now in
-    let first = first_in c.args.gone.now one c.in-Some-Some.ensures.value in
-    let second = first_in c.args.joined.now other c.in-Some-Some.ensures'.value in
-    elim c.if-lt.branch [
-      | then-lt w ↦ grind (arith, w.result-is, second)
-      | else-lt w ↦ grind (arith, w.result-is, first)
-    ]
+returns-after-lt-clause-some c = grind (arith, first_in)
 
 pub returns-in-Some-None-clause-gone : goal.returns-in-Some-None-clause-gone
 returns-in-Some-None-clause-gone c =

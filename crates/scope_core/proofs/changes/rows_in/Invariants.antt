@@ -1,5 +1,6 @@
-use Rattle.scope_core.proofs.Words.{map, row_in, take, ◌≡◌}
-use Rattle.scope_core.proofs.changes.rows_in.Given as goal
+use Rattle.scope_core.proofs
+use proofs.Words.{map, row_in, take, ◌≡◌}
+use proofs.changes.rows_in.Given as goal
 
 -- the rows so far
 abbrev pub invariant-loop-pid : goal.invariant-loop-pid

@@ -1,8 +1,7 @@
 use Rattle.scope_core.proofs
-use proofs.Words.{AllByRecursion, arith, common_steps, pid_of, row_in, same_decides}
-use proofs.Words.{same_row_decides, subst, ◌∷◌, ◌≡◌}
+use proofs.Words.{arith, common_steps, pid_of, row_in, same_decides, same_row_decides, ◌∷◌, ◌≡◌}
 use proofs.GroupRows.{behind_next}
-use Rattle.scope_core.proofs.group_members.behind.Goals as goal
+use proofs.group_members.behind.Goals as goal
 
 pub loop-preserved : goal.loop-preserved
 loop-preserved c = λ node own.
@@ -10,21 +9,9 @@ loop-preserved c = λ node own.
     let row = c.in_ok-row.row.now in
     let others = c.in_ok-row.others.now in
     let x = row_in c.args.group.now (pid_of node c.args.key) in
-    let first : c.loop.rest.now ≡ row ∷ others =
-    grind (arith, common_steps, c.in_ok-row.ensures.cases) in
-    let mine = subst (AllByRecursion (λ r. r.pid.node ≡ node)) first was.1 in
-    let is : row ≡ x =
-    (same_row_decides row x).0
-    (grind (
-      arith,
-      mine.0,
-      same_decides row.pid.node node,
-      c.ne.ensures,
-      c.if-ne.false,
-      c.ne-else-ne.ensures,
-      c.if-ne-2.false,
-      c.of.ensures,
-    )) in
+    let first : c.loop.rest.now ≡ row ∷ others = grind (arith, common_steps) in
+    let mine = rw first at was.1 in
+    let is : row ≡ x = (same_row_decides row x).0 (grind (arith, same_decides)) in
     (behind_next c.args.rows.now c.loop.rest.now others c.loop.counter x row was.0 first is, mine.1)
 
 pub returns-clause-own : goal.returns-clause-own

@@ -1,5 +1,6 @@
-use Rattle.scope_core.proofs.Words.{AllByRecursion, List, pid_of, replicate, row_in, ℕ, ◌++◌, ◌≡◌}
-use Rattle.scope_core.proofs.group_members.behind.Given as goal
+use Rattle.scope_core.proofs
+use proofs.Words.{AllByRecursion, List, pid_of, replicate, row_in, ℕ, ◌++◌, ◌≡◌}
+use proofs.group_members.behind.Given as goal
 
 -- so many rows are the process's so far
 abbrev pub invariant-loop : goal.invariant-loop

@@ -1,8 +1,8 @@
 use Rattle.scope_core.proofs
 use proofs.Words.{ap, append_assoc, arith, List, pid_of, replicate, Row, row_in, ◌++◌, ◌∙◌}
-use Rattle.std.specs.List.Sorted.{IsStrictlySortedBy}
 use proofs.Outcomes.{some_any}
-use Rattle.scope_core.proofs.group_members.behind_all.Goals as goal
+use Rattle.std.specs.List.Sorted.{IsStrictlySortedBy}
+use proofs.group_members.behind_all.Goals as goal
 
 pub loop-key-preserved : goal.loop-key-preserved
 loop-key-preserved c = λ node own.
@@ -12,13 +12,12 @@ loop-key-preserved c = λ node own.
     let first = c.in_ok-rest-in-Many.ensures.begins node was.0 in
     let steps = c.in-Some.ensures.steps in (
       c.in_ok-rest-in-Many.ensures.own node was.0,
-      λ xs h. was.1 xs (first ∙ ap (λ (rs : List Row). x ++ rs) h
-          ∙ grind (arith, append_assoc, steps)),
+      λ xs h. was.1 xs (first ∙ ap (λ (rs : List Row). x ++ rs) h ∙ grind (arith, append_assoc)),
     )
 
 pub returns-in-None-clause-begins : goal.returns-in-None-clause-begins
 returns-in-None-clause-begins c = λ node own.
-    (c.loop-key.invariant node own).1 c.loop-key.rest.now (grind (arith, c.in-None.ensures.steps))
+    (c.loop-key.invariant node own).1 c.loop-key.rest.now (grind arith)
 
 pub returns-in-None-clause-own : goal.returns-in-None-clause-own
 returns-in-None-clause-own c = λ node own. (c.loop-key.invariant node own).0

@@ -1,8 +1,8 @@
-use Rattle.scope_core.proofs.Words.{entries_of, pid_of, spread, ◌++◌, ◌≡◌}
-use Rattle.scope_core.proofs.group_members.push_pids.Given as goal
+use Rattle.scope_core.proofs
+use proofs.Words.{entries_of, pid_of, spread, ◌++◌, ◌≡◌}
+use proofs.group_members.push_pids.Given as goal
 
 -- with those of the entries to come, all are there
 abbrev pub invariant-loop-key : goal.invariant-loop-key
-invariant-loop-key l =
-    l.pids.items ++ spread (λ e. pid_of l.node e.0) (λ e. e.1) l.key-iterator
+invariant-loop-key l = l.pids.items ++ spread (λ e. pid_of l.node e.0) (λ e. e.1) l.key-iterator
     ≡ l.fn.pids.items ++ spread (λ e. pid_of l.node e.0) (λ e. e.1) (entries_of l.members)

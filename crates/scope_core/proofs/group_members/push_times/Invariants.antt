@@ -1,5 +1,6 @@
-use Rattle.scope_core.proofs.Words.{pid_of, replicate, ◌++◌, ◌≡◌}
-use Rattle.scope_core.proofs.group_members.push_times.Given as goal
+use Rattle.scope_core.proofs
+use proofs.Words.{pid_of, replicate, ◌++◌, ◌≡◌}
+use proofs.group_members.push_times.Given as goal
 
 -- the copies so far
 abbrev pub invariant-loop : goal.invariant-loop

@@ -2,7 +2,7 @@ use Rattle.scope_core.proofs
 use proofs.Words.{texts_total}
 use proofs.GroupNodes.{name_found}
 use proofs.Searches.{gap_in}
-use Rattle.scope_core.proofs.group_nodes.place_of.Goals as goal
+use proofs.group_nodes.place_of.Goals as goal
 
 pub returns-clause-found : goal.returns-clause-found
 returns-clause-found c = name_found _ _ _ c.binary_search.ensures.position

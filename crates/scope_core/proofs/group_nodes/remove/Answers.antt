@@ -1,5 +1,6 @@
-use Rattle.scope_core.proofs.GroupNodes.{absent_times}
-use Rattle.scope_core.proofs.group_nodes.remove.Goals as goal
+use Rattle.scope_core.proofs
+use proofs.GroupNodes.{absent_times}
+use proofs.group_nodes.remove.Goals as goal
 
 pub returns-in_default-clause-gone : goal.returns-in_default-clause-gone
 returns-in_default-clause-gone c =

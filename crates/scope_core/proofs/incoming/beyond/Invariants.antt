@@ -1,7 +1,7 @@
 use Rattle.scope_core.proofs
 use proofs.Words.{AllByRecursion, counted_cmp, drop, picked, Rises, times_beyond, ◌++◌, ◌≡◌}
 use proofs.Merges.{IsCountedAs}
-use Rattle.scope_core.proofs.incoming.beyond.Given as goal
+use proofs.incoming.beyond.Given as goal
 
 -- what is more of the rows so far and to come; those left of the others count for the latter as all
 abbrev pub invariant-loop-counted : goal.invariant-loop-counted

@@ -1,7 +1,7 @@
 use Rattle.scope_core.proofs
 use proofs.Words.{false, sym, true}
 use proofs.Merges.{first_counted}
-use Rattle.scope_core.proofs.incoming.count_first.Goals as goal
+use proofs.incoming.count_first.Goals as goal
 
 pub returns-then-eq : goal.returns-then-eq
 returns-then-eq c =

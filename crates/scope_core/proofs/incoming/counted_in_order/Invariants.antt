@@ -1,6 +1,6 @@
 use Rattle.scope_core.proofs
 use proofs.Words.{AreCounted, Bool, counted_cmp, drop, how_many, Rises, Row, tally, ◌+◌, ◌≡◌}
-use Rattle.scope_core.proofs.incoming.counted_in_order.Given as goal
+use proofs.incoming.counted_in_order.Given as goal
 
 -- those so far rise, and are counted; with the rows to come they are all
 abbrev pub invariant-loop-row : goal.invariant-loop-row

@@ -1,7 +1,7 @@
 use Rattle.scope_core.proofs
 use proofs.Words.{Bool, how_many, IsKept, Row, tally, ◌+◌, ◌≡◌}
 use Rattle.std.specs.Vec.Iter.{into_iter_items}
-use Rattle.scope_core.proofs.incoming.counted_of.Given as goal
+use proofs.incoming.counted_of.Given as goal
 
 -- those so far are kept; with the rows to come they are all
 abbrev pub invariant-loop-row : goal.invariant-loop-row

@@ -1,6 +1,6 @@
 use Rattle.scope_core.proofs
 use proofs.Words.{counted_cmp, is_row, length, Less, Rises, Row, row_cmp, tally, ◌≡◌, ◌≢◌}
-use Rattle.scope_core.proofs.incoming.from.Given as goal
+use proofs.incoming.from.Given as goal
 
 -- those left rise, and rows that aren't lower are counted among them as among all
 abbrev pub invariant-loop-first : goal.invariant-loop-first

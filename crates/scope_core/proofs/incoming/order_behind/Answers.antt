@@ -1,8 +1,8 @@
 use Rattle.scope_core.proofs
 use proofs.Words.{ap, Counted, exact_rows, length, rows_total, sym, ◌-◌, ◌∙◌}
-use Rattle.std.proofs.lemmas.Option.{get_or_from_slice_get}
 use proofs.Pushed.{all_below}
-use Rattle.scope_core.proofs.incoming.order_behind.Goals as goal
+use Rattle.std.proofs.lemmas.Option.{get_or_from_slice_get}
+use proofs.incoming.order_behind.Goals as goal
 
 pub returns-in-Some-clause-behind : goal.returns-in-Some-clause-behind
 returns-in-Some-clause-behind c = λ less.

@@ -1,5 +1,6 @@
-use Rattle.scope_core.proofs.Words.{cond, List, list_any, same, times_named, ℕ, ◌&&◌, ◌≡◌}
-use Rattle.scope_core.proofs.indexing.unname.Given as goal
+use Rattle.scope_core.proofs
+use proofs.Words.{cond, List, list_any, same, times_named, ℕ, ◌&&◌, ◌≡◌}
+use proofs.indexing.unname.Given as goal
 
 -- once the node is taken out of the groups to come too, it is out of all
 abbrev pub invariant-loop-group : goal.invariant-loop-group

@@ -1,7 +1,7 @@
 use Rattle.scope_core.proofs
 use proofs.Words.{take_all, ◌∙◌}
 use proofs.Between.{all_emptied}
-use Rattle.scope_core.proofs.leaving.all_gone.Goals as goal
+use proofs.leaving.all_gone.Goals as goal
 
 pub returns : goal.returns
 returns c =

@@ -1,5 +1,6 @@
-use Rattle.scope_core.proofs.Words.{AllByRecursion, IsEmptied, map, take, ◌≡◌}
-use Rattle.scope_core.proofs.leaving.all_gone.Given as goal
+use Rattle.scope_core.proofs
+use proofs.Words.{AllByRecursion, IsEmptied, map, take, ◌≡◌}
+use proofs.leaving.all_gone.Given as goal
 
 -- the groups so far are emptied
 abbrev pub invariant-loop-group : goal.invariant-loop-group

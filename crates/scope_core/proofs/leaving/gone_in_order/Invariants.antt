@@ -1,6 +1,6 @@
 use Rattle.scope_core.proofs
 use proofs.Words.{Ascends, is_row, length, mentions, min, Pid, pid_cmp, tally, ◌++◌, ◌+◌, ◌≡◌}
-use Rattle.scope_core.proofs.leaving.gone_in_order.Given as goal
+use proofs.leaving.gone_in_order.Given as goal
 
 -- those that are gone so far, and those of the rest that go, are all that go
 abbrev pub invariant-loop-pid : goal.invariant-loop-pid

@@ -1,7 +1,7 @@
 use Rattle.scope_core.proofs
 use proofs.Words.{IsPartitionPoint-from_clause, rules, same_pid}
 use proofs.Mentioned.{front_counts, front_is, run_partitions}
-use Rattle.scope_core.proofs.leaving.run_of.Goals as goal
+use proofs.leaving.run_of.Goals as goal
 
 pub returns : goal.returns
 returns c =
@@ -14,6 +14,5 @@ returns c =
     record {
       bound = bound;
       run = front_is q _ ps bound point.0;
-      all =
-          front_counts q _ ps bound point.0 point.1;
+      all = front_counts q _ ps bound point.0 point.1;
     }

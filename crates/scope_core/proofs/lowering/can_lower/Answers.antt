@@ -1,8 +1,7 @@
 use Rattle.scope_core.proofs
-use proofs.Words.{ap, ◌∙◌}
-use Rattle.scope_core.specs.HashedRows.{NodeCounts}
+use proofs.Words.{ap, NodeCounts, ◌∙◌}
 use proofs.LoweredRows.{last_raised, room_for_last, verdict}
-use Rattle.scope_core.proofs.lowering.can_lower.Goals as goal
+use proofs.lowering.can_lower.Goals as goal
 
 pub raise-requires-clause-few : goal.raise-requires-clause-few
 raise-requires-clause-few c =

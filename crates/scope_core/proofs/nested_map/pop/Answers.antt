@@ -1,7 +1,7 @@
 use Rattle.scope_core.proofs
 use proofs.Words.{ap, arith, eq_by_cmp, is_some, None, Some, sym, tied_itself, ◌∙◌}
 use proofs.NestedMaps.{after_two, same_at, set_at}
-use Rattle.scope_core.proofs.nested_map.pop.Goals as goal
+use proofs.nested_map.pop.Goals as goal
 
 pub returns-in_default-pop_first-clause-same : goal.returns-in_default-pop_first-clause-same
 returns-in_default-pop_first-clause-same g c = λ a b.
@@ -19,8 +19,7 @@ returns-then-not-is_empty-clause-taken g c = λ a b.
     set_at g.met.A.Ord.total g.B.Ord.cmp c.args.map.now
     (c.get_mut.follows.lender w) c.args.outer.now a b
     (eq_by_cmp g.B.Ord.cmp c.in-Some-pop_first.inner b) None c.in-Some.place.now (Some w)
-    (up a) c.in-Some.ensures.value
-    (c.in-Some-pop_first.ensures.taken b)
+    (up a) c.in-Some.ensures.value (c.in-Some-pop_first.ensures.taken b)
 
 pub returns-clause-taken : goal.returns-clause-taken
 returns-clause-taken g c = λ a b.
@@ -40,12 +39,7 @@ returns-clause-taken g c = λ a b.
 pub returns-clause-last : goal.returns-clause-last
 returns-clause-last g c = λ last b.
     let gone = c.remove.ensures.updates.0 c.args.outer.now in
-    grind (arith, gone, tied_itself g.met.A.Ord.total c.args.outer.now)
+    grind (arith, tied_itself)
 
 pub returns-then-not-is_empty-clause-more : goal.returns-then-not-is_empty-clause-more
-returns-then-not-is_empty-clause-more g c = λ more.
-    let w = c.pop_first.new.self in
-    let up = ((c.get_mut.follows.holds w).3 (ap is_some (sym c.in-Some.ensures.value))).0 in
-    let at = up c.args.outer.now in
-    let one = c.is_empty.ensures.some c.if-not-is_empty.true in
-    (one.0, grind (arith, at, one.1, tied_itself g.met.A.Ord.total c.args.outer.now))
+returns-then-not-is_empty-clause-more g c = grind (arith, tied_itself)

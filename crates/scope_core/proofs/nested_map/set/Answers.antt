@@ -1,7 +1,7 @@
 use Rattle.scope_core.proofs
 use proofs.Words.{ap, eq_by_cmp, is_some, Some, sym}
 use proofs.NestedMaps.{set_at}
-use Rattle.scope_core.proofs.nested_map.set.Goals as goal
+use proofs.nested_map.set.Goals as goal
 
 pub returns : goal.returns
 returns g c = λ a b.

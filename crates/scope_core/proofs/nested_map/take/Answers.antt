@@ -1,7 +1,7 @@
 use Rattle.scope_core.proofs
 use proofs.Words.{ap, arith, eq_by_cmp, is_some, None, Some, sym, tied_itself, ◌∙◌}
 use proofs.NestedMaps.{after_two, set_at}
-use Rattle.scope_core.proofs.nested_map.take.Goals as goal
+use proofs.nested_map.take.Goals as goal
 
 pub returns-then-is_empty-clause-taken : goal.returns-then-is_empty-clause-taken
 returns-then-is_empty-clause-taken g c = λ a b.
@@ -30,12 +30,7 @@ returns-clause-taken g c = λ a b.
 pub returns-then-is_empty-clause-none : goal.returns-then-is_empty-clause-none
 returns-then-is_empty-clause-none g c = λ last b.
     let gone = c.remove-then-is_empty.ensures.updates.0 c.args.outer.now in
-    grind (arith, gone, tied_itself g.met.A.Ord.total c.args.outer.now)
+    grind (arith, tied_itself)
 
 pub returns-clause-some : goal.returns-clause-some
-returns-clause-some g c = λ more.
-    let w = c.remove.new.self in
-    let up = ((c.get_mut.follows.holds w).3 (ap is_some (sym c.in-Some.ensures.value))).0 in
-    let at = up c.args.outer.now in
-    let one = c.is_empty.ensures.some c.if-is_empty.false in
-    (one.0, grind (arith, at, one.1, tied_itself g.met.A.Ord.total c.args.outer.now))
+returns-clause-some g c = grind (arith, tied_itself)

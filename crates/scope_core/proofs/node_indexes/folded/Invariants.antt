@@ -1,7 +1,7 @@
 use Rattle.scope_core.proofs
 use proofs.Words.{length}
 use proofs.Copies.{Folds}
-use Rattle.scope_core.proofs.node_indexes.folded.Given as goal
+use proofs.node_indexes.folded.Given as goal
 
 -- the names so far are in maps, those to come above them
 abbrev pub invariant-loop-first : goal.invariant-loop-first

@@ -1,7 +1,7 @@
 use Rattle.scope_core.proofs
 use proofs.Words.{counted_cmp, length, List, ProcessKey, Rises, SmallMap, ℕ, ◌++◌}
 use proofs.Making.{Indexes}
-use Rattle.scope_core.proofs.node_indexes.groups_of.Given as goal
+use proofs.node_indexes.groups_of.Given as goal
 
 -- with an index of the rows to come, there is one of all
 abbrev pub invariant-loop-first : goal.invariant-loop-first

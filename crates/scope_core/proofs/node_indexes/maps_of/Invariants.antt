@@ -1,5 +1,6 @@
-use Rattle.scope_core.proofs.Words.{keyed_maps, take, ◌≡◌}
-use Rattle.scope_core.proofs.node_indexes.maps_of.Given as goal
+use Rattle.scope_core.proofs
+use proofs.Words.{keyed_maps, take, ◌≡◌}
+use proofs.node_indexes.maps_of.Given as goal
 
 -- those of the rows so far
 abbrev pub invariant-loop-counted : goal.invariant-loop-counted

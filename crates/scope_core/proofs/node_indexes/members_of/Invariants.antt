@@ -1,7 +1,7 @@
 use Rattle.scope_core.proofs
 use proofs.Words.{take, ◌≡◌}
 use proofs.Making.{pairs}
-use Rattle.scope_core.proofs.node_indexes.members_of.Given as goal
+use proofs.node_indexes.members_of.Given as goal
 
 -- those of the rows so far
 abbrev pub invariant-loop-counted : goal.invariant-loop-counted

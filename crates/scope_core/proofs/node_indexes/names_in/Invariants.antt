@@ -1,5 +1,6 @@
-use Rattle.scope_core.proofs.Words.{keys_of, map, take, ◌≡◌}
-use Rattle.scope_core.proofs.node_indexes.names_in.Given as goal
+use Rattle.scope_core.proofs
+use proofs.Words.{keys_of, map, take, ◌≡◌}
+use proofs.node_indexes.names_in.Given as goal
 
 -- the groups of the names so far
 abbrev pub invariant-loop-name : goal.invariant-loop-name

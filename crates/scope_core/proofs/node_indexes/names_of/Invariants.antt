@@ -1,5 +1,6 @@
-use Rattle.scope_core.proofs.Words.{keyed, take, ◌≡◌}
-use Rattle.scope_core.proofs.node_indexes.names_of.Given as goal
+use Rattle.scope_core.proofs
+use proofs.Words.{keyed, take, ◌≡◌}
+use proofs.node_indexes.names_of.Given as goal
 
 -- those of the rows so far
 abbrev pub invariant-loop-counted : goal.invariant-loop-counted

@@ -1,8 +1,8 @@
 use Rattle.scope_core.proofs
 use proofs.Words.{always_returns_same, ap, Ascends, get, is_held, is_keyed, key_cmp, keys_of, refl}
-use proofs.Words.{Rises, rules, subst, sym, ◌∙◌}
+use proofs.Words.{rules, subst, sym, ◌∙◌}
 use proofs.Copies.{keyed_sorted, keys_of_maps, maps_are, names_found, sorted_keys}
-use Rattle.scope_core.proofs.node_indexes.processes_of.Goals as goal
+use proofs.node_indexes.processes_of.Goals as goal
 
 pub returns-then-processes_rise : goal.returns-then-processes_rise
 returns-then-processes_rise c =
@@ -11,14 +11,11 @@ returns-then-processes_rise c =
     let is = c.in_ok-maps_of.ensures in
     let keys = ap keys_of is ∙ keys_of_maps rows in
     names_found rows es (get key_cmp c.in_ok-map.map) c.in_ok-map.ensures.found
-    (subst (Rises key_cmp) (sym keys) (c.if-processes_rise.ensures refl))
-    (λ k g. ap (is_held k g) is ∙ maps_are k g rows)
+    (rw keys (c.if-processes_rise.ensures refl)) (λ k g. ap (is_held k g) is ∙ maps_are k g rows)
 
 pub folded-requires : goal.folded-requires
-folded-requires c =
-    subst (λ ns. Ascends key_cmp (keys_of ns)) (sym c.deref.ensures.value)
-    (sorted_keys c.sort_by_key.new.self.items
-    (c.in_ok-sort_by_key.ensures.sorted (λ p. p.0)
+folded-requires c = subst (λ ns. Ascends key_cmp (keys_of ns)) (sym c.deref.ensures.value)
+    (sorted_keys c.sort_by_key.new.self.items (c.in_ok-sort_by_key.ensures.sorted (λ p. p.0)
     (always_returns_same _ _ _ (λ a r q k. search rules))))
 
 pub returns : goal.returns

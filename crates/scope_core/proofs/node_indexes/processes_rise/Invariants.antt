@@ -1,5 +1,6 @@
-use Rattle.scope_core.proofs.Words.{drop, key_cmp, option_to_list, process_keys, Rises, ◌++◌}
-use Rattle.scope_core.proofs.node_indexes.processes_rise.Given as goal
+use Rattle.scope_core.proofs
+use proofs.Words.{drop, key_cmp, option_to_list, process_keys, Rises, ◌++◌}
+use proofs.node_indexes.processes_rise.Given as goal
 
 -- where the last key and those to come rise, all do
 abbrev pub invariant-loop-counted : goal.invariant-loop-counted

@@ -1,5 +1,6 @@
-use Rattle.scope_core.proofs.Words.{AllWithin, is_eq, key_cmp, true, ◌≡◌}
-use Rattle.scope_core.proofs.node_indexes.run_under.Given as goal
+use Rattle.scope_core.proofs
+use proofs.Words.{AllWithin, is_eq, key_cmp, true, ◌≡◌}
+use proofs.node_indexes.run_under.Given as goal
 
 -- the names so far stand under the key
 abbrev pub invariant-loop-len : goal.invariant-loop-len

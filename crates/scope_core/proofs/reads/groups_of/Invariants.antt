@@ -1,5 +1,6 @@
-use Rattle.scope_core.proofs.Words.{drop, heads, last_of, None, ◌++◌, ◌≡◌}
-use Rattle.scope_core.proofs.reads.groups_of.Given as goal
+use Rattle.scope_core.proofs
+use proofs.Words.{drop, heads, last_of, None, ◌++◌, ◌≡◌}
+use proofs.reads.groups_of.Given as goal
 
 -- the groups so far, and those of the rows to come, are all
 abbrev pub invariant-loop-counted : goal.invariant-loop-counted

@@ -1,5 +1,6 @@
-use Rattle.scope_core.proofs.Words.{drop, spread, ◌++◌, ◌≡◌}
-use Rattle.scope_core.proofs.reads.pids_of.Given as goal
+use Rattle.scope_core.proofs
+use proofs.Words.{drop, spread, ◌++◌, ◌≡◌}
+use proofs.reads.pids_of.Given as goal
 
 -- the processes of the rows so far, and of those to come
 abbrev pub invariant-loop-counted : goal.invariant-loop-counted

@@ -1,5 +1,6 @@
-use Rattle.scope_core.proofs.Words.{replicate, ◌++◌, ◌≡◌}
-use Rattle.scope_core.proofs.reads.push_copies.Given as goal
+use Rattle.scope_core.proofs
+use proofs.Words.{replicate, ◌++◌, ◌≡◌}
+use proofs.reads.push_copies.Given as goal
 
 -- the copies so far
 abbrev pub invariant-loop : goal.invariant-loop

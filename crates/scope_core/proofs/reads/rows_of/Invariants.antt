@@ -1,5 +1,6 @@
-use Rattle.scope_core.proofs.Words.{drop, spread, ◌++◌, ◌≡◌}
-use Rattle.scope_core.proofs.reads.rows_of.Given as goal
+use Rattle.scope_core.proofs
+use proofs.Words.{drop, spread, ◌++◌, ◌≡◌}
+use proofs.reads.rows_of.Given as goal
 
 -- the copies so far, and those to come
 abbrev pub invariant-loop-counted : goal.invariant-loop-counted

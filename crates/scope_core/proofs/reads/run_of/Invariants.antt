@@ -1,5 +1,6 @@
-use Rattle.scope_core.proofs.Words.{AllWithin, is_in, true, ◌≡◌}
-use Rattle.scope_core.proofs.reads.run_of.Given as goal
+use Rattle.scope_core.proofs
+use proofs.Words.{AllWithin, is_in, true, ◌≡◌}
+use proofs.reads.run_of.Given as goal
 
 -- the rows so far are of the group
 abbrev pub invariant-loop-len : goal.invariant-loop-len

@@ -1,5 +1,6 @@
-use Rattle.scope_core.proofs.Words.{drop, total, ◌+◌, ◌≡◌}
-use Rattle.scope_core.proofs.reads.total_of.Given as goal
+use Rattle.scope_core.proofs
+use proofs.Words.{drop, total, ◌+◌, ◌≡◌}
+use proofs.reads.total_of.Given as goal
 
 -- the total so far, and that of the rows to come
 abbrev pub invariant-loop-counted : goal.invariant-loop-counted

@@ -1,16 +1,16 @@
 use Rattle.scope_core.proofs
-use proofs.Words.{ap, arith, common_steps, cond, node_names, None, Rises, same, same_decides, Some}
-use proofs.Words.{subst, sym, text_cmp, [], ◌∙◌, ◌≡◌}
+use proofs.Words.{ap, arith, common_steps, cond, node_names, None, same, same_decides, Some, sym}
+use proofs.Words.{[], ◌∙◌, ◌≡◌}
 use proofs.GroupNodes.{found_nodes, gone_at, none_times, same_place, set_at, set_rises, set_times}
 use proofs.GroupNodes.{times}
-use Rattle.scope_core.proofs.group_nodes.GroupNodes.take.Goals.{in-None-1, in-Some-1}
-use Rattle.scope_core.proofs.group_nodes.GroupNodes.take.Goals as goal
+use proofs.group_nodes.GroupNodes.take.Goals.{in-None-1, in-Some-1}
+use proofs.group_nodes.GroupNodes.take.Goals as goal
 
 pub returns-in_default : goal.returns-in_default
 returns-in_default c = λ g n.
     let none =
     none_times c.self.inside.nodes.entries c.args.group.now (sym c.in_default.ensures.value) in
-    rw (← c.self.view_is) (grind (arith, none n, same_decides c.args.group.now g))
+    grind (arith, none n, same_decides)
 
 pub remove-requires : goal.remove-requires
 remove-requires c =
@@ -19,7 +19,7 @@ remove-requires c =
     let got = c.in-Some.ensures in
     let at = c.pair_mut-nodes.ensures in
     let place = same_place m.entries c.in-Some.at g got.entry at.value got.key got.value in
-    subst (Rises text_cmp) (sym (found_nodes m.entries g _ place.value)) (c.self.invariant g)
+    rw (found_nodes m.entries g _ place.value) (c.self.invariant g)
 
 pub invariant_of-self : goal.invariant_of-self
 invariant_of-self c =
@@ -71,14 +71,13 @@ returns-then-is_empty c =
     let up = gone_at m c.in-Some.at g _ _ w at.unique place
     c.swap_remove_index.new.self c.swap_remove_index.result gone.entry gone.updates in
     let was = found_nodes m.entries g _ place.value in
-    let none : w.items ≡ [] = grind (arith, common_steps, c.is_empty.ensures, c.if-is_empty.true) in
+    let none : w.items ≡ [] = grind (arith, common_steps) in
     let is : c.match-swap_remove_index.self ≡ node_names c.swap_remove_index.new.self.entries =
     elim c.match-swap_remove_index.branch [
       | in-Some-1 b ↦ b.self-is
       | in-None-1 b ↦ b.self-is
     ] in
-    rw (is, ← c.self.view_is)
-    (set_times m.entries _ g None up n 0
+    rw (is, ← c.self.view_is) (set_times m.entries _ g None up n 0
     (λ q. sym (ap (λ ns. times ns q) none) ∙ c.remove.ensures.gone q
     ∙ ap (λ ns. cond (same n q) 0 (times ns q)) was))
 

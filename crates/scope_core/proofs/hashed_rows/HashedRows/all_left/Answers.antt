@@ -2,7 +2,7 @@ use Rattle.scope_core.proofs
 use proofs.Words.{AllByRecursion, ap, append_assoc, arith, subst, sym, ◌++◌, ◌∙◌}
 use proofs.GroupRows.{SortedMembers}
 use proofs.GroupIndex.{all_gone, all_leave}
-use Rattle.scope_core.proofs.hashed_rows.HashedRows.all_left.Goals as goal
+use proofs.hashed_rows.HashedRows.all_left.Goals as goal
 
 pub loop-group-preserved : goal.loop-group-preserved
 loop-group-preserved c =
@@ -15,7 +15,7 @@ loop-group-preserved c =
       ap (λ cs. cs ++ all_gone node c.next.new.self) put
           ∙ append_assoc done _ (all_gone node c.next.new.self)
           ∙ ap (λ i. done ++ all_gone node i) (sym steps) ∙ was.0,
-      λ a. was.1 (grind (arith, steps, a, c.in_ok-push_pids.ensures.ordered)),
+      λ a. was.1 (grind arith),
     )
 
 pub returns : goal.returns

@@ -2,7 +2,7 @@ use Rattle.scope_core.proofs
 use proofs.Words.{AllByRecursion, ◌++◌, ◌≡◌}
 use proofs.GroupRows.{SortedMembers}
 use proofs.GroupIndex.{all_gone}
-use Rattle.scope_core.proofs.hashed_rows.HashedRows.all_left.Given as goal
+use proofs.hashed_rows.HashedRows.all_left.Given as goal
 
 -- with those of the groups to come, all changes are there
 abbrev pub invariant-loop-group : goal.invariant-loop-group

@@ -3,7 +3,7 @@ use proofs.Words.{AllByRecursion, ap, append_assoc, arith, entries_of, List, Nod
 use proofs.Words.{sym, [], ◌++◌, ◌∙◌, ◌≡◌}
 use proofs.GroupRows.{SortedMembers}
 use proofs.GroupIndex.{all_repeated, members_repeated, no_rows, repeated}
-use Rattle.scope_core.proofs.hashed_rows.HashedRows.are_just.Goals as goal
+use proofs.hashed_rows.HashedRows.are_just.Goals as goal
 
 pub loop-group-preserved : goal.loop-group-preserved
 loop-group-preserved c =
@@ -15,8 +15,8 @@ loop-group-preserved c =
     let begins = done.begins node was.0 in (
       done.own node was.0,
       λ xs h. was.1 xs (begins ∙ ap (λ (rs : List Row). first ++ rs) h
-          ∙ grind (arith, append_assoc, steps)),
-      λ a. was.2 (grind (arith, steps, a, done.ordered)),
+          ∙ grind (arith, append_assoc)),
+      λ a. was.2 (grind arith),
     )
 
 pub returns : goal.returns

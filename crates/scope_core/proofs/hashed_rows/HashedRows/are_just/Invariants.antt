@@ -2,7 +2,7 @@ use Rattle.scope_core.proofs
 use proofs.Words.{AllByRecursion, List, Row, ◌++◌, ◌≡◌}
 use proofs.GroupRows.{SortedMembers}
 use proofs.GroupIndex.{repeated}
-use Rattle.scope_core.proofs.hashed_rows.HashedRows.are_just.Given as goal
+use proofs.hashed_rows.HashedRows.are_just.Given as goal
 
 -- once those of the groups to come stand before the rest, all stand before it
 abbrev pub invariant-loop-group : goal.invariant-loop-group

@@ -1,7 +1,7 @@
 use Rattle.scope_core.proofs
 use proofs.Words.{ap, is_row, NodeTable, row_in, sym, tally, ◌∙◌}
 use proofs.HashedRows.{count_is}
-use Rattle.scope_core.proofs.hashed_rows.HashedRows.count.Goals as goal
+use proofs.hashed_rows.HashedRows.count.Goals as goal
 
 pub returns : goal.returns
 returns c =

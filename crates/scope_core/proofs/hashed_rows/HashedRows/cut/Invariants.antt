@@ -1,5 +1,6 @@
-use Rattle.scope_core.proofs.Words.{length, take, ◌≡◌}
-use Rattle.scope_core.proofs.hashed_rows.HashedRows.cut.Given as goal
+use Rattle.scope_core.proofs
+use proofs.Words.{length, take, ◌≡◌}
+use proofs.hashed_rows.HashedRows.cut.Given as goal
 
 -- the first rows stay
 abbrev pub invariant-loop-self : goal.invariant-loop-self

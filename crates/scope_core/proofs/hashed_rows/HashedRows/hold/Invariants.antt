@@ -1,5 +1,6 @@
-use Rattle.scope_core.proofs.Words.{Bool, length, Row, stands, take, tally, ◌||◌, ◌≡◌, ◌≤◌}
-use Rattle.scope_core.proofs.hashed_rows.HashedRows.hold.Given as goal
+use Rattle.scope_core.proofs
+use proofs.Words.{Bool, length, Row, stands, take, tally, ◌||◌, ◌≡◌, ◌≤◌}
+use proofs.hashed_rows.HashedRows.hold.Given as goal
 
 -- the first rows are those that were there, and those of the list so far stand behind them
 abbrev pub invariant-loop-counted : goal.invariant-loop-counted

@@ -1,20 +1,19 @@
 use Rattle.scope_core.proofs
-use proofs.Words.{AllByRecursion, ap, append-nil, counted_cmp, is_row, Rises, subst, sym, tally}
-use proofs.Words.{◌++◌, ◌∙◌}
+use proofs.Words.{AllByRecursion, ap, append-nil, is_row, subst, sym, tally, ◌++◌, ◌∙◌}
 use proofs.GroupRows.{flat, flat_rises, SortedMembers}
 use proofs.GroupIndex.{index_tally}
-use Rattle.scope_core.proofs.hashed_rows.HashedRows.in_order.Goals as goal
+use proofs.hashed_rows.HashedRows.in_order.Goals as goal
 
 pub returns-clause-rises : goal.returns-clause-rises
 returns-clause-rises c =
     let table = c.self.inside in
     let rows = c.loop-group.rows.items in
     let done = c.in-None.ensures.steps.0 in
-    let sorted = c.loop-group.invariant.1 (subst (AllByRecursion SortedMembers) (sym done) tt) in
+    let sorted = c.loop-group.invariant.1 (rw done tt) in
     let ended = sym (append-nil rows) ∙ ap (λ i. rows ++ flat table.counts.node i) (sym done) in
     let ordered = c.iter-group-items.ensures.ordered in
     let all = flat_rises table.counts.node table.groups.entries ordered sorted in
-    subst (Rises counted_cmp) (sym (ended ∙ c.loop-group.invariant.0)) all
+    rw (ended ∙ c.loop-group.invariant.0) all
 
 pub returns-clause-counts : goal.returns-clause-counts
 returns-clause-counts c = λ g p.

@@ -1,7 +1,7 @@
 use Rattle.scope_core.proofs
 use proofs.Words.{AllByRecursion, ◌++◌, ◌≡◌}
 use proofs.GroupRows.{flat, SortedMembers}
-use Rattle.scope_core.proofs.hashed_rows.HashedRows.in_order.Given as goal
+use proofs.hashed_rows.HashedRows.in_order.Given as goal
 
 -- with the groups to come, all rows are there; and where those are in order, all are
 abbrev pub invariant-loop-group : goal.invariant-loop-group

@@ -6,40 +6,36 @@ use proofs.HashedWrites.{row_of}
 use proofs.Outcomes.{if_both}
 use proofs.ProcessRows.{in_keys, none_beside, process_leaves, sorted_rises}
 use Rattle.scope_core.proofs.hashed_rows.HashedRows.left_by.Goals.{After-left_from}
-use Rattle.scope_core.proofs.hashed_rows.HashedRows.left_by.Goals as goal
+use proofs.hashed_rows.HashedRows.left_by.Goals as goal
 
 -- the index has the groups of the rows of the process
-listed : (c : After-left_from) (g : List ℕ)
-    → is_among g (keys_of (entries_of c.in-Some.groups.now))
+listed : (c : After-left_from) (g : List ℕ) → is_among g (keys_of (entries_of c.in-Some.groups.now))
     ≡ has_row c.self.inside.counts.entries (row_in g c.args.pid.now)
-listed c g =
-    sym (in_keys g (entries_of c.in-Some.groups.now))
+listed c g = sym (in_keys g (entries_of c.in-Some.groups.now))
     ∙ ap (λ o. is_some (found text_cmp o g)) c.in-Some.ensures.value
     ∙ c.self.invariant.by_process c.of.result g
     ∙ row_of c.self.inside.counts.node g c.args.pid.now c.of.result c.self.inside.counts.entries
-    (c.requires.own ∙ sym (ap (λ (t : NodeTable). t.node) c.self.view_is)) c.of.ensures
+    (rw (← c.self.view_is) at c.requires.own) c.of.ensures
 
 pub returns : goal.returns
 returns c =
     let es = c.self.inside.counts.entries in
     let p = c.args.pid.now in
     let gs = keys_of (entries_of c.in-Some.groups.now) in
-    rw (← c.self.view_is)
-    (if_both c.left_from.result (λ changes is sorted before after goes none.
+    rw (← c.self.view_is) (if_both c.left_from.result (λ changes is sorted before after goes none.
     subst (IsDifference before after)
     (sym (is ∙ ap (λ (t : NodeTable). changes_left_by t.rows p gs) (sym c.self.view_is)))
     (process_leaves es c.self.invariant.once p gs (sorted_rises gs sorted) (listed c) before after
-    goes none))
-    c.left_from.ensures.changes c.left_from.ensures.ordered)
+    goes none)) c.left_from.ensures.changes c.left_from.ensures.ordered)
 
 pub returns-then-len-eq1 : goal.returns-then-len-eq1
 returns-then-len-eq1 c =
-    let own = c.requires.own ∙ sym (ap (λ (t : NodeTable). t.node) c.self.view_is) in
+    let own = rw (← c.self.view_is) at c.requires.own in
     let there = sym (ap is_some c.in-Some.ensures.value) in
     IfOk-weaker c.all_left.result _ _ (λ changes all before after goes none.
     all before after (λ g p.
     let others = none_beside c.self.invariant c.args.pid.now own
-    (grind (arith, c.len.ensures.len, c.if-len-eq1.true)) (rw c.of.ensures at there) g p in
+    (grind arith) (rw c.of.ensures at there) g p in
     goes g p ∙ rw (← c.self.view_is) (grind (arith, others))) none)
     c.all_left.ensures
 
@@ -47,7 +43,7 @@ pub returns-in_default : goal.returns-in_default
 returns-in_default c =
     let es = c.self.inside.counts.entries in
     let p = c.args.pid.now in
-    let own = c.requires.own ∙ sym (ap (λ (t : NodeTable). t.node) c.self.view_is) in
+    let own = rw (← c.self.view_is) at c.requires.own in
     let none = λ (h : List ℕ). ap (λ o. is_some (found text_cmp o h)) c.in_default.ensures.value
     ∙ c.self.invariant.by_process c.of.result h
     ∙ row_of c.self.inside.counts.node h p c.of.result es own c.of.ensures in

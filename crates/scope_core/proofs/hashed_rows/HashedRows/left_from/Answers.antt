@@ -1,6 +1,7 @@
+use Rattle.scope_core.proofs
+use proofs.Outcomes.{on_ok}
 use Rattle.std.specs.List.Sorted.{IsStrictlySortedBy}
-use Rattle.scope_core.proofs.Outcomes.{on_ok}
-use Rattle.scope_core.proofs.hashed_rows.HashedRows.left_from.Goals as goal
+use proofs.hashed_rows.HashedRows.left_from.Goals as goal
 
 pub returns-in-Empty-clause-ordered : goal.returns-in-Empty-clause-ordered
 unfolding IsStrictlySortedBy

@@ -1,5 +1,6 @@
-use Rattle.scope_core.proofs.Words.{changes_left_by, entries_of, keys_of, ◌++◌, ◌≡◌}
-use Rattle.scope_core.proofs.hashed_rows.HashedRows.left_from.Given as goal
+use Rattle.scope_core.proofs
+use proofs.Words.{changes_left_by, entries_of, keys_of, ◌++◌, ◌≡◌}
+use proofs.hashed_rows.HashedRows.left_from.Given as goal
 
 -- with those of the groups to come, all changes are there
 abbrev pub invariant-loop-group : goal.invariant-loop-group

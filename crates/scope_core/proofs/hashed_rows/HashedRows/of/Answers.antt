@@ -1,8 +1,7 @@
 use Rattle.scope_core.proofs
-use proofs.Words.{ap, counted_in, ◌∙◌}
-use Rattle.scope_core.specs.HashedRows.{NodeCounts}
+use proofs.Words.{ap, counted_in, NodeCounts, ◌∙◌}
 use proofs.RowEntries.{back_again, hashed_of}
-use Rattle.scope_core.proofs.hashed_rows.HashedRows.of.Goals as goal
+use proofs.hashed_rows.HashedRows.of.Goals as goal
 
 pub invariant_of-result : goal.invariant_of-result
 invariant_of-result c =

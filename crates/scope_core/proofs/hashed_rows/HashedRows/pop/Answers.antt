@@ -1,11 +1,9 @@
 use Rattle.scope_core.proofs
-use proofs.Words.{ap, Counted, counted_in, length, length-map, NodeTable, None, refl, Row, row_at}
-use proofs.Words.{sym, take, ℕ, ◌-◌, ◌∙◌}
-use Rattle.std.proofs.lemmas.List.{take-map}
-use Rattle.scope_core.specs.HashedRows.{NodeCounts}
+use proofs.Words.{ap, Counted, counted_in, length, length-map, NodeCounts, NodeTable, None, refl}
+use proofs.Words.{Row, row_at, sym, take, take-map, ℕ, ◌-◌, ◌∙◌}
 use proofs.HashedRows.{some_cond}
 use proofs.HashedWrites.{hashed_write}
-use Rattle.scope_core.proofs.hashed_rows.HashedRows.pop.Goals as goal
+use proofs.hashed_rows.HashedRows.pop.Goals as goal
 
 pub invariant_of-self-2 : goal.invariant_of-self-2
 invariant_of-self-2 c =

@@ -2,7 +2,7 @@ use Rattle.scope_core.proofs
 use proofs.Words.{ap, arith, is_row, NodeTable, stands, sym, tally, ◌∙◌, ◌≡◌}
 use proofs.HashedRows.{count_is, own_at, stands_is}
 use Rattle.scope_core.proofs.hashed_rows.HashedRows.raise.Goals.{After-get-count}
-use Rattle.scope_core.proofs.hashed_rows.HashedRows.raise.Goals as goal
+use proofs.hashed_rows.HashedRows.raise.Goals as goal
 
 pub get-count-requires : goal.get-count-requires
 get-count-requires c =
@@ -15,17 +15,12 @@ get-count-requires c =
 -- it is counted as the map has it
 count : (c : After-get-count) → c.get-count.result
     ≡ tally (is_row c.args.row.now.group c.args.row.now.pid) c.args.self.now.rows
-count c =
-    let row = c.args.row.now in
-    c.get-count.ensures ∙ sym (count_is row c.self.inside.counts.entries c.self.invariant.once)
-    ∙ ap (λ (t : NodeTable). tally (is_row row.group row.pid) t.rows) c.self.view_is
+count c = rw (← c.self.view_is) (grind (arith, count_is))
 
 pub returns-clause-tallies : goal.returns-clause-tallies
 returns-clause-tallies c = λ test.
     let is = count (goal.at.returns-clause-tallies c).After-get-count in
-    grind (arith, c.set.ensures.tallies test, is)
+    grind (arith, c.set.ensures.tallies test)
 
 pub overflow_add-count : goal.overflow_add-count
-overflow_add-count c =
-    let is = count (goal.at.overflow_add-count c).After-get-count in
-    omega (arith, is, c.requires.few)
+overflow_add-count c = omega (arith, count)

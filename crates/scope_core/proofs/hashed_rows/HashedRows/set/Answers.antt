@@ -4,12 +4,11 @@ use proofs.Words.{set_value, Some, stands, sym, tally, true, ◌+◌, ◌∙◌,
 use proofs.HashedRows.{count_is, own_at, set_bare, set_tally, stands_is}
 use proofs.HashedWrites.{at_row, hashed_write, named_still, set_counted}
 use Rattle.scope_core.proofs.hashed_rows.HashedRows.set.Goals.{After-self}
-use Rattle.scope_core.proofs.hashed_rows.HashedRows.set.Goals as goal
+use proofs.hashed_rows.HashedRows.set.Goals as goal
 
 -- the row is there
 there : (c : After-self) → has_row c.self.inside.counts.entries c.args.row.now ≡ true
-there c =
-    sym (stands_is c.args.row.now c.self.inside.counts.entries)
+there c = sym (stands_is c.args.row.now c.self.inside.counts.entries)
     ∙ ap (λ (t : NodeTable). stands c.args.row.now t.rows) c.self.view_is ∙ c.requires
 
 own : (c : After-self) → c.args.row.now.pid.node ≡ c.self.inside.counts.node
@@ -36,8 +35,7 @@ pub invariant_of-self : goal.invariant_of-self
 invariant_of-self c =
     let row = c.args.row.now in
     let start = (goal.at.invariant_of-self c).After-self in
-    rw c.set.ensures.node
-    (hashed_write c.self.invariant row (own start) (Some c.args.count)
+    rw c.set.ensures.node (hashed_write c.self.invariant row (own start) (Some c.args.count)
     _ _ _ c.set.ensures.once c.set.ensures.written (rw c.of-key.ensures at c.set-2.ensures)
     (λ k g. named_still c.self.inside.counts.node g k row (own start)
     c.self.inside.counts.entries _ (c.self.invariant.by_process k g) (there start)))
@@ -53,11 +51,9 @@ returns-clause-tallies c = λ test.
     ∙ set_tally row n es (there (goal.at.returns-clause-tallies c).After-self) test)
 
 pub returns-clause-rows : goal.returns-clause-rows
-returns-clause-rows c =
-    rw (← c.self.view_is, c.set.ensures.entries)
+returns-clause-rows c = rw (← c.self.view_is, c.set.ensures.entries)
     (set_bare c.args.row.now c.args.count c.self.inside.counts.entries)
 
 pub returns-clause-counted : goal.returns-clause-counted
-returns-clause-counted c = λ some.
-    rw (← c.self.view_is, c.set.ensures.entries)
+returns-clause-counted c = λ some. rw (← c.self.view_is, c.set.ensures.entries)
     (set_counted c.args.row.now c.args.count c.self.inside.counts.entries some)

@@ -1,11 +1,10 @@
 use Rattle.scope_core.proofs
 use proofs.Words.{ap, arith, IfOk-weaker, is_row, NodeTable, sym, tally, ◌∙◌}
 use proofs.NodeTables.{node_count}
-use Rattle.scope_core.proofs.indexed_rows.IndexedRows.in_order.Goals as goal
+use proofs.indexed_rows.IndexedRows.in_order.Goals as goal
 
 pub returns-in-Some-clause-counts : goal.returns-in-Some-clause-counts
-returns-in-Some-clause-counts c =
-    IfOk-weaker c.in_order.result _ _ (λ rows counts g p.
+returns-in-Some-clause-counts c = IfOk-weaker c.in_order.result _ _ (λ rows counts g p.
     let mine = node_count c.args.node.now g p c.self.inside.lists c.in-Some.list.now.rows
     c.in-Some.ensures.rows in
     rw (← c.self.view_is)
@@ -15,4 +14,4 @@ returns-in-Some-clause-counts c =
 pub returns-in-None-clause-counts : goal.returns-in-None-clause-counts
 returns-in-None-clause-counts c = λ g p.
     let mine = node_count c.args.node.now g p c.self.inside.lists _ (sym c.in-None.ensures.none) in
-    rw (← c.self.view_is) (grind (arith, mine, c.new.ensures.items))
+    grind arith

@@ -1,7 +1,7 @@
 use Rattle.scope_core.proofs
 use proofs.Words.{ap, is_row, tally, ◌∙◌}
 use proofs.Indexed.{all_gathered}
-use Rattle.scope_core.proofs.indexed_rows.IndexedRows.members.Goals as goal
+use proofs.indexed_rows.IndexedRows.members.Goals as goal
 
 pub returns : goal.returns
 returns c = record {

@@ -1,7 +1,7 @@
 use Rattle.scope_core.proofs
 use proofs.Words.{ap, arith, cond, has_members, NodeTable, refl, subst, sym, times_named, ◌∙◌, ◌≤◌}
 use proofs.Indexed.{dropped}
-use Rattle.scope_core.proofs.indexed_rows.IndexedRows.remove_node.Goals as goal
+use proofs.indexed_rows.IndexedRows.remove_node.Goals as goal
 
 pub invariant_of-self : goal.invariant_of-self
 invariant_of-self c =

@@ -1,7 +1,7 @@
 use Rattle.scope_core.proofs
 use proofs.Words.{sym, Table, ◌∙◌}
 use proofs.GoneRows.{all_taken, all_totals, listed_within}
-use Rattle.scope_core.proofs.indexed_rows.IndexedRows.take_listed.Goals as goal
+use proofs.indexed_rows.IndexedRows.take_listed.Goals as goal
 
 pub returns-then-total_of-rows-clause-rows : goal.returns-then-total_of-rows-clause-rows
 returns-then-total_of-rows-clause-rows c =

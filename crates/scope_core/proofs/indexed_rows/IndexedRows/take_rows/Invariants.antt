@@ -1,5 +1,6 @@
-use Rattle.scope_core.proofs.Words.{Joins, take}
-use Rattle.scope_core.proofs.indexed_rows.IndexedRows.take_rows.Given as goal
+use Rattle.scope_core.proofs
+use proofs.Words.{Joins, take}
+use proofs.indexed_rows.IndexedRows.take_rows.Given as goal
 
 -- those so far are taken
 abbrev pub invariant-loop-counted : goal.invariant-loop-counted

@@ -1,5 +1,6 @@
-use Rattle.scope_core.proofs.Words.{Forgets, is_named, take}
-use Rattle.scope_core.proofs.listings.Listings.forget_changed.Given as goal
+use Rattle.scope_core.proofs
+use proofs.Words.{Forgets, is_named, take}
+use proofs.listings.Listings.forget_changed.Given as goal
 
 -- no list of the groups so far is kept
 abbrev pub invariant-loop-change : goal.invariant-loop-change

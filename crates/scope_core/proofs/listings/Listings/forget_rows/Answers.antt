@@ -2,7 +2,7 @@ use Rattle.scope_core.proofs
 use proofs.Words.{ap, arith, has_members, length, List, list_any, same, true, ℕ, ◌∙◌, ◌≡◌}
 use proofs.Kept.{forgets_end, still_listed}
 use proofs.Indexed.{got_named}
-use Rattle.scope_core.proofs.listings.Listings.forget_rows.Goals as goal
+use proofs.listings.Listings.forget_rows.Goals as goal
 
 pub returns : goal.returns
 returns c = λ before after listed stays.
@@ -15,5 +15,4 @@ returns c = λ before after listed stays.
     let forgot = forgets_end (λ g e. same e.0 g) all c.args.self.now c.loop-group.group-iterator
     c.loop-group.self (ap length c.in-None.ensures.steps.0) c.loop-group.invariant in
     still_listed c.args.self.now c.loop-group.self before after listed
-    (λ g. list_any (λ e. same e.0 g) all) forgot
-    (λ g e. stays g (grind (arith, got g, e)))
+    (λ g. list_any (λ e. same e.0 g) all) forgot (λ g e. stays g (grind (arith, got g)))

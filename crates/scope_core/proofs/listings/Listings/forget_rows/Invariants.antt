@@ -1,7 +1,7 @@
 use Rattle.scope_core.proofs
 use proofs.Words.{same}
 use proofs.Kept.{Forgetting}
-use Rattle.scope_core.proofs.listings.Listings.forget_rows.Given as goal
+use proofs.listings.Listings.forget_rows.Given as goal
 
 -- once the lists of the groups to come are forgotten too, those of all are
 abbrev pub invariant-loop-group : goal.invariant-loop-group

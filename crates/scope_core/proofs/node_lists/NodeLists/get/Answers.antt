@@ -1,11 +1,10 @@
 use Rattle.scope_core.proofs
 use proofs.Words.{ap, of_node, sym, ◌∙◌}
 use proofs.NodeTables.{if_none, if_some, no_table, table_node, table_rows}
-use Rattle.scope_core.proofs.node_lists.NodeLists.get.Goals as goal
+use proofs.node_lists.NodeLists.get.Goals as goal
 
 pub returns-clause-node : goal.returns-clause-node
-returns-clause-node c =
-    if_some c.get.result _ c.get.ensures.value
+returns-clause-node c = if_some c.get.result _ c.get.ensures.value
     (λ t found. table_node c.args.node.now c.self.inside.lists.entries t c.self.invariant.each
     found)
 

@@ -1,7 +1,7 @@
 use Rattle.scope_core.proofs
 use proofs.Words.{ap, is_there, nat_lt, NodeTable, sym, tally, ◌∙◌}
 use proofs.NodeTables.{members_of_node}
-use Rattle.scope_core.proofs.node_lists.NodeLists.has_group.Goals as goal
+use proofs.node_lists.NodeLists.has_group.Goals as goal
 
 pub returns-in-Some : goal.returns-in-Some
 returns-in-Some c =

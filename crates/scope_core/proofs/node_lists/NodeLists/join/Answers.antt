@@ -1,18 +1,16 @@
 use Rattle.scope_core.proofs
-use proofs.Words.{all_rows, ap, arith, is_of_node, IsNodeList, max_rows, on_err_weaker}
-use proofs.Words.{on_ok_weaker, Row, rows_by_node, subst, sym, tally, without_node, ◌+◌, ◌∙◌, ◌≡◌}
-use proofs.Words.{◌≤◌}
+use proofs.Words.{all_rows, ap, arith, is_of_node, max_rows, on_err_weaker, on_ok_weaker, Row}
+use proofs.Words.{rows_by_node, subst, sym, tally, without_node, ◌+◌, ◌∙◌, ◌≡◌, ◌≤◌}
 use proofs.NodeTables.{none_without, table_fits, table_node, tables_same, tables_set, tables_tally}
 use proofs.Rising.{tally_others}
-use Rattle.scope_core.proofs.node_lists.NodeLists.join.Goals as goal
+use proofs.node_lists.NodeLists.join.Goals as goal
 
 pub returns-then-total_of-eq0-clause-ok : goal.returns-then-total_of-eq0-clause-ok
 returns-then-total_of-eq0-clause-ok c =
     let n = c.args.node.now in
     let none = sym c.total_of.ensures.total ∙ c.if-total_of-eq0.true in
     on_ok_weaker c.replace.result (λ joins (test : Row → _).
-    let others = tally_others n test c.args.self.now none in
-    let all = joins test in omega (arith, others, all)) c.replace.ensures.ok
+    omega (arith, tally_others, joins test)) c.replace.ensures.ok
 
 pub returns-in_default-clause-ok : goal.returns-in_default-clause-ok
 returns-in_default-clause-ok c =
@@ -28,8 +26,7 @@ pub join-requires-clause-list : goal.join-requires-clause-list
 join-requires-clause-list c =
     let mine = table_node c.args.node.now c.self-2.inside.lists.entries c.in-Some.list.now
     c.self-2.invariant.each (sym c.in-Some.ensures.value) in
-    rw c.deref.ensures.value
-    (subst (λ k. IsNodeList k c.args.more.items) (sym mine) c.requires.list)
+    rw c.deref.ensures.value (rw mine c.requires.list)
 
 pub join-requires-clause-few : goal.join-requires-clause-few
 join-requires-clause-few c =
@@ -47,21 +44,17 @@ invariant_of-self-2 c =
     c.self-2.invariant c.join.ensures.node c.join.ensures.list
 
 pub returns-clause-ok : goal.returns-clause-ok
-returns-clause-ok c =
-    on_ok_weaker c.join.result (λ joins test.
+returns-clause-ok c = on_ok_weaker c.join.result (λ joins test.
     let all = tables_tally c.args.node.now c.self-2.inside.lists.entries _
     c.in-Some.list.now c.join.new.self (sym c.in-Some.ensures.value)
     (c.get_mut.follows.holds c.join.new.self).0 test in
     let more = joins test
     ∙ ap (λ rows. tally test c.in-Some.list.now.rows + tally test rows) c.deref.ensures.value in
-    rw (← c.self-2.view_is) (omega (arith, all, more)))
-    c.join.ensures.ok
+    rw (← c.self-2.view_is) (omega (arith, all, more))) c.join.ensures.ok
 
 pub returns-clause-same : goal.returns-clause-same
 returns-clause-same c =
     on_err_weaker c.join.result (λ (same : c.join.new.self ≡ c.in-Some.list.now).
     tables_same c.args.node.now c.self-2.inside.lists.entries _
     c.in-Some.list.now c.join.new.self (sym c.in-Some.ensures.value)
-    (c.get_mut.follows.holds c.join.new.self).0 same
-    ∙ c.self-2.view_is)
-    c.join.ensures.same
+    (c.get_mut.follows.holds c.join.new.self).0 same ∙ c.self-2.view_is) c.join.ensures.same

@@ -3,7 +3,7 @@ use proofs.Words.{all_rows, ap, arith, nat_lt, not, rows_by_node, same_pid, sym,
 use proofs.Outcomes.{none_any}
 use proofs.NodeTables.{no_table, process_tally, table_lists, table_node, table_rows, tables_length}
 use proofs.NodeTables.{tables_members, tables_same, tables_set, tables_tally}
-use Rattle.scope_core.proofs.node_lists.NodeLists.pop_of.Goals as goal
+use proofs.node_lists.NodeLists.pop_of.Goals as goal
 
 pub returns-in_err-list-clause-none : goal.returns-in_err-list-clause-none
 returns-in_err-list-clause-none c = none_any c.from_residual.result (
@@ -39,12 +39,10 @@ pub returns-in_err-gone-clause-same : goal.returns-in_err-gone-clause-same
 returns-in_err-gone-clause-same c = none_any c.from_residual-in_err-gone.result (
     tables_same c.args.pid.now.node c.self.inside.lists.entries _
     c.in_ok-list.list.now c.pop_of.new.self (sym c.in_ok-list.ensures.value)
-    (c.get_mut.follows.holds c.pop_of.new.self).0
-    c.in_err-gone.ensures.same ∙ c.self.view_is)
+    (c.get_mut.follows.holds c.pop_of.new.self).0 c.in_err-gone.ensures.same ∙ c.self.view_is)
 
 pub invariant_of-self-2 : goal.invariant_of-self-2
-invariant_of-self-2 c =
-    tables_set _ _ _ _ _ (sym c.in_ok-list.ensures.value)
+invariant_of-self-2 c = tables_set _ _ _ _ _ (sym c.in_ok-list.ensures.value)
     (c.get_mut.follows.holds c.pop_of.new.self).0
     c.self.invariant c.pop_of.ensures.node c.pop_of.ensures.list
 
@@ -53,7 +51,7 @@ returns-clause-gone c = λ test.
     let all = tables_tally c.args.pid.now.node c.self.inside.lists.entries _
     c.in_ok-list.list.now c.pop_of.new.self (sym c.in_ok-list.ensures.value)
     (c.get_mut.follows.holds c.pop_of.new.self).0 test in
-    rw (← c.self.view_is) (omega (arith, all, c.in_ok-gone.ensures.gone test))
+    rw (← c.self.view_is) (omega (arith, c.in_ok-gone.ensures.gone test))
 
 pub returns-clause-fewer : goal.returns-clause-fewer
 returns-clause-fewer c =
@@ -63,8 +61,7 @@ returns-clause-fewer c =
     rw (← c.self.view_is) (omega (arith, all, c.in_ok-gone.ensures.fewer))
 
 pub returns-clause-last : goal.returns-clause-last
-returns-clause-last c =
-    c.in_ok-gone.ensures.last
+returns-clause-last c = c.in_ok-gone.ensures.last
     ∙ ap not (tables_members c.args.pid.now.node c.self.inside.lists.entries _
     c.in_ok-list.list.now c.pop_of.new.self (sym c.in_ok-list.ensures.value)
     (c.get_mut.follows.holds c.pop_of.new.self).0 c.self.invariant c.pop_of.ensures.node
@@ -83,6 +80,5 @@ returns-clause-done c =
     let all = tables_tally p.node es new.entries v w found (c.get_mut.follows.holds w).0
     (λ r. same_pid r.pid p) in
     let same : tally (λ r. same_pid r.pid p) w.rows
-    ≡ tally (λ r. same_pid r.pid p) (all_rows (rows_by_node new.entries)) =
-    omega (arith, was, all) in
+    ≡ tally (λ r. same_pid r.pid p) (all_rows (rows_by_node new.entries)) = omega arith in
     c.in_ok-gone.ensures.done ∙ ap (λ n. not (nat_lt 0 n)) same

@@ -1,8 +1,8 @@
 use Rattle.scope_core.proofs
 use proofs.Words.{insert_entry, NodeTable, refl, same, ◌∙◌, ◌≡◌}
 use proofs.NodeTables.{rows_put, tables_put}
-use Rattle.scope_core.proofs.node_lists.NodeLists.replace.Goals.{Joined-branch-5}
-use Rattle.scope_core.proofs.node_lists.NodeLists.replace.Goals as goal
+use proofs.node_lists.NodeLists.replace.Goals.{Joined-branch-5}
+use proofs.node_lists.NodeLists.replace.Goals as goal
 
 abbrev table_of : (c : Joined-branch-5) → NodeTable
 table_of c = record { node = c.args.node.now; rows = c.args.rows.items }
@@ -22,7 +22,6 @@ invariant_of-self-2 c =
     c.self.invariant refl c.requires.list (put_is c) c.in_ok-insert.ensures.unique
 
 pub returns-clause-ok : goal.returns-clause-ok
-returns-clause-ok c =
-    rw (← c.self.view_is)
+returns-clause-ok c = rw (← c.self.view_is)
     (rows_put c.args.node.now c.self.inside.lists.entries c.insert.new.self.entries (table_of c)
     c.self.invariant (put_is c))

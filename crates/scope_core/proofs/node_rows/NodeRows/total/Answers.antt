@@ -1,14 +1,9 @@
 use Rattle.scope_core.proofs
 use proofs.Words.{arith}
 use proofs.NodeLists.{own_total}
-use Rattle.scope_core.proofs.node_rows.NodeRows.total.Goals as goal
+use proofs.node_rows.NodeRows.total.Goals as goal
 
 pub returns-clause-few : goal.returns-clause-few
 returns-clause-few c =
     let t = c.self.inside.rows in
-    omega (
-      arith,
-      c.self.invariant.total,
-      own_total t.node t.rows c.self.invariant.list,
-      c.self.invariant.list.few t.node,
-    )
+    omega (arith, own_total, c.self.invariant.list.few t.node)

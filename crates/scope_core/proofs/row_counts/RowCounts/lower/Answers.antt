@@ -1,17 +1,16 @@
 use Rattle.scope_core.proofs
-use proofs.Words.{ap, arith, is_some, lookup, same_row, set_value, suc, sym, unwrap_or, ◌-◌}
-use proofs.Words.{◌∙◌, ◌≡◌}
-use Rattle.scope_core.specs.HashedRows.{NodeCounts, rows_at}
+use proofs.Words.{ap, arith, is_some, lookup, rows_at, same_row, set_value, suc, sym, unwrap_or}
+use proofs.Words.{◌-◌, ◌∙◌, ◌≡◌}
 use proofs.HashedWrites.{lookup_set, set_back, set_twice}
 use proofs.RowCounts.{lookup_in, set_in}
-use Rattle.scope_core.proofs.row_counts.RowCounts.lower.Goals as goal
+use proofs.row_counts.RowCounts.lower.Goals as goal
 
 pub returns-in_default-clause-none : goal.returns-in_default-clause-none
 returns-in_default-clause-none c = λ _.
     let node = c.self.inside.node in
     let kept = c.self.inside.counts.entries in
     let row = c.args.row.now in
-    let own = c.requires ∙ sym (ap (λ (t : NodeCounts). t.node) c.self.view_is) in
+    let own = rw (← c.self.view_is) at c.requires in
     let found = rw (c.of-at.ensures.group, c.of-at.ensures.process) at c.in_default.ensures.value in
     let none = lookup_in node row.group row.pid own kept ∙ sym found in (
       rw c.get_mut.follows.holds-at-none c.self.view_is,
@@ -23,7 +22,7 @@ returns-then-count-eq0-clause-none c = λ _.
     let node = c.self.inside.node in
     let kept = c.self.inside.counts.entries in
     let row = c.args.row.now in
-    let own = c.requires ∙ sym (ap (λ (t : NodeCounts). t.node) c.self.view_is) in
+    let own = rw (← c.self.view_is) at c.requires in
     let n = c.in-Some.count.now in
     let found = rw (c.of-at.ensures.group, c.of-at.ensures.process) at c.in-Some.ensures.value in
     let there = lookup_in node row.group row.pid own kept ∙ sym found in
@@ -40,7 +39,7 @@ returns-clause-lowered c = λ _.
     let node = c.self.inside.node in
     let kept = c.self.inside.counts.entries in
     let row = c.args.row.now in
-    let own = c.requires ∙ sym (ap (λ (t : NodeCounts). t.node) c.self.view_is) in
+    let own = rw (← c.self.view_is) at c.requires in
     let n = c.in-Some.count.now in
     let es = rows_at node kept in
     let found = rw (c.of-at.ensures.group, c.of-at.ensures.process) at c.in-Some.ensures.value in
@@ -50,7 +49,7 @@ returns-clause-lowered c = λ _.
     let now = ap (rows_at node) wrote ∙ sym (set_in node row.group row.pid own (n - 1) kept) in
     let fewer = lookup_set row (n - 1) es (ap is_some there) in
     let back : suc (unwrap_or (lookup (same_row row) (set_value (same_row row) es (n - 1))) 0) ≡ n =
-    grind (arith, fewer, c.if-count-eq0.false) in
+    grind arith in
     rw (now, ← c.self.view_is)
     (sym (ap (set_value (same_row row) (set_value (same_row row) es (n - 1))) back
     ∙ set_twice row (n - 1) n es ∙ set_back row n es there))
@@ -60,7 +59,7 @@ returns-clause-there c = λ _.
     let node = c.self.inside.node in
     let kept = c.self.inside.counts.entries in
     let row = c.args.row.now in
-    let own = c.requires ∙ sym (ap (λ (t : NodeCounts). t.node) c.self.view_is) in
+    let own = rw (← c.self.view_is) at c.requires in
     let n = c.in-Some.count.now in
     let found = rw (c.of-at.ensures.group, c.of-at.ensures.process) at c.in-Some.ensures.value in
     let there = lookup_in node row.group row.pid own kept ∙ sym found in

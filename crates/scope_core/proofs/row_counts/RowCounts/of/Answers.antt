@@ -1,16 +1,14 @@
 use Rattle.scope_core.proofs
-use proofs.Words.{AllByRecursion, ap, arith, insert_entry-new, subst}
-use proofs.Words.{sym, ◌∙◌, ◌≡◌}
-use Rattle.scope_core.specs.HashedRows.{rows_at, same_node_row}
+use proofs.Words.{ap, arith, insert_entry-new, rows_at, same_node_row, sym, ◌∙◌}
 use proofs.RowCounts.{it, lookup_in, more_in}
 use proofs.RowEntries.{next_fresh, next_in}
-use Rattle.scope_core.proofs.row_counts.RowCounts.of.Goals as goal
+use proofs.row_counts.RowCounts.of.Goals as goal
 
 pub loop-row-init : goal.loop-row-init
 loop-row-init c =
     let start = c.into_iter-row-iterator.ensures.into_iter_gives.0 in (
-      subst (AllByRecursion (λ d. d.row.pid.node ≡ c.args.node)) (sym start) c.requires.own,
-      grind (arith, start, c.in_ok-counts.ensures.empty),
+      rw start c.requires.own,
+      grind arith,
     )
 
 pub loop-row-preserved : goal.loop-row-preserved
@@ -22,7 +20,7 @@ loop-row-preserved c =
     let es = c.loop-row.counts.entries in
     let row = c.in-Some.field-0 in
     let next = c.in-Some.ensures.steps.0 in
-    let own = subst (AllByRecursion (λ d. d.row.pid.node ≡ node)) next c.loop-row.invariant.0 in
+    let own = rw next at c.loop-row.invariant.0 in
     let all = c.loop-row.invariant.1 in
     let g = row.row.group in
     let p = row.row.pid in
@@ -33,7 +31,6 @@ loop-row-preserved c =
     let entries = put
     ∙ insert_entry-new same_node_row c.loop-row.counts (it node g p own.0) row.count fresh in (
       own.1,
-      next_in rows rest more row (rows_at node es) all next
-          (rows_at node c.insert.new.self.entries)
+      next_in rows rest more row (rows_at node es) all next (rows_at node c.insert.new.self.entries)
           (ap (rows_at node) entries ∙ more_in node g p own.0 row.count es),
     )

@@ -1,6 +1,6 @@
-use Rattle.scope_core.proofs.Words.{AllByRecursion, entries_in, ◌++◌, ◌≡◌}
-use Rattle.scope_core.specs.HashedRows.{rows_at}
-use Rattle.scope_core.proofs.row_counts.RowCounts.of.Given as goal
+use Rattle.scope_core.proofs
+use proofs.Words.{AllByRecursion, entries_in, rows_at, ◌++◌, ◌≡◌}
+use proofs.row_counts.RowCounts.of.Given as goal
 
 -- with those to come, which are the node's, all are there
 abbrev pub invariant-loop-row : goal.invariant-loop-row

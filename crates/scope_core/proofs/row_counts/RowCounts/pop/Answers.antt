@@ -1,9 +1,8 @@
 use Rattle.scope_core.proofs
-use proofs.Words.{ap, has_row, None, row_at, ◌∙◌}
-use Rattle.scope_core.specs.HashedRows.{rows_at}
+use proofs.Words.{ap, has_row, None, row_at, rows_at, ◌∙◌}
 use proofs.HashedWrites.{last_there}
 use proofs.RowCounts.{more_at, once_at, writes_at}
-use Rattle.scope_core.proofs.row_counts.RowCounts.pop.Goals as goal
+use proofs.row_counts.RowCounts.pop.Goals as goal
 
 pub returns-in_err-row-clause-once : goal.returns-in_err-row-clause-once
 returns-in_err-row-clause-once c =
@@ -20,10 +19,8 @@ returns-clause-last c =
     rw (← c.self.view_is) (ap (λ es. has_row es it) all ∙ last_there (rows_at node new) it n)
 
 pub returns-clause-written : goal.returns-clause-written
-returns-clause-written c =
-    rw (← c.self.view_is) (writes_at c.self.inside.node c.in_ok-row.row None
+returns-clause-written c = rw (← c.self.view_is) (writes_at c.self.inside.node c.in_ok-row.row None
     c.self.inside.counts.entries c.pop.new.self.entries c.in_ok-row.ensures.updates.0)
 
 pub returns-clause-once : goal.returns-clause-once
-returns-clause-once c =
-    once_at c.self.inside.node c.pop.new.self.entries c.pop.ensures.unique
+returns-clause-once c = once_at c.self.inside.node c.pop.new.self.entries c.pop.ensures.unique

@@ -1,21 +1,20 @@
 use Rattle.scope_core.proofs
-use proofs.Words.{ap, arith, insert_entry-new, Some, sym, [], ◌++◌, ◌∙◌, ◌∷◌}
-use Rattle.indexmap.specs.Entry.{entry_map_ref}
-use Rattle.scope_core.specs.HashedRows.{NodeCounts, rows_at, same_node_row}
+use proofs.Words.{ap, arith, insert_entry-new, Some, sym, ◌∙◌}
 use proofs.RowCounts.{it, lookup_in, more_in, once_at, writes_in}
-use Rattle.scope_core.proofs.row_counts.RowCounts.push_new.Goals as goal
+use Rattle.indexmap.specs.Entry.{entry_map_ref}
+use proofs.row_counts.RowCounts.push_new.Goals as goal
 
 pub returns-in_default-clause-fresh : goal.returns-in_default-clause-fresh
 returns-in_default-clause-fresh c =
     let node = c.self.inside.node in
     let row = c.args.row.now in
     let es = c.self.inside.counts.entries in
-    let own = c.requires ∙ sym (ap (λ (t : NodeCounts). t.node) c.self.view_is) in
+    let own = rw (← c.self.view_is) at c.requires in
     let found = rw (c.in_ok-group.ensures, c.of-process.ensures, c.in_default.is)
     at c.in_ok-place.ensures.found in
     let there = found.0 in
     let is = lookup_in node row.group row.pid own es in
-    rw (← c.self.view_is) (grind (arith, is, there))
+    grind arith
 
 pub returns-in_default-clause-once : goal.returns-in_default-clause-once
 returns-in_default-clause-once c =
@@ -30,41 +29,20 @@ returns-clause-fresh c =
     let node = c.self.inside.node in
     let row = c.args.row.now in
     let es = c.self.inside.counts.entries in
-    let own = c.requires ∙ sym (ap (λ (t : NodeCounts). t.node) c.self.view_is) in
+    let own = rw (← c.self.view_is) at c.requires in
     let found = rw (c.in_ok-group.ensures, c.of-process.ensures, c.in-Vacant.is)
     at c.in_ok-place.ensures.found in
     let is = lookup_in node row.group row.pid own es in
-    rw (← c.self.view_is) (grind (arith, is, found))
+    grind arith
 
 pub returns-clause-ok : goal.returns-clause-ok
-returns-clause-ok c =
-    let node = c.self.inside.node in
-    let es = c.self.inside.counts.entries in
-    let row = c.args.row.now in
-    let n = c.insert.result.now in
-    let own = c.requires ∙ sym (ap (λ (t : NodeCounts). t.node) c.self.view_is) in
-    let none = rw (c.in_ok-group.ensures, c.of-process.ensures, c.in-Vacant.is)
-    at c.in_ok-place.ensures.found in
-    let put = rw (c.in_ok-group.ensures, c.of-process.ensures, c.in-Vacant.is)
-    at c.in_ok-place.ensures.update.1 n in
-    let new = c.self-3-1.given.1
-    (sym c.in_ok-place.ensures.same_map ∙ ap (λ e. (entry_map_ref e).ghost_name) c.in-Vacant.is) in
-    let entries = ap (rows_at node)
-    ((λ i. (new i).entries) ∙ put
-    ∙ insert_entry-new same_node_row c.self.inside.counts
-    (it node row.group row.pid own) n none)
-    ∙ more_in node row.group row.pid own n es in
-    (λ i. record { node = node; entries = entries i })
-    ∙ (λ i. record {
-      node = (c.self.view_is i).node;
-      entries = (c.self.view_is i).entries ++ (row, c.insert.ensures.value i) ∷ [];
-    })
+returns-clause-ok c = rw (← c.self.view_is) (grind (arith, insert_entry-new, it, more_in))
 
 pub returns-clause-written : goal.returns-clause-written
 returns-clause-written c = λ fresh.
     let row = c.args.row.now in
     let n = c.insert.result.now in
-    let own = c.requires ∙ sym (ap (λ (t : NodeCounts). t.node) c.self.view_is) in
+    let own = rw (← c.self.view_is) at c.requires in
     let put = rw (c.in_ok-group.ensures, c.of-process.ensures, c.in-Vacant.is)
     at c.in_ok-place.ensures.update.0 n in
     let new = c.self-3-1.given.1

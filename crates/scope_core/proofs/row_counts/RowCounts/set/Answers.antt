@@ -1,16 +1,15 @@
 use Rattle.scope_core.proofs
-use proofs.Words.{ap, arith, has_row, is_some, Some, sym, ◌∙◌}
-use Rattle.scope_core.specs.HashedRows.{NodeCounts, rows_at}
+use proofs.Words.{ap, arith, has_row, is_some, NodeCounts, rows_at, sym, ◌∙◌}
 use proofs.HashedWrites.{set_absent}
 use proofs.RowCounts.{lookup_in, once_at, set_in, writes_in}
-use Rattle.scope_core.proofs.row_counts.RowCounts.set.Goals as goal
+use proofs.row_counts.RowCounts.set.Goals as goal
 
 pub returns-in_default-clause-entries : goal.returns-in_default-clause-entries
 returns-in_default-clause-entries c =
     let node = c.self.inside.node in
     let kept = c.self.inside.counts.entries in
     let row = c.args.row.now in
-    let own = c.requires.own ∙ sym (ap (λ (t : NodeCounts). t.node) c.self.view_is) in
+    let own = rw (← c.self.view_is) at c.requires.own in
     let none = rw (c.of-at.ensures.group, c.of-at.ensures.process) at c.in_default.ensures.value in
     rw (c.get_mut.follows.holds-at-none, ← c.self.view_is)
     (sym (set_absent row c.args.count (rows_at node kept)
@@ -22,15 +21,14 @@ returns-in_default-clause-written c =
     let node = c.self.inside.node in
     let kept = c.self.inside.counts.entries in
     let row = c.args.row.now in
-    let own = c.requires.own ∙ sym (ap (λ (t : NodeCounts). t.node) c.self.view_is) in
+    let own = rw (← c.self.view_is) at c.requires.own in
     let none = rw (c.of-at.ensures.group, c.of-at.ensures.process) at c.in_default.ensures.value in
     let there = ap (λ (t : NodeCounts). has_row t.entries row) c.self.view_is ∙ c.requires.there in
     let is = ap is_some (none ∙ sym (lookup_in node row.group row.pid own kept)) in
-    absurd (grind (arith, is, there))
+    absurd (grind arith)
 
 pub returns-in_default-clause-once : goal.returns-in_default-clause-once
-returns-in_default-clause-once c =
-    rw c.get_mut.follows.holds-at-none
+returns-in_default-clause-once c = rw c.get_mut.follows.holds-at-none
     (once_at c.self.inside.node c.self.inside.counts.entries c.get_mut.ensures.unique)
 
 pub returns-clause-entries : goal.returns-clause-entries
@@ -38,23 +36,14 @@ returns-clause-entries c =
     let node = c.self.inside.node in
     let kept = c.self.inside.counts.entries in
     let row = c.args.row.now in
-    let own = c.requires.own ∙ sym (ap (λ (t : NodeCounts). t.node) c.self.view_is) in
+    let own = rw (← c.self.view_is) at c.requires.own in
     let wrote = rw (c.of-at.ensures.group, c.of-at.ensures.process)
     at (c.get_mut.follows.holds c.args.count).0 in
     rw (← c.self.view_is) (ap (rows_at node) wrote
     ∙ sym (set_in node row.group row.pid own c.args.count kept))
 
 pub returns-clause-written : goal.returns-clause-written
-returns-clause-written c =
-    let node = c.self.inside.node in
-    let kept = c.self.inside.counts.entries in
-    let row = c.args.row.now in
-    let own = c.requires.own ∙ sym (ap (λ (t : NodeCounts). t.node) c.self.view_is) in
-    let holds = c.get_mut.follows.holds c.args.count in
-    let wrote = rw (c.of-at.ensures.group, c.of-at.ensures.process)
-    at (holds.3 (ap is_some (sym c.in-Some.ensures.value))).0 in
-    rw (← c.self.view_is) (writes_in node row.group row.pid own (Some c.args.count) kept _ wrote)
+returns-clause-written c = rw (← c.self.view_is) (grind (arith, writes_in))
 
 pub returns-clause-once : goal.returns-clause-once
-returns-clause-once c =
-    once_at c.self.inside.node _ (c.get_mut.follows.holds c.args.count).4
+returns-clause-once c = once_at c.self.inside.node _ (c.get_mut.follows.holds c.args.count).4

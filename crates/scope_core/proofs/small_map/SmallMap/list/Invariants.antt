@@ -1,5 +1,6 @@
-use Rattle.scope_core.proofs.Words.{entries_of, ◌++◌, ◌≡◌}
-use Rattle.scope_core.proofs.small_map.SmallMap.list.Given as goal
+use Rattle.scope_core.proofs
+use proofs.Words.{entries_of, ◌++◌, ◌≡◌}
+use proofs.small_map.SmallMap.list.Given as goal
 
 -- with the entries to come, all are listed
 abbrev pub invariant-loop-key : goal.invariant-loop-key

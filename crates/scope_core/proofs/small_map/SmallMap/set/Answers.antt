@@ -1,6 +1,6 @@
 use Rattle.scope_core.proofs
 use proofs.Words.{ap, cond, eq_by_cmp, find, is_some, Many, SmallMap, Some, sym, ◌∙◌, ◌≡◌}
-use Rattle.scope_core.proofs.small_map.SmallMap.set.Goals as goal
+use proofs.small_map.SmallMap.set.Goals as goal
 
 pub returns-in-Some : goal.returns-in-Some
 returns-in-Some g c = λ k.

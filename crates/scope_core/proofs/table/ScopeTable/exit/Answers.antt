@@ -1,6 +1,6 @@
 use Rattle.scope_core.proofs
 use proofs.Words.{arith, ◌∙◌}
-use Rattle.scope_core.proofs.table.ScopeTable.exit.Goals as goal
+use proofs.table.ScopeTable.exit.Goals as goal
 
 pub returns-then-not-leave_one : goal.returns-then-not-leave_one
 returns-then-not-leave_one c =

@@ -1,6 +1,7 @@
-use Rattle.scope_core.proofs.Words.{sym, ◌∙◌}
-use Rattle.scope_core.proofs.table.ScopeTable.gone.Goals.{else-is_any_in, then-is_any_in}
-use Rattle.scope_core.proofs.table.ScopeTable.gone.Goals as goal
+use Rattle.scope_core.proofs
+use proofs.Words.{sym, ◌∙◌}
+use proofs.table.ScopeTable.gone.Goals.{else-is_any_in, then-is_any_in}
+use proofs.table.ScopeTable.gone.Goals as goal
 
 pub returns-after-is_any_in-clause-refused : goal.returns-after-is_any_in-clause-refused
 returns-after-is_any_in-clause-refused c = elim c.if-is_any_in.branch [

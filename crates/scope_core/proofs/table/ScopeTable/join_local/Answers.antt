@@ -1,23 +1,22 @@
 use Rattle.scope_core.proofs
-use proofs.Words.{Adds, All, ap, arith, change_unless_empty, cond, Counted, is_of_node, is_row}
-use proofs.Words.{IsDifference, IsNodeList, length, List, map, mentions, Pid, refl, row_in, same}
-use proofs.Words.{same_decides, subst, tally, ℕ, [], ◌∙◌, ◌≡◌}
+use proofs.Words
+use Words.{Adds, All, ap, arith, change_unless_empty, cond, Counted, is_of_node, is_row}
+use Words.{IsDifference, IsNodeList, length, List, map, mentions, Pid, row_in, same, same_decides}
+use Words.{tally, [], ℕ, ◌∙◌, ◌≡◌}
 use proofs.Calls.{fresh_change, fresh_counts, fresh_fit, fresh_list, fresh_total, joined_change}
 use proofs.Calls.{told_covered}
 use proofs.Indexed.{told_named}
 use proofs.Kept.{changed_listed}
 use Rattle.scope_core.proofs.table.ScopeTable.join_local.Goals.{In_ok-counted}
-use Rattle.scope_core.proofs.table.ScopeTable.join_local.Goals as goal
+use proofs.table.ScopeTable.join_local.Goals as goal
 
 pub counted_rows-requires : goal.counted_rows-requires
 counted_rows-requires c =
     let g = c.args.group.now in
     let rows = c.deref-2.ensures.value ∙ c.in_ok-fresh.ensures
     ∙ ap (map (row_in g)) c.deref.ensures.value in
-    rw rows
-    (fresh_fit c.self.inside.own g c.args.pids.now c.in_ok-sorted.sorted.items
-    (rw (← c.self.view_is) at c.requires) c.in_ok-sorted.ensures
-    (omega (arith, c.if-self-pids.false, c.self.invariant.few)))
+    rw rows (fresh_fit c.self.inside.own g c.args.pids.now c.in_ok-sorted.sorted.items
+    (rw (← c.self.view_is) at c.requires) c.in_ok-sorted.ensures (omega arith))
 
 -- ---- what joins
 
@@ -41,10 +40,7 @@ module _ (c : In_ok-counted) where
   all_own = rw (← c.self.view_is) at c.requires
 
   added : Adds (map (row_in group) sorted) [] counted
-  added =
-      let rows = c.deref-2.ensures.value ∙ c.in_ok-fresh.ensures
-      ∙ ap (map (row_in group)) c.deref.ensures.value in
-      subst (λ rs. Adds rs [] counted) rows c.in_ok-counted.ensures.added
+  added = grind arith
 
   counts_are : (h : List ℕ) (p : Pid)
       → tally (is_row h p) counted ≡ cond (same h group) (mentions p pids) 0
@@ -69,14 +65,7 @@ pub join-requires-clause-few : goal.join-requires-clause-few
 join-requires-clause-few c =
     let own = c.self.inside.own in
     let more = total_is (goal.at.join-requires-clause-few c).In_ok-counted own in
-    grind (
-      arith,
-      more,
-      c.if-self-pids.false,
-      c.self.invariant.few,
-      c.self.invariant.total,
-      same_decides own own,
-    )
+    grind (arith, same_decides)
 
 pub join-requires-clause-changes : goal.join-requires-clause-changes
 join-requires-clause-changes c =
@@ -91,14 +80,7 @@ join-requires-clause-named c =
     (told_named c.self.inside.own c.in_ok-counted.counted.items _ (list_is at).own (change_is at))
 
 pub returns-clause-ok : goal.returns-clause-ok
-returns-clause-ok c =
-    let counts = counts_are (goal.at.returns-clause-ok c).In_ok-counted in
-    rw (← c.self.view_is)
-    (record {
-      own = refl;
-      counts =
-          λ h p. grind (arith, counts h p, c.in_ok-join.ensures.ok (is_row h p));
-    })
+returns-clause-ok c = rw (← c.self.view_is) (grind (arith, counts_are))
 
 pub returns-clause-change : goal.returns-clause-change
 returns-clause-change c =
@@ -113,16 +95,9 @@ invariant_of-self-2 c =
     let at = (goal.at.invariant_of-self-2 c).In_ok-counted in
     let counts = counts_are at in
     record {
-      few = omega (arith, c.if-self-pids.false, c.self.invariant.few);
-      total = grind (
-        arith,
-        total_is at own,
-        c.in_ok-join.ensures.ok (is_of_node own),
-        c.self.invariant.total,
-        same_decides own own,
-      );
-      listed =
-          changed_listed c.self.inside.listings c.forget_changed.new.self _ _
+      few = omega arith;
+      total = grind (arith, total_is, c.in_ok-join.ensures.ok (is_of_node own), same_decides);
+      listed = changed_listed c.self.inside.listings c.forget_changed.new.self _ _
           c.self.invariant.listed c.in_ok-changes.changes.items
           (rw c.deref-4.ensures.value at c.forget_changed.ensures)
           (rw (c.in_ok-changes.ensures, c.new.ensures.items)

@@ -1,40 +1,37 @@
 use Rattle.scope_core.proofs
-use proofs.Words.{Adds, AllByRecursion, ap, arith, change_unless_empty, cond, count_of, Counted}
-use proofs.Words.{is_row, IsDifference, IsPidListing, Joins, length, List, map, mentions, min, Pid}
-use proofs.Words.{refl, row_in, rules, same, subst, Table, tally, true, ℕ, [], ◌-◌, ◌<◌, ◌∙◌, ◌≡◌}
-use proofs.Words.{◌≤◌}
-use Rattle.scope_core.specs.Calls.{is_any_joined}
+use proofs.Words
+use Words.{Adds, AllByRecursion, ap, arith, change_unless_empty, cond, count_of, Counted}
+use Words.{is_any_joined, is_row, IsDifference, IsPidListing, Joins, length, List, map, mentions}
+use Words.{min, Pid, row_in, rules, same, Table, tally, true, [], ℕ, ◌-◌, ◌<◌, ◌∙◌, ◌≡◌, ◌≤◌}
 use proofs.GoneRows.{gone_change, gone_fit, gone_left, gone_within, none_leaves, some_leaves}
 use proofs.Kept.{changed_listed}
 use Rattle.scope_core.proofs.table.ScopeTable.leave_local.Goals.{Else-is_empty, In_ok-gone}
-use Rattle.scope_core.proofs.table.ScopeTable.leave_local.Goals as goal
+use proofs.table.ScopeTable.leave_local.Goals as goal
 
 pub returns-then-is_empty-clause-refused : goal.returns-then-is_empty-clause-refused
 returns-then-is_empty-clause-refused c =
-    let empty : length c.in_ok-left.left.items ≡ 0 =
-    grind (arith, c.is_empty.ensures, c.if-is_empty.true) in
+    let empty : length c.in_ok-left.left.items ≡ 0 = grind arith in
     none_leaves (count_of c.args.self.now c.args.group.now) c.args.pids.now c.in_ok-left.left.items
     c.in_ok-left.ensures.value empty
 
 somebody : (c : Else-is_empty)
     → is_any_joined c.args.self.now c.args.group.now c.args.pids.now ≡ true
 somebody c =
-    let some : 0 < length c.in_ok-left.left.items =
-    grind (arith, c.is_empty.ensures, c.if-is_empty.false) in
+    let some : 0 < length c.in_ok-left.left.items = grind arith in
     some_leaves (count_of c.args.self.now c.args.group.now) c.args.pids.now c.in_ok-left.left.items
     c.in_ok-left.ensures.value some
 
 pub returns-in_err-rows-clause-refused : goal.returns-in_err-rows-clause-refused
 returns-in_err-rows-clause-refused c = let e =
-    somebody (goal.at.returns-in_err-rows-clause-refused c).Else-is_empty in search (rules, e)
+    somebody (goal.at.returns-in_err-rows-clause-refused c).Else-is_empty in search rules
 
 pub returns-in_err-gone-clause-refused : goal.returns-in_err-gone-clause-refused
 returns-in_err-gone-clause-refused c = let e =
-    somebody (goal.at.returns-in_err-gone-clause-refused c).Else-is_empty in search (rules, e)
+    somebody (goal.at.returns-in_err-gone-clause-refused c).Else-is_empty in search rules
 
 pub returns-in_err-changes-clause-refused : goal.returns-in_err-changes-clause-refused
 returns-in_err-changes-clause-refused c = let e =
-    somebody (goal.at.returns-in_err-changes-clause-refused c).Else-is_empty in search (rules, e)
+    somebody (goal.at.returns-in_err-changes-clause-refused c).Else-is_empty in search rules
 
 pub returns-clause-only : goal.returns-clause-only
 returns-clause-only c = somebody (goal.at.returns-clause-only c).Else-is_empty
@@ -70,10 +67,7 @@ module _ (c : In_ok-gone) where
   listing = rw (← c.self.view_is) at c.in_ok-left.ensures.value
 
   added : Adds (map (row_in group) left) [] gone
-  added =
-      let rows = c.deref-2.ensures.value ∙ c.in_ok-rows.ensures
-      ∙ ap (map (row_in group)) c.deref.ensures.value in
-      subst (λ rs. Adds rs [] gone) rows c.in_ok-gone.ensures.added
+  added = grind arith
 
   within_rows : AllByRecursion
       (λ x. x.count ≤ tally (is_row x.row.group x.row.pid) c.self.inside.rows) gone
@@ -89,19 +83,11 @@ module _ (c : In_ok-gone) where
   change = gone_change the_table group pids left listing gone added
 
 pub take_rows-requires-clause-counted : goal.take_rows-requires-clause-counted
-take_rows-requires-clause-counted c =
-    rw c.deref-3.ensures.value
+take_rows-requires-clause-counted c = rw c.deref-3.ensures.value
     (within_rows (goal.at.take_rows-requires-clause-counted c).In_ok-gone)
 
 pub returns-clause-ok : goal.returns-clause-ok
-returns-clause-ok c =
-    let joins = rw c.deref-3.ensures.value at c.take_rows.ensures in
-    rw (← c.self.view_is)
-    (record {
-      own = refl;
-      counts =
-          counts (goal.at.returns-clause-ok c).In_ok-gone c.take_rows.new.self joins;
-    })
+returns-clause-ok c = rw (← c.self.view_is) (grind (arith, counts))
 
 pub returns-clause-change : goal.returns-clause-change
 returns-clause-change c =

@@ -2,7 +2,7 @@ use Rattle.scope_core.proofs
 use proofs.Words.{arith, is_of_node}
 use Rattle.scope_core.specs.HashedRows.{with_process}
 use proofs.Kept.{none_of_process, popped_listed}
-use Rattle.scope_core.proofs.table.ScopeTable.leave_one.Goals as goal
+use proofs.table.ScopeTable.leave_one.Goals as goal
 
 pub returns-in_default-clause-none : goal.returns-in_default-clause-none
 returns-in_default-clause-none c = λ _ g p is.

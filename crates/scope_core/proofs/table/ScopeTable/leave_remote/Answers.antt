@@ -1,30 +1,27 @@
 use Rattle.scope_core.proofs
-use proofs.Words.{ap, arith, how_many, is_of_node, is_row, IsDifference, List, max_rows, Pid, rules}
-use proofs.Words.{subst, sym, Table, tally, ℕ, ◌+◌, ◌∙◌, ◌≡◌, ◌≤◌}
+use proofs.Words.{ap, arith, how_many, is_of_node, is_row, IsDifference, List, Pid, rules, sym}
+use proofs.Words.{Table, tally, ℕ, ◌+◌, ◌∙◌, ◌≡◌}
 use proofs.Calls.{all_or_none, taken_change}
 use proofs.GoneRows.{listed_fit}
 use proofs.Kept.{changed_listed}
 use Rattle.scope_core.proofs.table.ScopeTable.leave_remote.Goals.{After-take_listed}
-use Rattle.scope_core.proofs.table.ScopeTable.leave_remote.Goals as goal
+use proofs.table.ScopeTable.leave_remote.Goals as goal
 
 pub counted_rows-requires : goal.counted_rows-requires
 counted_rows-requires c =
     let n = c.args.peer.now in
     let t : Table = record { own = c.self.inside.own; rows = c.self.inside.rows } in
-    let few = subst (λ rs. tally (is_of_node n) rs ≤ max_rows) c.are_all_in.ensures.same
-    (c.few.ensures n) in
+    let few = rw c.are_all_in.ensures.same at (c.few.ensures n) in
     listed_fit n c.args.rows.now c.requires t
     (sym c.are_all_in.ensures.value ∙ c.if-not-are_all_in.false) few
 
 pub returns-in_err-counted-clause-refused : goal.returns-in_err-counted-clause-refused
-returns-in_err-counted-clause-refused c =
-    rw (← c.self.view_is)
-    (let e = sym c.are_all_in.ensures.value ∙ c.if-not-are_all_in.false in search (rules, e))
+returns-in_err-counted-clause-refused c = rw (← c.self.view_is)
+    (let e = sym c.are_all_in.ensures.value ∙ c.if-not-are_all_in.false in search rules)
 
 pub returns-in_err-changes-clause-refused : goal.returns-in_err-changes-clause-refused
-returns-in_err-changes-clause-refused c =
-    rw (← c.self.view_is)
-    (let e = sym c.are_all_in.ensures.value ∙ c.if-not-are_all_in.false in search (rules, e))
+returns-in_err-changes-clause-refused c = rw (← c.self.view_is)
+    (let e = sym c.are_all_in.ensures.value ∙ c.if-not-are_all_in.false in search rules)
 
 taken : (c : After-take_listed) (g : List ℕ) (p : Pid)
     → tally (is_row g p) c.self.inside.rows ≡ tally (is_row g p) c.take_listed.new.self
@@ -38,8 +35,7 @@ own_taken : (c : After-take_listed)
 own_taken c = ap (tally (is_of_node c.self.inside.own)) (sym c.are_all_in.ensures.same)
     ∙ c.take_listed.ensures.totals c.self.inside.own
 
-change : (c : After-take_listed)
-    → IsDifference (λ g p. tally (is_row g p) c.self.inside.rows)
+change : (c : After-take_listed) → IsDifference (λ g p. tally (is_row g p) c.self.inside.rows)
     (λ g p. tally (is_row g p) c.take_listed.new.self) c.in_ok-changes.changes.items
 change c =
     let told = rw c.deref.ensures.value at c.in_ok-changes.ensures in
@@ -50,13 +46,7 @@ change c =
 pub overflow_sub-self : goal.overflow_sub-self
 overflow_sub-self c =
     let share = all_or_none c.args.peer.now c.args.rows.now c.requires c.self.inside.own in
-    grind (
-      arith,
-      share,
-      own_taken (goal.at.overflow_sub-self c).After-take_listed,
-      c.share_of.ensures,
-      c.self.invariant.total,
-    )
+    grind (arith, own_taken)
 
 pub returns-clause-change : goal.returns-clause-change
 returns-clause-change c =
@@ -67,8 +57,8 @@ invariant_of-self-2 c =
     let at = (goal.at.invariant_of-self-2 c).After-take_listed in
     let share = all_or_none c.args.peer.now c.args.rows.now c.requires c.self.inside.own in
     record {
-      few = omega (arith, c.self.invariant.few);
-      total = grind (arith, share, own_taken at, c.share_of.ensures, c.self.invariant.total);
+      few = omega arith;
+      total = grind (arith, own_taken);
       listed = changed_listed c.self.inside.listings c.forget_changed.new.self _ _
           c.self.invariant.listed c.in_ok-changes.changes.items
           (rw c.deref-3.ensures.value at c.forget_changed.ensures) (change at);

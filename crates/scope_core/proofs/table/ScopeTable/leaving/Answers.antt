@@ -1,11 +1,10 @@
 use Rattle.scope_core.proofs
 use proofs.Words.{Table}
 use proofs.Calls.{leaving_few, leaving_listing}
-use Rattle.scope_core.proofs.table.ScopeTable.leaving.Goals as goal
+use proofs.table.ScopeTable.leaving.Goals as goal
 
 pub returns-clause-value : goal.returns-clause-value
-returns-clause-value c =
-    rw (← c.self.view_is)
+returns-clause-value c = rw (← c.self.view_is)
     (leaving_listing _ _ _ _ (rw (← c.self.view_is) at c.requires) c.in_ok-gone.ensures)
 
 pub returns-clause-limits : goal.returns-clause-limits

@@ -1,7 +1,7 @@
 use Rattle.scope_core.proofs
 use proofs.Groups.{groups_listing}
 use proofs.Kept.{still_groups}
-use Rattle.scope_core.proofs.table.ScopeTable.local_groups.Goals as goal
+use proofs.table.ScopeTable.local_groups.Goals as goal
 
 pub returns : goal.returns
 returns c =
