@@ -293,7 +293,11 @@ impl IndexedRows {
         ensures none { IfNone result (of_node node.now self.old ≡ []) }
     {
         let gone = self.lists.remove_node(node)?;
-        unname(&mut self.index, gone.rows(), node);
+        if self.lists.is_empty() {
+            self.index.clear();
+        } else {
+            unname(&mut self.index, gone.rows(), node);
+        }
         Some(gone)
     }
 

@@ -1,5 +1,5 @@
 //! The rows of a scope, node by node.
-ghost use Rattle.std.specs.Prelude.{◌≡◌, ◌+◌, ◌≤◌, ◌<◌, ◌∷◌, ℕ, List, [], not, All, cond, IfSome, OnOk, OnErr, length};
+ghost use Rattle.std.specs.Prelude.{◌≡◌, ◌+◌, ◌≤◌, ◌<◌, ◌∷◌, ℕ, List, [], not, All, cond, IfSome, IsTrue, OnOk, OnErr, length};
 ghost use Rattle.std.specs.Option.{IfNone};
 ghost use Rattle.std.specs.List.{AllByRecursion};
 ghost use Rattle.std.specs.declared.cmp.Ordering.TheVariants.{Less};
@@ -47,6 +47,13 @@ impl NodeLists {
             alloc,
             lists: IndexMap::new(alloc),
         }
+    }
+
+    /// Whether no node has rows.
+    pub fn is_empty(&self) -> bool
+        ensures { IsTrue result → self.now ≡ [] }
+    {
+        self.lists.is_empty()
     }
 
     /// The rows of a node, where it has had some.

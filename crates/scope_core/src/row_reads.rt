@@ -62,7 +62,7 @@ impl HashedRows {
     {
         let mut changes = Vec::with_capacity(self.alloc, self.groups.len())?;
         for (group, members) in self.groups.iter() {
-            let mut left = Vec::new(self.alloc);
+            let mut left = Vec::with_capacity(self.alloc, members.len())?;
             push_pids(self.alloc, self.counts.node(), members, &mut left)?;
             // The index may name a group that has no process: it has no change.
             push_change(self.alloc, &mut changes, group, left, Vec::new(self.alloc))?;

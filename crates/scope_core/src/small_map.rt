@@ -1,5 +1,5 @@
 //! Ordered maps of which most have one entry.
-ghost use Rattle.std.specs.Prelude.{◌≡◌, ◌++◌, cond, Some, None, false, IsTrue, OnOk, OnErr, IfSome, IsSome};
+ghost use Rattle.std.specs.Prelude.{◌≡◌, ◌++◌, length, cond, Some, None, false, IsTrue, OnOk, OnErr, IfSome, IsSome};
 ghost use Rattle.std.specs.Ordering.{eq_by_cmp, is_eq};
 ghost use Rattle.std.specs.Option.{option_copied, IfNone};
 ghost use Rattle.std.specs.List.Sorted.{IsStrictlySortedBy};
@@ -34,6 +34,17 @@ impl<K: Ord + Drop, V: Drop> SmallMap<K, V> {
                 }
             }
             SmallMap::Many(map) => map.get(key),
+        }
+    }
+
+    /// How many entries there are.
+    pub fn len(&self) -> usize
+        ensures { result ≡ length (entries_of self.now) }
+    {
+        match self {
+            SmallMap::Empty => 0,
+            SmallMap::One(_, _) => 1,
+            SmallMap::Many(map) => map.len(),
         }
     }
 

@@ -10,7 +10,7 @@ loop-group-preserved c =
     let was = c.loop-group.invariant in
     let steps = c.in-Some.ensures.steps in
     let done = c.loop-group.changes.items in
-    let pids = rw (c.node.ensures, c.new-left.ensures.items) at c.in_ok-push_pids.ensures.pids in
+    let pids = rw (c.node.ensures, c.in_ok-left.ensures.items) at c.in_ok-push_pids.ensures.pids in
     let put = rw (pids, c.new.ensures.items) at c.in_ok-push_change.ensures in (
       ap (λ cs. cs ++ all_gone node c.next.new.self) put
           ∙ append_assoc done _ (all_gone node c.next.new.self)

@@ -12,8 +12,8 @@ invariant_of-self c =
     (dropped n c.self.inside.lists _ named named (sym none) c.self.invariant (λ g m e. refl)
     (λ g. omega arith))
 
-pub invariant_of-self-2 : goal.invariant_of-self-2
-invariant_of-self-2 c =
+pub invariant_of-self-else-is_empty : goal.invariant_of-self-else-is_empty
+invariant_of-self-else-is_empty c =
     let n = c.args.node.now in
     let gone = c.in_ok-gone.gone in
     let named = times_named c.self.inside.index in
