@@ -3,17 +3,17 @@
 use Rattle.frame_laws.proofs
 use proofs.Words.{Accepted, agrees, AreFrom, AreStated, arith, Bool, but, cond, Entry, eqb-true}
 use proofs.Words.{Event, events, false, fewer_length, filter, filter-append, first_broken, flat_map}
-use proofs.Words.{frame_taken, fresh, group_named, groups, groups_are, groups_named, has_sync}
-use proofs.Words.{HasRoom, heard, heard_runs, History, how_many_append, is_accepted, is_from}
-use proofs.Words.{is_full, is_local, is_peer, is_running, is_up, is_visible, is_whole, IsPlayed}
-use proofs.Words.{IsPlayedIn, IsRowListing, judgement, kept_peers, le-leb, length, length-append}
-use proofs.Words.{List, list_all, list_all-append, listed, listed_named, map, MaySay, members}
-use proofs.Words.{members_are, Message2, message_checks, nat_le, None, occurrences, opened, Opening}
-use proofs.Words.{PartKind, past, peer_foreign, peer_limit, peer_of, peer_rows, Pid, pid_named}
-use proofs.Words.{pids_named, present_link, refl, Reply, Row, row, rows_are, rows_of, said_at, same}
-use proofs.Words.{same_decides, same_pid, same_row, same_row_decides, scope_in, so_far, Some}
-use proofs.Words.{stands_in, stated, taken, talk, talk_of, true, Verdict, verdict, whole_awaits, ℕ}
-use proofs.Words.{[], ◌&&◌, ◌++◌, ◌+◌, ◌<◌, ◌==◌, ◌∷◌, ◌≡◌, ◌≤◌}
+use proofs.Words.{Frame, frame_taken, fresh, group_named, groups, groups_are, groups_named}
+use proofs.Words.{has_sync, HasRoom, heard, heard_runs, History, how_many_append, is_accepted}
+use proofs.Words.{is_from, is_full, is_local, is_peer, is_running, is_up, is_visible, is_whole}
+use proofs.Words.{IsPlayed, IsPlayedIn, IsRowListing, judgement, kept_peers, le-leb, length}
+use proofs.Words.{length-append, List, list_all, list_all-append, listed, listed_named, map, MaySay}
+use proofs.Words.{members, members_are, Message2, message_checks, nat_le, None, occurrences, opened}
+use proofs.Words.{Opening, Part, PartKind, past, peer_foreign, peer_limit, peer_of, peer_rows, Pid}
+use proofs.Words.{pid_named, pids_named, present_link, refl, Reply, Row, row, rows_are, rows_of}
+use proofs.Words.{said_at, same, same_decides, same_pid, same_row, same_row_decides, scope_in}
+use proofs.Words.{so_far, Some, stands_in, stated, taken, talk, talk_of, true, Verdict, verdict}
+use proofs.Words.{whole_awaits, ℕ, [], ◌&&◌, ◌++◌, ◌+◌, ◌<◌, ◌==◌, ◌∷◌, ◌≡◌, ◌≤◌}
 
 -- ---- a peer that is heard is visible
 
@@ -25,7 +25,7 @@ module _ (o : Opening) (s : List ℕ) where
     Before = has_sync s (talk o l es) ≡ true → is_visible (past o es) l ≡ true
 
     framed : (k : ℕ) (body : List ℕ) (r : Reply)
-        → Accepted r ≡ judgement (past o es) e.seat (Event.Frame k body) → Before → (b : Bool)
+        → Accepted r ≡ judgement (past o es) e.seat (Frame k body) → Before → (b : Bool)
         → (k == l) ≡ b
         → has_sync s (cond (b && is_whole l es) (talk_of (said_at o l es body)) [] ++ talk o l
         es) ≡ true → is_whole l es ≡ true → is_visible (past o es) l ≡ true
@@ -35,16 +35,16 @@ module _ (o : Opening) (s : List ℕ) where
 
     shown_after : (k : ℕ) (body : List ℕ) (r : Reply) (b : Bool) → (k == l) ≡ b
         → is_whole l es ≡ true → is_visible (past o es) l ≡ true
-        → is_visible (past o (but e (Event.Frame k body) (Accepted r) ∷ es)) l ≡ true
-    shown_after k body r b is w shown = grind arith
+        → is_visible (past o (but e (Frame k body) (Accepted r) ∷ es)) l ≡ true
+    shown_after = grind arith
 
     by_event : (ev : Event) (v : Verdict) → v ≡ judgement (past o es) e.seat ev → Before
         → has_sync s (talk o l (but e ev v ∷ es)) ≡ true
         → is_visible (past o (but e ev v ∷ es)) l ≡ true
-    by_event (Event.Frame k body) (Accepted r) q so_far said = by (is_whole l es) refl
+    by_event (Frame k body) (Accepted r) q so_far said = by (is_whole l es) refl
       where
         by : (w : Bool) → is_whole l es ≡ w
-            → is_visible (past o (but e (Event.Frame k body) (Accepted r) ∷ es)) l ≡ true
+            → is_visible (past o (but e (Frame k body) (Accepted r) ∷ es)) l ≡ true
         by true w = shown_after k body r (k == l) refl w
             (framed k body r q so_far (k == l) refl said w)
         by false un = grind arith
@@ -89,22 +89,18 @@ module _ (h : History) (legal : IsPlayed h) (l : ℕ) (s : List ℕ)
 
     pub listed_is : (g : List ℕ)
         → listed h s g p ≡ cond (is_from l es p) (stated h.opening l s g p es) 0
-    listed_is g = grind (arith, not_own, scope_runs, present_is, shows)
-
-  from_peer : (p : Pid) → is_from l es p ≡ true → is_peer p.node l es ≡ true
-  from_peer p q = grind arith
+    listed_is = grind (arith, not_own, scope_runs, present_is, shows)
 
   listed_from : (g : List ℕ) (p : Pid) → is_from l es p ≡ true
       → listed h s g p ≡ stated h.opening l s g p es
-  listed_from g p from = grind (arith, listed_is p (from_peer p from) g)
+  listed_from = grind (arith, listed_is)
 
   -- a Leave's rows are listed
   are_listed : (rows : List Row) → AreStated h l s rows → (some : List Row)
       → list_all (λ r. is_from l es r.pid) some ≡ true
       → list_all (λ r. nat_le (rows_of r.group r.pid rows) (listed h s r.group r.pid)) some ≡ true
   are_listed rows within [] from = refl
-  are_listed rows within (r ∷ some) from =
-      grind (arith, listed_from r.group r.pid, are_listed rows within some)
+  are_listed rows within (r ∷ some) from = grind (arith, listed_from, are_listed rows within some)
 
   -- ---- how many rows of the peer are listed
 
@@ -115,8 +111,9 @@ module _ (h : History) (legal : IsPlayed h) (l : ℕ) (s : List ℕ)
   rows_in_groups gs = flat_map (λ g. map (row g) (members h s g)) gs
 
   rows_listed : IsRowListing (listed h s) (rows_in_groups (groups h s))
-  rows_listed = rows_are (listed h s) (members h s) (λ g. members_are (listed h s) pids named pid_is
-      group_is g) (groups h s) (groups_are (listed h s) pids named pid_is group_is)
+  rows_listed = rows_are (listed h s) (members h s)
+      (members_are (listed h s) pids named pid_is group_is)
+      (groups h s) (groups_are (listed h s) pids named pid_is group_is)
     where
       pids : List ℕ → List Pid
       pids f = pids_named s f (events h.entries)
@@ -135,7 +132,7 @@ module _ (h : History) (legal : IsPlayed h) (l : ℕ) (s : List ℕ)
   peer_counts : (r : Row) (rows : List Row) → occurrences same_row r (filter of_peer rows) ≡ cond
       (of_peer r) (occurrences same_row r rows) 0
   peer_counts r [] = grind arith
-  peer_counts r (x ∷ rows) = grind (arith, peer_counts r rows, same_row_decides x r)
+  peer_counts r (x ∷ rows) = grind (arith, peer_counts r rows, same_row_decides)
 
   group_length : (g : List ℕ) (ps : List Pid)
       → length (filter of_peer (map (row g) ps)) ≡ length (filter (λ p. is_peer p.node l es) ps)
@@ -149,8 +146,8 @@ module _ (h : History) (legal : IsPlayed h) (l : ℕ) (s : List ℕ)
 
   stated_most : (r : Row) (b : Bool) → of_peer r ≡ b → (c : Bool) → is_from l es r.pid ≡ c
       → cond (of_peer r) (listed h s r.group r.pid) 0 ≤ stated h.opening l s r.group r.pid es
-  stated_most r true its true from = grind (arith, listed_from r.group r.pid from)
-  stated_most r true its false other = grind (arith, listed_is r.pid its r.group)
+  stated_most r true its true from = grind (arith, listed_from)
+  stated_most r true its false other = grind (arith, listed_is)
   stated_most r false other c from = grind arith
 
   has_room : (rows : List Row) → HasRoom h l s rows
@@ -166,22 +163,20 @@ module _ (h : History) (legal : IsPlayed h) (l : ℕ) (s : List ℕ)
     where
       within : (r : Row) → occurrences same_row r (filter of_peer (rows_in_groups (groups h s))
           ++ rows) ≤ occurrences same_row r it.all
-      within r = grind (arith, how_many_append, peer_counts, rows_listed, stated_most)
+      within = grind (arith, how_many_append, peer_counts, rows_listed, stated_most)
 
 -- ---- what it may say breaks no rule
 
 module _ (h : History) (legal : IsPlayed h) (l : ℕ) where
   so_far_from : (kind : PartKind) (s : List ℕ) (number : ℕ) (rows : List Row) → AreFrom h l rows
       → AreFrom h l (so_far h l kind s number rows)
-  so_far_from kind s number rows from =
-      grind (arith, list_all-append, kept_peers h.opening h.entries legal l)
+  so_far_from = grind (arith, list_all-append, kept_peers h.opening h.entries legal l)
 
   pub sync_met : (s : List ℕ) → is_visible h l ≡ true → is_running h s ≡ true
       → (number : ℕ) (last : Bool) (rows : List Row)
-      → MaySay h l (Message2.Part PartKind.Sync s number last rows)
-      → first_broken (message_checks h l (Message2.Part PartKind.Sync s number last rows)) ≡ None
-  sync_met s shown runs number last rows may =
-      grind arith
+      → MaySay h l (Part PartKind.Sync s number last rows)
+      → first_broken (message_checks h l (Part PartKind.Sync s number last rows)) ≡ None
+  sync_met = grind arith
 
   pub heard_met : (m : Message2) → heard h.opening l (scope_in m) h.entries ≡ true → MaySay h l m
       → first_broken (message_checks h l m) ≡ None
@@ -189,16 +184,16 @@ module _ (h : History) (legal : IsPlayed h) (l : ℕ) where
       grind (arith, shows h legal l s hears, scope_runs h legal l s hears)
   heard_met (Message2.Down s) hears may =
       grind (arith, shows h legal l s hears, scope_runs h legal l s hears)
-  heard_met (Message2.Part PartKind.Sync s number last rows) hears may =
+  heard_met (Part PartKind.Sync s number last rows) hears may =
       sync_met s (shows h legal l s hears) (scope_runs h legal l s hears) number last rows may
-  heard_met (Message2.Part PartKind.Join s number last rows) hears may =
+  heard_met (Part PartKind.Join s number last rows) hears may =
       grind (
         arith,
         shows h legal l s hears,
         scope_runs h legal l s hears,
         has_room h legal l s hears (so_far h l PartKind.Join s number rows) may.2,
       )
-  heard_met (Message2.Part PartKind.Leave s number last rows) hears may =
+  heard_met (Part PartKind.Leave s number last rows) hears may =
       grind (
         arith,
         shows h legal l s hears,
@@ -211,13 +206,13 @@ module _ (h : History) (legal : IsPlayed h) (l : ℕ) where
   pub admits : is_up l h.entries ≡ true → (seat : ℕ) (body : List ℕ) (m : Message2)
       → frame_taken h.opening l h.entries body ≡ Some m
       → first_broken (message_checks h l m) ≡ None
-      → is_accepted (judgement h seat (Event.Frame l body)) ≡ true
+      → is_accepted (judgement h seat (Frame l body)) ≡ true
   admits up_there seat body m says met = grind arith
 
   pub accepts : (seat : ℕ) (body : List ℕ) (m : Message2) → is_full h ≡ false
       → frame_taken h.opening l h.entries body ≡ Some m
       → heard h.opening l (scope_in m) h.entries ≡ true → MaySay h l m
-      → is_accepted (verdict h seat (Event.Frame l body)) ≡ true
+      → is_accepted (verdict h seat (Frame l body)) ≡ true
   accepts seat body m room says hears may =
       grind (
         arith,

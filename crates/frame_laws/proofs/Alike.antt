@@ -4,8 +4,8 @@ use proofs.Words.{Accepted, all_hold, always, arith, begun, begun_of, Bool, but,
 use proofs.Words.{delivered, Entry, eqb-true, Event, first_broken, frame_taken, heard, History}
 use proofs.Words.{is_next, is_up, is_whole, IsPlayedIn, IsStep, kept_after, link_version, List}
 use proofs.Words.{Message2, message_checks, message_taken, None, none_begun, Opening, Option}
-use proofs.Words.{option_and_then, option_map_or, option_to_list, PartKind, past, Pid, Reply, Row}
-use proofs.Words.{Rule, same_decides, seen_by, Some, true, unbroken, ℕ, ◌&&◌, ◌==◌, ◌||◌, ◌≡◌}
+use proofs.Words.{option_and_then, option_map_or, option_to_list, Part, PartKind, past, Pid, Reply}
+use proofs.Words.{Row, Rule, same_decides, seen_by, Some, true, unbroken, ℕ, ◌&&◌, ◌==◌, ◌||◌, ◌≡◌}
 use proofs.KeptStands.{rules_met}
 use proofs.NotRefused.{kept_of}
 
@@ -27,7 +27,7 @@ module _ (v : ℕ) (o : Opening) (es : List Entry) (e : Entry) (legal : IsPlayed
   bodies = delivered l es
 
   pub some_whole : kept_of s (begun o l es) ≡ true → is_whole l es ≡ true
-  some_whole q = grind (arith, none_begun o es legal l)
+  some_whole = grind (arith, none_begun)
 
   -- a message that is taken makes of both the same, as far as s is concerned
   pub record AcceptsAlike (x y : Option Message2) : Type 0 where
@@ -39,27 +39,24 @@ module _ (v : ℕ) (o : Opening) (es : List Entry) (e : Entry) (legal : IsPlayed
         → kept_after (begun o l es) x ≡ kept_after (begun_of v bodies) y
 
   next_of : (kind : PartKind) (t : List ℕ) (number : ℕ) (last : Bool) (rows : List Row)
-      → first_broken (message_checks h l (Message2.Part kind t number last rows)) ≡ None
+      → first_broken (message_checks h l (Part kind t number last rows)) ≡ None
       → is_next (begun o l es) kind t number ≡ true
   next_of PartKind.Sync t number last rows met = grind arith
   next_of PartKind.Join t number last rows met = grind (arith, unbroken)
   next_of PartKind.Leave t number last rows met =
       unbroken (is_next (begun o l es) PartKind.Leave t number)
-      (all_hold (message_checks h l (Message2.Part PartKind.Leave t number last rows)) met).1.1.1.0
+      (all_hold (message_checks h l (Part PartKind.Leave t number last rows)) met).1.1.1.0
 
   taken_alike : (kept_of s (begun o l es) ≡ true → begun o l es ≡ begun_of v bodies)
       → (x : Option Message2)
       → first_broken (option_map_or (message_checks h l) x (always Rule.BadFrame)) ≡ None
       → AcceptsAlike x x
-  taken_alike same_kept None met = cc
-  taken_alike same_kept (Some (Message2.Discover t)) met = grind arith
-  taken_alike same_kept (Some (Message2.Down t)) met = grind arith
-  taken_alike same_kept (Some (Message2.Part kind t number last rows)) met =
-      grind (arith, same_decides t s, next_of kind t number last rows met)
+  taken_alike same_kept (Some (Part kind t number last rows)) met =
+      grind (arith, same_decides, next_of kind t number last rows met)
+  taken_alike same_kept x met = grind arith
 
   pub accepts_alike : (k : ℕ) (body : List ℕ) (r : Reply)
       → IsStep h (but e (Event.Frame k body) (Accepted r)) → (k == l) ≡ true
       → is_whole l es ≡ true → Alike v o l s es
       → AcceptsAlike (frame_taken o l es body) (message_taken v body)
-  accepts_alike k body r next is whole alike =
-      grind (arith, taken_alike, rules_met o l es e legal body r, eqb-true k l is)
+  accepts_alike k body r = grind (arith, taken_alike, rules_met o l es e legal body r, eqb-true)

@@ -1,17 +1,17 @@
 -- What is begun at a place in what a node owed is the first parts of one message.
 use Rattle.frame_laws.proofs
 use proofs.Words.{ap, arith, Begun, begun_after, begun_by, begun_of, bodies_of, Bool, cond}
-use proofs.Words.{drop-append-add, drop-append-le, Entry, false, frames_said, History, is_some}
-use proofs.Words.{IsBegun, IsNode, leb-false, leb-true, length, length-append, length-drop}
-use proofs.Words.{length-map, lie, List, map, map-append, Message, Message2, message_taken, narrow}
-use proofs.Words.{nat_le, None, Opening, out_in, OutFrame, owed, PartKind, parts, parts_from, past}
-use proofs.Words.{refl, Row, said_frames, Some, Speaks, suc, sym, take, take-append-add}
-use proofs.Words.{take-append-le, take-map, take_past, true, whole, zero, ℕ, [], ◌++◌, ◌+◌, ◌-◌}
-use proofs.Words.{◌<◌, ◌==◌, ◌∙◌, ◌∷◌, ◌≡◌, ◌≤◌}
+use proofs.Words.{drop-append-add, drop-append-le, Entry, false, frames_said, History, IsBegun}
+use proofs.Words.{IsNode, leb-false, leb-true, length, length-append, length-drop, length-map, lie}
+use proofs.Words.{List, map, map-append, Message, Message2, message_taken, narrow, nat_le, None}
+use proofs.Words.{Opening, out_in, OutFrame, owed, PartKind, parts, parts_from, past, refl, Row}
+use proofs.Words.{said_frames, Some, Speaks, suc, sym, take, take-append-add, take-append-le}
+use proofs.Words.{take-map, take_past, true, whole, zero, ℕ, [], ◌++◌, ◌+◌, ◌-◌, ◌<◌, ◌==◌, ◌∙◌}
+use proofs.Words.{◌∷◌, ◌≡◌, ◌≤◌}
 use proofs.Calm.{message_ends, said_apart}
 use proofs.Handshakes.{begins_message, first_byte, IsClosed, no_message}
 use proofs.OneView.{element}
-use proofs.Orderly.{bodies_apart, bodies_owing}
+use proofs.Orderly.{bodies_owing}
 use proofs.Pieces.{begun_apart, IsPiece, last_ends, piece_at, pieces}
 use proofs.Spoken.{entry_holds, Holds, holds_of, node_before}
 use proofs.Sayable.{IsSayable, reads, said_take}
@@ -21,18 +21,15 @@ pub record IsCut (v : ℕ) (bs : List (List ℕ)) : Type 0 where
   pub ends : begun_of v bs ≡ None
   pub each : (n : ℕ) (k : Begun) → begun_of v (take n bs) ≡ Some k → IsBegun v bs n k
 
-none_some : (k : Begun) → None ≡ Some k → true ≡ false
-none_some k q = sym (ap is_some q)
-
 module _ (v : ℕ) where
   cut_both : (xs ys : List (List ℕ)) → IsCut v xs → IsCut v ys → IsCut v (xs ++ ys)
   cut_both xs ys first later = record { ends = behind ys ∙ later.ends; each = each }
     where
       behind : (zs : List (List ℕ)) → begun_of v (xs ++ zs) ≡ begun_of v zs
-      behind zs = grind (arith, said_apart, begun_apart)
+      behind = grind (arith, said_apart, begun_apart)
 
       in_first : (n : ℕ) (k : Begun) → IsBegun v xs n k → IsBegun v (xs ++ ys) n k
-      in_first n k it = grind (arith, length-append, length-drop, drop-append-le, take-append-le)
+      in_first = grind (arith, length-append, length-drop, drop-append-le, take-append-le)
 
       in_second : (n m : ℕ) (k : Begun) → n ≡ length xs + m → IsBegun v ys m k
           → IsBegun v (xs ++ ys) n k
@@ -71,7 +68,7 @@ module _ (v : ℕ) where
       more rows))) refl
     where
       ended : length (parts_from kind s 1 more rows) ≤ suc j → true ≡ false
-      ended short = grind (arith, take_past, last_ends)
+      ended = grind (arith, take_past, last_ends)
 
       here : (f : Message2)
           → (it : IsPiece None kind s [] rows 0 (parts_from kind s 1 more rows) j f) → (b : Bool)
@@ -96,8 +93,8 @@ module _ (v : ℕ) where
     where
       single : (f : Message2) → begun_after None f ≡ None → (n : ℕ)
           → begun_by None (take n (f ∷ [])) ≡ Some k → true ≡ false
-      single f none zero q = none_some k q
-      single f none (suc n) q = none_some k (sym (alone n ∙ none) ∙ q)
+      single f none zero q = (cc)
+      single f none (suc n) q = cc (alone n, none)
         where
           alone : (n : ℕ) → begun_by None (take (suc n) (f ∷ [])) ≡ begun_after None f
           alone zero = refl
@@ -107,7 +104,7 @@ module _ (v : ℕ) where
           → begun_by None (take n (cond b (parts m) (whole m ∷ []))) ≡ Some k
           → (cond (v == 2) (parts m) (whole m ∷ []) ≡ parts m) × (k.number ≡ n)
           × (n < length (parts m))
-      by b new m q = grind (arith, single, begun_at)
+      by = grind (arith, single, begun_at)
 
   abbrev Cut : List OutFrame → Type 0
   Cut fs = IsCut v (map (λ f. f.body) fs)
@@ -117,18 +114,18 @@ module _ (v : ℕ) where
     where
       said_so : (n : ℕ) → frames_said v (take n (map (λ f. f.body) (said_frames v m)))
           ≡ take n (pieces v m)
-      said_so n = grind (arith, take-map, said_take, reads)
+      said_so = grind (arith, take-map, said_take, reads)
 
       each : (n : ℕ) (k : Begun)
           → begun_of v (take n (map (λ f. f.body) (said_frames v m))) ≡ Some k
           → IsBegun v (map (λ f. f.body) (said_frames v m)) n k
-      each n k q = grind (arith, begun_of_message, said_so, length-map)
+      each = grind (arith, begun_of_message, said_so, length-map)
 
   cut_hello : (body : List ℕ) → begins_message (first_byte body) ≡ false
       → Cut (narrow body ∷ [])
   cut_hello body other = record {
     ends = none_said 1;
-    each = λ n k q. lie (none_some k (sym (none_said n) ∙ q));
+    each = λ n k q. cc (none_said n);
   }
     where
       none : message_taken v body ≡ None
@@ -155,7 +152,7 @@ pub out_cut : (o : Opening) (es : List Entry) → IsNode (past o es) → (l v : 
 out_cut o [] node l v speaks = (cut_closed v).nothing
 out_cut o (e ∷ es) node l v speaks =
     let was = node_before o e es node in
-    rw (bodies_apart, bodies_owing) (cut_both v (bodies_of (out_in o l es))
+    rw (map-append, bodies_owing) (cut_both v (bodies_of (out_in o l es))
     (map (λ f. f.body) (owed (past o es) l e.number e.event e.verdict))
     (out_cut o es was l v speaks.1)
     (entry_holds o e es node l v speaks.1 (Cut v) (each_cut v (past o es) was l)

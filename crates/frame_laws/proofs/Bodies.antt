@@ -5,9 +5,9 @@ use proofs.Words.{completed, completed_by, completed_by_more, ends_rows, Entry, 
 use proofs.Words.{heard, is_about_rows, IsHonest, kept_after, known, length, List, Message}
 use proofs.Words.{Message2, message_taken, None, Opening, Option, option_and_then, option_map_or}
 use proofs.Words.{option_to_list, Pid, refl, says_rows, seen_by, slice_get, slice_get_within, Some}
-use proofs.Words.{stated, subst, suc, take, take-append-add, take-append-le, true, view_of, zero, ℕ}
-use proofs.Words.{[], ◌++◌, ◌+◌, ◌∷◌, ◌≡◌}
-use proofs.Calm.{FewBehind, said_apart, seen_apart, ThereBehind}
+use proofs.Words.{stated, suc, take, take-append-add, take-append-le, true, view_of, zero, ℕ, []}
+use proofs.Words.{◌++◌, ◌+◌, ◌∷◌, ◌≡◌}
+use proofs.Calm.{said_apart, seen_apart}
 
 -- ---- lists
 
@@ -26,21 +26,20 @@ module _ {A : Type 0} where
   take_last xs x = take-append-add xs (x ∷ []) 1
 
   pub take_all : (xs : List A) (x : A) → take (length xs) (xs ++ x ∷ []) ≡ xs
-  take_all xs x = grind (arith, take-append-add xs (x ∷ []) 0, append-nil xs)
+  take_all xs x = grind (arith, take-append-add xs (x ∷ []) 0, append-nil)
 
 pub honest_first : (v : ℕ) (name : List ℕ) (creation : ℕ) (s : List ℕ) (xs ys : List (List ℕ))
     → IsHonest v name creation s (xs ++ ys) → IsHonest v name creation s xs
 honest_first v name creation s xs ys it = record {
-  own = λ n body m q says. it.own n body m (stands_first xs ys n body q) says;
+  own = λ n body m q. it.own n body m (stands_first xs ys n body q);
   order = grind (arith, begins_in_order, said_apart);
   few = λ n body q kind number last rows says.
       let less = slice_get_within xs n body q in
-      subst (FewBehind v s kind number rows) (take-append-le n xs ys (omega arith))
+      rw (take-append-le n xs ys (omega arith)) at
       (it.few n body (stands_first xs ys n body q) kind number last rows says);
   there = λ n body q number last rows says.
       let less = slice_get_within xs n body q in
-      subst (ThereBehind v s number rows)
-      (take-append-le n xs ys (omega arith))
+      rw (take-append-le n xs ys (omega arith)) at
       (it.there n body (stands_first xs ys n body q) number last rows says);
 }
 
@@ -73,31 +72,31 @@ module _ (v : ℕ) (bodies : List (List ℕ)) (body : List ℕ) where
 
   pub view_more : (s g : List ℕ) (p : Pid) → view_of v s g p (bodies ++ body ∷ [])
       ≡ seen_by s g p (option_to_list (completes_there v bodies body)) (view_of v s g p bodies)
-  view_more s g p = grind (arith, frames_more, more_said, seen_apart)
+  view_more = grind (arith, frames_more, more_said, seen_apart)
 
 -- what completes rows of s is a last part of them
 pub says_ends : (s : List ℕ) (b : Option Begun) (x : Option Message2)
     → option_map_or (says_rows s) (option_and_then (completed b) x) false
     ≡ option_map_or (ends_rows s) x false
-says_ends s b x = grind arith
+says_ends = grind arith
 
 module _ (s g : List ℕ) (p : Pid) where
   -- one that says no rows of s, and leaves something known, leaves all
   pub left_so : (x : Option Message) (v : Option ℕ) (n : ℕ)
       → option_map_or (says_rows s) x false ≡ false → seen_by s g p (option_to_list x) v ≡ Some n
       → (w : Option ℕ) → seen_by s g p (option_to_list x) w ≡ w
-  left_so x v n none q w = grind arith
+  left_so = grind arith
 
   -- one that isn't about rows of s leaves all
   pub apart_so : (x : Option Message) → is_about_rows s x ≡ false → (w : Option ℕ)
       → seen_by s g p (option_to_list x) w ≡ w
-  apart_so x q w = grind arith
+  apart_so = grind arith
 
 pub is_known : (o : Opening) (l : ℕ) (s g : List ℕ) (p : Pid) (es : List Entry)
     → heard o l s es ≡ true
     → known o l s g p es ≡ Some (stated o l s g p es)
-is_known o l s g p es hears = grind arith
+is_known = grind arith
 
 pub known_heard : (o : Opening) (l : ℕ) (s g : List ℕ) (p : Pid) (es : List Entry) (n : ℕ)
     → known o l s g p es ≡ Some n → heard o l s es ≡ true
-known_heard o l s g p es n q = grind arith
+known_heard = grind arith

@@ -1,11 +1,11 @@
 -- What frames make of a view, and which leave it.
 use Rattle.frame_laws.proofs
-use proofs.Words.{all_append, AllByRecursion, ap, AreThere, arith, begun_by, Bool, completed_by}
-use proofs.Words.{drop, false, flat_map-append, frames_said, has_rows, is_about_rows, IsFew, IsText}
-use proofs.Words.{List, map-append, max_rows, Message, Message2, message_taken, narrow, None}
-use proofs.Words.{Option, OutFrame, PartKind, parts_from, Pid, refl, Row, said_frames, same, seen}
-use proofs.Words.{seen_by, slice_get, so_far_behind, Some, subst, suc, true, view_of, wide, zero, ℕ}
-use proofs.Words.{[], ◌++◌, ◌∙◌, ◌∷◌, ◌≡◌}
+use proofs.Words.{all_append, AllByRecursion, AreThere, arith, begun_by, Bool, completed_by, drop}
+use proofs.Words.{false, flat_map-append, frames_said, has_rows, is_about_rows, IsFew, IsText, List}
+use proofs.Words.{map-append, max_rows, Message, Message2, message_taken, narrow, None, Option}
+use proofs.Words.{OutFrame, Part, PartKind, parts_from, Pid, refl, Row, said_frames, same, seen}
+use proofs.Words.{seen_by, slice_get, so_far_behind, Some, suc, true, view_of, wide, zero, ℕ, []}
+use proofs.Words.{◌++◌, ◌∷◌, ◌≡◌}
 use proofs.Handshakes.{begins_message, first_byte, IsClosed, no_message}
 use proofs.Pieces.{begun_apart, completed_apart, pieces, pieces_complete, pieces_end}
 use proofs.Sayable.{asks_alike, asks_sayable, downs_alike, downs_sayable, IsSayable, reads}
@@ -23,10 +23,10 @@ module _ (s g : List ℕ) (p : Pid) where
 
 pub said_apart : (v : ℕ) (xs ys : List (List ℕ))
     → frames_said v (xs ++ ys) ≡ frames_said v xs ++ frames_said v ys
-said_apart v xs ys = grind (arith, flat_map-append)
+said_apart = grind (arith, flat_map-append)
 
 pub frames_apart : (v : ℕ) (xs ys : List OutFrame) → said v (xs ++ ys) ≡ said v xs ++ said v ys
-frames_apart v xs ys = grind (arith, map-append, said_apart)
+frames_apart = grind (arith, map-append, said_apart)
 
 -- messages, and each is whole
 abbrev pub AreWhole : ℕ → List OutFrame → Type 0
@@ -34,23 +34,12 @@ AreWhole v fs = begun_by None (said v fs) ≡ None
 
 pub whole_both : (v : ℕ) (xs ys : List OutFrame) → AreWhole v xs → AreWhole v ys
     → AreWhole v (xs ++ ys)
-whole_both v xs ys first later =
-    grind (
-      arith,
-      frames_apart v xs ys,
-      begun_apart None (said v xs) (said v ys),
-    )
+whole_both = grind (arith, frames_apart, begun_apart)
 
 pub frames_seen : (v : ℕ) (s g : List ℕ) (p : Pid) (xs ys : List OutFrame) (x : Option ℕ)
     → AreWhole v xs
     → seen_frames v s g p (xs ++ ys) x ≡ seen_frames v s g p ys (seen_frames v s g p xs x)
-frames_seen v s g p xs ys x first =
-    grind (
-      arith,
-      frames_apart v xs ys,
-      completed_apart None (said v xs) (said v ys),
-      seen_apart s g p (completed_by None (said v xs)) (completed_by None (said v ys)) x,
-    )
+frames_seen = grind (arith, frames_apart, completed_apart, seen_apart)
 
 -- what a part says holds behind these bodies: no more are there than may be, or so many are there
 abbrev pub FewBehind : ℕ → List ℕ → PartKind → ℕ → List Row → List (List ℕ) → Type 0
@@ -69,16 +58,16 @@ module _ (v : ℕ) (m : Message) (can : IsSayable v m) where
 
   pub message_seen : (s g : List ℕ) (p : Pid) (x : Option ℕ)
       → seen_frames v s g p (said_frames v m) x ≡ seen s g p m x
-  message_seen s g p x = grind (arith, message_says, pieces_complete v m)
+  message_seen = grind (arith, message_says, pieces_complete)
 
   pub message_ends : AreWhole v (said_frames v m)
-  message_ends = ap (begun_by None) message_says ∙ pieces_end v m
+  message_ends = grind (arith, message_says, pieces_end)
 
 -- ---- frames that say no rows of s and leave each view of it
 
 -- a part of a message with rows of s
 abbrev pub is_part : List ℕ → Option Message2 → Bool
-is_part s (Some (Message2.Part kind t number last rows)) = same t s
+is_part s (Some (Part kind t number last rows)) = same t s
 is_part s x = false
 
 -- no frame is one
@@ -99,7 +88,7 @@ from_other s kind t number (suc more) rows other =
 
 pieces_other : (v : ℕ) (s : List ℕ) (m : Message) → is_about_rows s (Some m) ≡ false
     → AllByRecursion (λ p. is_part s (Some p) ≡ false) (pieces v m)
-pieces_other v s = grind (arith, from_other)
+pieces_other = grind (arith, from_other)
 
 module _ (v : ℕ) (s : List ℕ) where
   pub calm_closed : IsClosed (AllCalm v s)
@@ -107,27 +96,20 @@ module _ (v : ℕ) (s : List ℕ) where
 
   pub calm_message : (m : Message) → IsSayable v m → is_about_rows s (Some m) ≡ false
       → AllCalm v s (said_frames v m)
-  calm_message m can other =
-      grind (
-        arith,
-        message_ends v m can,
-        reads_hold v,
-        reads v m can,
-        pieces_other v s m other,
-        message_seen v m can s,
-      )
+  calm_message m can =
+      grind (arith, message_ends v m can, reads_hold v, reads v m can, pieces_other, message_seen)
 
   pub calm_hello : (body : List ℕ) → begins_message (first_byte body) ≡ false
       → AllCalm v s (narrow body ∷ [])
-  calm_hello body q = grind (arith, no_message)
+  calm_hello = grind (arith, no_message)
 
   pub calm_asks : (t : List ℕ) → IsText t → AllCalm v s (wide (Message.Discover t) ∷ [])
-  calm_asks t text = subst (AllCalm v s) (asks_alike v t)
+  calm_asks t text = rw asks_alike at
       (calm_message (Message.Discover t) (asks_sayable v t text) refl)
 
   pub calm_down : (t : List ℕ) → IsText t → same t s ≡ false
       → AllCalm v s (wide (Message.Down t) ∷ [])
-  calm_down t text other = subst (AllCalm v s) (downs_alike v t)
+  calm_down t text other = rw downs_alike at
       (calm_message (Message.Down t) (downs_sayable v t text) other)
 
 pub no_rows_at : (v : ℕ) (s : List ℕ) (fs : List OutFrame) → HasNoRows v s fs → (m : ℕ)
@@ -139,4 +121,4 @@ no_rows_at v s (x ∷ fs) all (suc m) f q = no_rows_at v s fs all.1 m f q
 -- what completes rows of s is a part of it
 pub rows_part : (v : ℕ) (s body : List ℕ) → has_rows v s body ≡ true
     → is_part s (message_taken v body) ≡ true
-rows_part v s body q = grind arith
+rows_part = grind arith

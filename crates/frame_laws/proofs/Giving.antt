@@ -1,11 +1,11 @@
 -- What a peer has given came on the link: its Name first, or its Challenge.
 use Rattle.frame_laws.proofs
-use proofs.Words.{Accepted, accepted, all_append, AllByRecursion, and_frame, and_parts, ap, arith}
-use proofs.Words.{Bool, but, ByDial, ByPeer, came, cond, delivered, ends, Entry, eqb-true, Event}
-use proofs.Words.{false, Far, far, frame_fits, fresh, is_open, is_whole, IsAskedOnce, IsNamedFirst}
-use proofs.Words.{IsPlayedIn, judgement, List, None, none_taken, not, Opened, opened, Opening}
-use proofs.Words.{Option, past, refl, Refused, Reply, Rule, slice_get, Some, Start, subst, sym}
-use proofs.Words.{Taken, taken, true, Verdict, ℕ, [], ◌&&◌, ◌++◌, ◌==◌, ◌||◌, ◌∙◌, ◌∷◌, ◌≡◌}
+use proofs.Words.{Accepted, all_append, AllByRecursion, and_frame, and_parts, ap, arith, Bool, but}
+use proofs.Words.{ByDial, ByPeer, came, cond, delivered, ends, Entry, eqb-true, Event, false, Far}
+use proofs.Words.{far, Frame, fresh, is_open, is_whole, IsAskedOnce, IsNamedFirst, IsPlayedIn}
+use proofs.Words.{judgement, List, None, none_taken, not, Opened, opened, Opening, Option, past}
+use proofs.Words.{refl, Refused, Reply, Rule, slice_get, Some, Start, subst, sym, Taken, taken}
+use proofs.Words.{true, Verdict, ℕ, [], ◌&&◌, ◌++◌, ◌==◌, ◌||◌, ◌∙◌, ◌∷◌, ◌≡◌}
 use proofs.Bodies.{stands_first, stands_last}
 
 -- ---- the first frame on a link that its peer opened
@@ -42,40 +42,38 @@ module _ (o : Opening) (l : ℕ) where
         → elim (cond {A = Option Opened} b (Some (record { start = st; before = es })) None) as
         (λ _. Option Opened) [ Some y ↦ Some y | None ↦ opened l es ] ≡ at_opening
         → Before → Began l (but e ev (Accepted r) ∷ es)
-    begins ev r st same_taken none true here opens q so_far =
-        grind (arith, none_taken o es legal [] e fresh_is l here)
+    begins ev r st same_taken none true here opens q so_far = grind (arith, none_taken)
     begins ev r st same_taken none false other opens q so_far = keep es (but e ev (Accepted r))
         same_taken (λ now. sym (opens ∙ ap (λ b. b || is_open l es) other) ∙ now) none (so_far q)
 
     accepted_frame : (k : ℕ) (body : List ℕ) (r : Reply)
-        → Accepted r ≡ judgement (past o es) e.seat (Event.Frame k body) → (b : Bool) → (k == l) ≡ b
-        → Began l es → Began l (but e (Event.Frame k body) (Accepted r) ∷ es)
+        → Accepted r ≡ judgement (past o es) e.seat (Frame k body) → (b : Bool) → (k == l) ≡ b
+        → Began l es → Began l (but e (Frame k body) (Accepted r) ∷ es)
     accepted_frame k body r q false other began =
-        keep es (but e (Event.Frame k body) (Accepted r))
+        keep es (but e (Frame k body) (Accepted r))
         (ap (λ b. and_frame (taken l es) (cond b (Some (record { body = body; before = es })) None))
         other)
-        (was_open (ends l es (Accepted r) (Event.Frame k body)) (is_open l es))
+        (was_open (ends l es (Accepted r) (Frame k body)) (is_open l es))
         (ap (λ b. cond b (body ∷ []) []) other) began
     accepted_frame k body r q true is (Nothing no_taken no_body) =
-        let opens = subst (λ j. is_open j es ≡ true) (eqb-true k l is) (frame_fits o es e.seat k
-        body (accepted (past o es) e.seat (Event.Frame k body) r q).0).0 in
+        let opens : is_open l es ≡ true = grind (arith, eqb-true k l is) in
         First (record { body = body; before = es }) []
         (λ i. and_frame (no_taken i) (cond (is i) (Some (record { body = body; before = es }))
         None)) (λ i. slice_get (no_body opens i ++ cond (is i) (body ∷ []) []) 0)
     accepted_frame k body r q true is (First t rest first stands) =
         First t (rest ++ record { body = body; before = es } ∷ [])
         (λ i. and_frame (first i) (cond (is i) (Some (record { body = body; before = es })) None))
-        (stands_first (delivered l es) (came l (Event.Frame k body)) 0 t.body stands)
+        (stands_first (delivered l es) (came l (Frame k body)) 0 t.body stands)
 
     refused_frame : (k : ℕ) (body : List ℕ) (r : Rule) → opened l es ≡ at_opening → (b : Bool)
-        → (k == l) ≡ b → Began l es → Began l (but e (Event.Frame k body) (Refused r) ∷ es)
+        → (k == l) ≡ b → Began l es → Began l (but e (Frame k body) (Refused r) ∷ es)
     refused_frame k body r opening false other began =
-        keep es (but e (Event.Frame k body) (Refused r)) refl
-        (was_open (ends l es (Refused r) (Event.Frame k body)) (is_open l es))
+        keep es (but e (Frame k body) (Refused r)) refl
+        (was_open (ends l es (Refused r) (Frame k body)) (is_open l es))
         (ap (λ b. cond b (body ∷ []) []) other) began
     refused_frame k body r opening true is (Nothing no_taken no_body) = grind arith
     refused_frame k body r opening true is (First t rest first stands) = First t rest first
-        (stands_first (delivered l es) (came l (Event.Frame k body)) 0 t.body stands)
+        (stands_first (delivered l es) (came l (Frame k body)) 0 t.body stands)
 
     by_event : (ev : Event) (v : Verdict) → v ≡ judgement (past o es) e.seat ev → Before
         → opened l (but e ev v ∷ es) ≡ at_opening → Began l (but e ev v ∷ es)
@@ -84,9 +82,9 @@ module _ (o : Opening) (l : ℕ) where
     by_event (Event.Dial n d) (Accepted r) q so_far opens = begins (Event.Dial n d) r (ByDial n d)
         refl refl (e.number == l) refl refl opens so_far
     by_event Event.Restart (Accepted r) q so_far opens = cc
-    by_event (Event.Frame k body) (Accepted r) q so_far opens = accepted_frame k body r q (k == l)
+    by_event (Frame k body) (Accepted r) q so_far opens = accepted_frame k body r q (k == l)
         refl (so_far opens)
-    by_event (Event.Frame k body) (Refused r) q so_far opens = refused_frame k body r opens (k == l)
+    by_event (Frame k body) (Refused r) q so_far opens = refused_frame k body r opens (k == l)
         refl (so_far opens)
     by_event ev (Accepted r) q so_far opens = keep es (but e ev (Accepted r)) refl
         (was_open (ends l es (Accepted r) ev) (is_open l es)) refl (so_far opens)
@@ -134,13 +132,7 @@ module _ (o : Opening) (l : ℕ) where
   taken_came : (es : List Entry) → AllByRecursion (IsCame (delivered l es)) (taken l es)
   taken_came [] = tt
   taken_came (e ∷ es) =
-      grind (
-        arith,
-        taken_came es,
-        all_append,
-        more_came (delivered l es),
-        stands_last (delivered l es),
-      )
+      grind (arith, taken_came es, all_append, more_came, stands_last (delivered l es))
 
   pub asked_once : (es : List Entry) → IsPlayedIn o es → (n : List ℕ) (c : ℕ) (bo : List Entry)
       → opened l es ≡ Some (record { start = ByDial n c; before = bo }) → is_whole l es ≡ true

@@ -9,14 +9,14 @@ use proofs.Words.{IsPlayedIn, IsVersion, IsWritten, judgement, link_version, Lis
 use proofs.Words.{Message2, message_taken, moment, name_bytes, name_frame, name_frame-spelled}
 use proofs.Words.{narrow, Opening, opening_of, out_in, OutFrame, owed, owes, Owing, owing}
 use proofs.Words.{own_challenge, own_flags, own_hello, own_name_frame, past, refl, said_frames}
-use proofs.Words.{slice_get, Some, SpellsChallenge-read, start_of, status_frame, StatusWord, sym}
-use proofs.Words.{true, unowed, Verdict, version_bytes, version_read, wide, ℕ, [], ◌+◌, ◌<◌, ◌==◌}
-use proofs.Words.{◌^◌, ◌∙◌, ◌∷◌, ◌≡◌, ◌≤◌}
+use proofs.Words.{slice_get, Some, SpellsChallenge-read, start_of, sym, true, unowed, Verdict}
+use proofs.Words.{version_bytes, version_read, ℕ, [], ◌+◌, ◌<◌, ◌==◌, ◌^◌, ◌∙◌, ◌∷◌, ◌≡◌, ◌≤◌}
 use proofs.Handshakes.{all_closed, begins_it, first_byte, HoldsOfHellos}
-use proofs.Pieces.{pieces}
+use proofs.Pieces.{pieces, value_of}
+use proofs.Bodies.{stands_first}
 use proofs.Openings.{opening_low, same_creation, unborn_out}
 use proofs.OwnLimits.{own_creation_fits}
-use proofs.Places.{all_at, first_of_both, InFirst, InSecond, owed_here, part, Parted, this_moment}
+use proofs.Places.{all_at, InFirst, InSecond, owed_here, part, Parted, this_moment}
 use proofs.Spoken.{Holds, node_before, owed_hold}
 use proofs.Sayable.{IsSayable, reads, reads_hold}
 
@@ -73,26 +73,15 @@ module _ (h : History) (node : IsNode h) where
     none_asked : (body : List ℕ) → (first_byte body == 0x4E) ≡ false → IsOwn (narrow body)
     none_asked body other g q = absurd (not_asked body other g q)
 
-    same_asked : (f g : Challenge) → Some f ≡ Some g → f ≡ g
-    same_asked f g q = grind arith
-
     hellos : HoldsOfHellos h l (AllByRecursion IsOwn)
-    hellos = record {
-      status = λ w. (none_asked _ (first w), tt);
-      challenge = (λ g q. ap hello_in (sym (same_asked own_asked g (sym asked_says ∙ q))), tt);
-      reply = λ f. (none_asked _ refl, tt);
-      ack = λ f. (none_asked _ refl, tt);
-    }
-      where
-        first : (w : StatusWord) → (first_byte (OutFrame.body (status_frame w)) == 0x4E) ≡ false
-        first w = grind arith
+    hellos = grind (arith, none_asked, value_of, asked_says)
 
     abbrev version : ℕ
     version = link_version h.opening l h.entries
 
     says_own : (f : OutFrame) (p : Message2) → f.wide ≡ true → message_taken version f.body ≡ Some p
         → Unit {0} → IsOwn f
-    says_own f p wide says any g q = grind (arith, not_asked, begins_it)
+    says_own = grind (arith, not_asked, begins_it)
 
     all_any : (ps : List Message2) → AllByRecursion (λ p. Unit {0}) ps
     all_any [] = tt
@@ -123,15 +112,15 @@ module _ (h : History) (node : IsNode h) where
 module _ (o : Opening) (e : Entry) (es : List Entry) (l : ℕ) where
   earlier_hello : l ≤ entered es
       → own_hello (moment l (past o es)) ≡ own_hello (moment l (past o (e ∷ es)))
-  earlier_hello low = grind arith
+  earlier_hello = grind arith
 
   now_hello : IsPlayedIn o es → is_open l es ≡ true
       → own_hello (past o es) ≡ own_hello (moment l (past o es))
-  now_hello legal opens = grind (arith, same_creation)
+  now_hello = grind (arith, same_creation)
 
   -- a link that was opened before has another number
   apart : e.number ≡ entered es + 1 → l ≤ entered es → (e.number == l) ≡ false
-  apart number low = grind arith
+  apart = grind arith
 
 pub asked_own : (o : Opening) (es : List Entry) → IsNode (past o es) → (l c : ℕ)
     → opening_of l es ≡ Some (ByPeer c) → (n : ℕ) (x : Owing) → slice_get (out_in o l es) n ≡ Some x
@@ -157,8 +146,7 @@ asked_own o (e ∷ es) node l c opens n x q g says = by (is_opened_by l e) refl 
           arith,
           opening_low o es node.legal.1 l (ByPeer c) q,
           owed_here e.number (owed (past o es) l e.number e.event e.verdict) m x r,
-          all_at (IsOwn (past o es) (node_before o e es node) l) (owed (past o es) l e.number
-              e.event e.verdict),
+          all_at,
           node_before o e es node,
           owed_own (past o es) (node_before o e es node) l e.number e.seat,
           apart o e es l,
@@ -194,5 +182,4 @@ named_own o (e ∷ es) node l n c opens = by (is_opened_by l e) refl opens
     by : (b : Bool) → is_opened_by l e ≡ b
         → cond b (start_of e.event) (opening_of l es) ≡ Some (ByDial n c)
         → (opening_of l es ≡ Some (ByDial n c) → IsNamed o es l) → IsNamed o (e ∷ es) l
-    by b here q so_far =
-        grind (arith, opens_next, dials, unborn_out, first_of_both, earlier_hello)
+    by = grind (arith, opens_next, dials, unborn_out, stands_first, earlier_hello)

@@ -3,8 +3,8 @@ use Rattle.frame_laws.proofs
 use proofs.Words.{Accepted, append-nil, append_assoc, arith, Bool, but, drops, ends, entered, Entry}
 use proofs.Words.{Event, false, frames_of, handed, is_open, is_opened_by, IsPlayedIn, IsStep}
 use proofs.Words.{leb-true, List, map-append, open_opened, Opening, out_in, OutFrame, owed, past}
-use proofs.Words.{refl, Refused, Reply, sent, true, unborn, unborn_waiting, unowed, Verdict}
-use proofs.Words.{waiting, waiting_in, ℕ, [], ◌&&◌, ◌++◌, ◌<◌, ◌==◌, ◌∙◌, ◌∷◌, ◌≡◌, ◌≤◌}
+use proofs.Words.{refl, Reply, sent, true, unborn, unborn_waiting, unowed, Verdict, waiting_in, ℕ}
+use proofs.Words.{[], ◌&&◌, ◌++◌, ◌<◌, ◌∙◌, ◌∷◌, ◌≡◌, ◌≤◌}
 use proofs.Places.{frames_owing}
 
 -- what was owed and not handed out: it waits, or it was dropped with the link
@@ -20,7 +20,7 @@ pub record IsHanded (o : Opening) (l : ℕ) (es : List Entry) : Type 0 where
 -- a link whose number no entry has yet isn't open
 pub unborn_open : (o : Opening) (es : List Entry) → IsPlayedIn o es → (l : ℕ) → entered es < l
     → is_open l es ≡ false
-unborn_open o es legal l above = grind (arith, unborn o es legal l above, open_opened l es)
+unborn_open o es legal l = grind (arith, unborn, open_opened l es)
 
 module _ (o : Opening) (es : List Entry) (e : Entry) (l : ℕ) (legal : IsPlayedIn o es)
   where
@@ -33,17 +33,10 @@ module _ (o : Opening) (es : List Entry) (e : Entry) (l : ℕ) (legal : IsPlayed
       total_of : (rest : List OutFrame) → sent l es ++ rest ≡ frames_of (out_in o l es)
           → sent l (but e ev v ∷ es) ++ (rest ++ now ev v)
           ≡ frames_of (out_in o l (but e ev v ∷ es))
-      total_of rest all =
-          grind (
-            arith,
-            append-nil (sent l es),
-            append_assoc (sent l es) rest (now ev v),
-            map-append,
-            frames_owing,
-          )
+      total_of = grind (arith, append-nil, append_assoc, map-append, frames_owing)
 
       stays : drops l es v ev ≡ false → IsHanded o l es → IsHanded o l (but e ev v ∷ es)
-      stays d before = grind (arith, total_of before.rest before.all, unowed o es l)
+      stays d before = grind (arith, total_of before.rest before.all, unowed)
 
       -- one that ends the link
       drop_now : drops l es v ev ≡ true → ends l es v ev ≡ true
@@ -64,13 +57,7 @@ module _ (o : Opening) (es : List Entry) (e : Entry) (l : ℕ) (legal : IsPlayed
         (are : frames ≡ waiting_in o l es) where
       taken : IsHanded o l es
           → IsHanded o l (but e (Event.Take k) (Accepted (Reply.Out frames)) ∷ es)
-      taken before =
-          grind (
-            arith,
-            append-nil (sent l es ++ frames),
-            append-nil (out_in o l es),
-            append-nil (sent l es),
-          )
+      taken = grind (arith, append-nil)
 
     -- ---- each event
 
@@ -84,29 +71,14 @@ module _ (o : Opening) (es : List Entry) (e : Entry) (l : ℕ) (legal : IsPlayed
         by true m = grind (arith, drop_now)
         by false m = stays ev v made none (d ∙ m) before
 
-    lost_by : (k : ℕ) (r : Reply) → IsStep (past o es) (but e (Event.Lost k) (Accepted r))
-        → (b : Bool) → (k == l) ≡ b → IsHanded o l es
-        → IsHanded o l (but e (Event.Lost k) (Accepted r) ∷ es)
-    lost_by k r made true m before = grind (arith, drop_now)
-    lost_by k r made false m before =
-        stays (Event.Lost k) (Accepted r) made refl (grind arith) before
-
-    taken_by : (k : ℕ) (r : Reply) → IsStep (past o es) (but e (Event.Take k) (Accepted r))
-        → r ≡ Reply.Out (waiting (past o es) k) → (b : Bool) → (k == l) ≡ b → IsHanded o l es
-        → IsHanded o l (but e (Event.Take k) (Accepted r) ∷ es)
-    taken_by k r made is true m before = grind (arith, taken)
-    taken_by k r made is false m before =
-        stays (Event.Take k) (Accepted r) made (grind arith) (grind arith) before
-
     step : (ev : Event) (v : Verdict) → IsStep (past o es) (but e ev v) → IsHanded o l es
         → IsHanded o l (but e ev v ∷ es)
-    step ev (Refused r) made before = stays ev (Refused r) made (grind arith) refl before
     step Event.Restart (Accepted r) made before = grind (arith, drop_now)
-    step (Event.Lost k) (Accepted r) made before = lost_by k r made (k == l) refl before
-    step (Event.Take k) (Accepted r) made before = grind (arith, taken_by)
+    step (Event.Lost k) (Accepted r) made before = grind (arith, drop_now, stays)
+    step (Event.Take k) (Accepted r) made before = grind (arith, taken, stays)
     step (Event.Disconnect n) (Accepted r) made before = grind (arith, by_test)
     step (Event.Frame k body) (Accepted r) made before = grind (arith, by_test)
-    step ev (Accepted r) made before = stays ev (Accepted r) made refl refl before
+    step ev v made before = grind (arith, stays)
 
 pub all_handed : (o : Opening) (es : List Entry) → IsPlayedIn o es → (l : ℕ) → IsHanded o l es
 all_handed o [] legal l = grind arith
@@ -115,4 +87,4 @@ all_handed o (e ∷ es) legal l = grind (arith, step, all_handed o es legal.1 l)
 -- while the link is open, what waits is the rest
 pub open_rest : (o : Opening) (es : List Entry) (l : ℕ) → is_open l es ≡ true → IsHanded o l es
     → sent l es ++ waiting_in o l es ≡ frames_of (out_in o l es)
-open_rest o es l opens it = grind arith
+open_rest = grind arith

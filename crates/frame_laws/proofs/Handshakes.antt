@@ -23,7 +23,7 @@ begins_message b = b == 0x44 || b == 0x53 || b == 0x4A || b == 0x4C || b == 0x58
 
 pub taken_new : (v : ℕ) (body : List ℕ) → (v == 2) ≡ true → message_taken v body ≡ read_message2
     body
-taken_new v body q = grind arith
+taken_new = grind arith
 
 pub no_message : (v : ℕ) (body : List ℕ) → begins_message (first_byte body) ≡ false
     → message_taken v body ≡ None
@@ -39,7 +39,7 @@ no_message v body q = by (v == 2) (read_message body) refl (read_message2 body) 
 
 pub begins_it : (v : ℕ) (body : List ℕ) (m : Message2) → message_taken v body ≡ Some m
     → begins_message (first_byte body) ≡ true
-begins_it v body m says = grind (arith, no_message v body)
+begins_it = grind (arith, no_message)
 
 -- ---- what holds of each frame of the handshake, and of each Discover of a running scope
 
@@ -49,7 +49,7 @@ pub record IsClosed (L : List OutFrame → Type 0) : Type 0 where
   pub both : (xs ys : List OutFrame) → L xs → L ys → L (xs ++ ys)
 
 pub all_closed : (P : OutFrame → Type 0) → IsClosed (AllByRecursion P)
-all_closed P = record { nothing = tt; both = all_append P }
+all_closed = grind (arith, all_append)
 
 -- it holds of each frame of the handshake that h may owe to link l
 pub record HoldsOfHellos (h : History) (l : ℕ) (L : List OutFrame → Type 0) : Type 0 where
@@ -62,7 +62,7 @@ pub record HoldsOfHellos (h : History) (l : ℕ) (L : List OutFrame → Type 0) 
 pub of_hellos : (h : History) (l : ℕ) (L : List OutFrame → Type 0)
     → ((body : List ℕ) → begins_message (first_byte body) ≡ false → L (narrow body ∷ []))
     → HoldsOfHellos h l L
-of_hellos h l L hellos = grind arith
+of_hellos = grind arith
 
 module _ (h : History) (node : IsNode h) (l : ℕ) (L : List OutFrame → Type 0) (closed : IsClosed L)
     (hellos : HoldsOfHellos h l L)
@@ -70,11 +70,10 @@ module _ (h : History) (node : IsNode h) (l : ℕ) (L : List OutFrame → Type 0
   discover_all : (ss : List (List ℕ)) → AllByRecursion IsText ss
       → L (map (λ s. wide (Message.Discover s)) ss)
   discover_all [] texts = closed.nothing
-  discover_all (s ∷ ss) texts = closed.both (wide (Message.Discover s) ∷ [])
-      (map (λ t. wide (Message.Discover t)) ss) (asks s texts.0) (discover_all ss texts.1)
+  discover_all (s ∷ ss) texts = closed.both _ _ (asks s texts.0) (discover_all ss texts.1)
 
   discovers_all : L (discovers h l)
-  discovers_all = grind (arith, discover_all, scopes_text h node)
+  discovers_all = grind (arith, discover_all, scopes_text)
 
   welcome_all : (n : List ℕ) → L (welcome h l n)
   welcome_all n = by (is_name_up n h.entries) (is_dialling n h.entries)
@@ -83,10 +82,9 @@ module _ (h : History) (node : IsNode h) (l : ℕ) (L : List OutFrame → Type 0
           (cond c (status_frame StatusWord.OkSimultaneous ∷ own_challenge_frame h l ∷ [])
           (status_frame StatusWord.Ok ∷ own_challenge_frame h l ∷ [])))
       by true c = hellos.status StatusWord.Alive
-      by false true = closed.both (status_frame StatusWord.OkSimultaneous ∷ [])
-          (own_challenge_frame h l ∷ []) (hellos.status StatusWord.OkSimultaneous) hellos.challenge
-      by false false = closed.both (status_frame StatusWord.Ok ∷ [])
-          (own_challenge_frame h l ∷ []) (hellos.status StatusWord.Ok) hellos.challenge
+      by false true =
+          closed.both _ _ (hellos.status StatusWord.OkSimultaneous) hellos.challenge
+      by false false = closed.both _ _ (hellos.status StatusWord.Ok) hellos.challenge
 
   -- all that is owed for an accepted frame, where it holds of what a message owes
   pub frame_all : (body : List ℕ) (a : Awaited)
@@ -102,10 +100,7 @@ module _ (h : History) (node : IsNode h) (l : ℕ) (L : List OutFrame → Type 0
           }))
           ∷ discovers h l) x [])
       by None = closed.nothing
-      by (Some f) = closed.both
-          (narrow (ack_bytes (record { digest = digest_for h l f.challenge })) ∷ [])
-          (discovers h l) (hellos.ack (record { digest = digest_for h l f.challenge }))
-          discovers_all
+      by (Some f) = closed.both _ _ (hellos.ack _) discovers_all
   frame_all body AwaitStatus spoken = by (status_of body)
     where
       by : (x : Option StatusWord) → L (option_map_or true_to x [])
@@ -121,8 +116,7 @@ module _ (h : History) (node : IsNode h) (l : ℕ) (L : List OutFrame → Type 0
           (record { challenge = own_challenge l h.entries; digest = digest_for h l f.challenge }))
           ∷ []) x [])
       by None = closed.nothing
-      by (Some f) = hellos.reply
-          (record { challenge = own_challenge l h.entries; digest = digest_for h l f.challenge })
+      by (Some f) = hellos.reply _
   frame_all body AwaitAck spoken = discovers_all
   frame_all body AwaitMessage spoken = grind arith
 
@@ -133,4 +127,4 @@ module _ (h : History) (node : IsNode h) (l : ℕ) (L : List OutFrame → Type 0
   refusal_all r = closed.nothing
 
   pub dial_all : L (own_name_frame h ∷ []) → (b : Bool) → L (cond b (own_name_frame h ∷ []) [])
-  dial_all name b = grind arith
+  dial_all = grind arith

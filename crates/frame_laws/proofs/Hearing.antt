@@ -1,14 +1,14 @@
 -- What is heard of a node is what it said.
 use Rattle.frame_laws.proofs
 use proofs.Words.{Accepted, and_parts, ap, append-nil, arith, Begun, begun, begun_of, Bool, but}
-use proofs.Words.{came, cond, delivered, Entry, eqb-true, Event, false, frame_taken, fresh}
+use proofs.Words.{came, cond, delivered, Entry, eqb-true, Event, false, Frame, frame_taken, fresh}
 use proofs.Words.{has_rows, HasGiven, heard, HeardIsSaid, History, inl, inr, is_open, is_up}
 use proofs.Words.{is_whole, IsGiven, IsHonest, IsPlayedIn, IsStep, KeepsOrNot, kept_after, known}
 use proofs.Words.{length, lie, link_version, List, Message, message_taken, None, none_begun}
 use proofs.Words.{Opening, Option, option_map_or, option_to_list, past, Pid, refl, Refused, Reply}
 use proofs.Words.{Rule, said_at, same_decides, says_rows, seen_by, slice_get_within, Some, Speaks}
-use proofs.Words.{stated, subst, sym, take-append-le, tells_rows, told_rows, true, Verdict, view_of}
-use proofs.Words.{ℕ, [], ◌&&◌, ◌++◌, ◌==◌, ◌||◌, ◌∙◌, ◌∷◌, ◌≡◌}
+use proofs.Words.{stated, sym, take-append-le, tells_rows, told_rows, true, Verdict, view_of, ℕ, []}
+use proofs.Words.{◌&&◌, ◌++◌, ◌==◌, ◌||◌, ◌∙◌, ◌∷◌, ◌≡◌}
 use proofs.Accepting.{is_up_there}
 use proofs.Bodies.{apart_so, begun_more, completes_there, honest_first, is_known, left_so}
 use proofs.Bodies.{says_ends, stands_first, stands_last, take_last, view_more}
@@ -58,7 +58,7 @@ module _ (v : ℕ) (o : Opening) (es : List Entry) (e : Entry) (legal : IsPlayed
     }
       where
         nothing : bodies ++ came l ev ≡ bodies
-        nothing = grind (arith, append-nil bodies)
+        nothing = grind (arith, append-nil)
 
     -- a body came that says nothing of s
     calm_said : (body : List ℕ) → came l ev ≡ body ∷ []
@@ -73,7 +73,7 @@ module _ (v : ℕ) (o : Opening) (es : List Entry) (e : Entry) (legal : IsPlayed
       rows = it.rows;
       behind = λ g p. grind (arith, slice_get_within, take-append-le);
       now = λ g p.
-          grind (arith, view_more v bodies body s g p, stays g p (view_of v s g p bodies));
+          grind (arith, view_more, stays g p (view_of v s g p bodies));
     }
 
   -- a body came that says rows of s, and was accepted
@@ -88,10 +88,10 @@ module _ (v : ℕ) (o : Opening) (es : List Entry) (e : Entry) (legal : IsPlayed
     earlier = told_rows o l s es;
     last = grind arith;
     body = body;
-    stands = grind (arith, stands_last bodies body);
+    stands = grind (arith, stands_last);
     rows = rows;
-    behind = λ g p. grind (arith, take_last bodies body, all g p);
-    now = λ g p. grind (arith, all g p);
+    behind = λ g p. grind (arith, take_last, all);
+    now = λ g p. grind (arith, all);
   }
     where
       all : (g : List ℕ) (p : Pid)
@@ -100,7 +100,7 @@ module _ (v : ℕ) (o : Opening) (es : List Entry) (e : Entry) (legal : IsPlayed
 
   module _ (k : ℕ) (body : List ℕ) where
     abbrev ev : Event
-    ev = Event.Frame k body
+    ev = Frame k body
 
     abbrev said_by : Option Message → List Message
     said_by x = option_to_list x
@@ -146,8 +146,9 @@ module _ (v : ℕ) (o : Opening) (es : List Entry) (e : Entry) (legal : IsPlayed
           as_came : (g : List ℕ) (p : Pid) (w : Option ℕ)
               → seen_by s g p (said_by (said_at o l es body)) w
               ≡ seen_by s g p (said_by (completes_there v bodies body)) w
-          as_came g p w = AcceptsAlike.views (accepts_alike v o es e legal l agrees s k body r next
-              is whole alike) g p w
+          as_came =
+              AcceptsAlike.views (accepts_alike v o es e legal l agrees s k body r next is whole
+              alike)
 
           with_rows : option_map_or (says_rows s) (said_at o l es body) false ≡ true
               → Said ev (Accepted r)
@@ -192,7 +193,7 @@ module _ (v : ℕ) (o : Opening) (es : List Entry) (e : Entry) (legal : IsPlayed
         (hears : heard o l s (but e ev (Refused r) ∷ es) ≡ true) (before : Before v o l s es)
         (alike : Alike v o l s es) where
       same_known : SameKnown ev (Refused r)
-      same_known g p = grind arith
+      same_known = grind arith
 
       was : heard o l s es ≡ true
       was = grind arith
@@ -204,8 +205,7 @@ module _ (v : ℕ) (o : Opening) (es : List Entry) (e : Entry) (legal : IsPlayed
           calm_said ev (Refused r) refl hears same_known before body (grind arith)
           (λ g p. apart_so s g p (completes_there v bodies body)
           (refused_apart v o es e legal l agrees s name creation gives body honest before alike r
-          (subst (λ j. IsStep h (but e (Event.Frame j body) (Refused r))) (eqb-true k l is) next)
-          was))
+          (grind (arith, eqb-true)) was))
 
   module _ (name : List ℕ) (creation : ℕ)
       (gives : is_whole l es ≡ true → IsGiven l name creation es)
@@ -213,9 +213,9 @@ module _ (v : ℕ) (o : Opening) (es : List Entry) (e : Entry) (legal : IsPlayed
     entry_said : (ev : Event) (w : Verdict) → IsStep h (but e ev w)
         → IsHonest v name creation s (bodies ++ came l ev)
         → heard o l s (but e ev w ∷ es) ≡ true → Said ev w
-    entry_said (Event.Frame k body) (Accepted r) next honest hears =
+    entry_said (Frame k body) (Accepted r) next honest hears =
         accepted_said k body r next hears before alike (k == l) (is_whole l es) refl refl
-    entry_said (Event.Frame k body) (Refused r) next honest hears =
+    entry_said (Frame k body) (Refused r) next honest hears =
         refused_said k body name creation gives r next hears before alike (k == l) refl honest
     entry_said ev (Accepted r) next honest hears =
         same_said ev (Accepted r) refl hears
@@ -243,7 +243,7 @@ module _ (v : ℕ) (o : Opening) (es : List Entry) (e : Entry) (legal : IsPlayed
         nothing = ap (λ bs. bodies ++ bs) none ∙ append-nil bodies
 
         heard_still : heard o l s (but e ev w ∷ es) ≡ true → heard o l s es ≡ true
-        heard_still hears = quiet_heard v o es e legal l agrees s ev w next none hears
+        heard_still = quiet_heard v o es e legal l agrees s ev w next none
 
         was : is_up l es ≡ true
         was = from_or (kept_of s (begun o l (but e ev w ∷ es))) _ (is_up l es ≡ true) kept
@@ -253,12 +253,12 @@ module _ (v : ℕ) (o : Opening) (es : List Entry) (e : Entry) (legal : IsPlayed
 
     each_alike : (ev : Event) (w : Verdict) → IsStep h (but e ev w)
         → IsHonest v name creation s (bodies ++ came l ev) → Alike v o l s (but e ev w ∷ es)
-    each_alike (Event.Frame k body) (Accepted r) next honest =
+    each_alike (Frame k body) (Accepted r) next honest =
         by (k == l) refl (is_whole l es) refl
       where
         by : (b : Bool) → (k == l) ≡ b → (c : Bool) → is_whole l es ≡ c
-            → Alike v o l s (but e (Event.Frame k body) (Accepted r) ∷ es)
-        by false other c whole = grind (arith, same_alike (Event.Frame k body) (Accepted r) next)
+            → Alike v o l s (but e (Frame k body) (Accepted r) ∷ es)
+        by false other c whole = grind (arith, same_alike (Frame k body) (Accepted r) next)
         by true is true whole = λ up kept.
             let begun_is = ap (λ b. cond b (kept_after (begun o l es) (frame_taken o l es body))
             (begun o l es)) (λ i. is i && whole i) in
@@ -266,7 +266,7 @@ module _ (v : ℕ) (o : Opening) (es : List Entry) (e : Entry) (legal : IsPlayed
             ∙ begun_more v bodies body in
             begun_is ∙ AcceptsAlike.begins (accepts_alike v o es e legal l agrees s k body r next is
             whole alike)
-            (from_or (kept_of s (begun o l (but e (Event.Frame k body) (Accepted r) ∷ es))) _ _ kept
+            (from_or (kept_of s (begun o l (but e (Frame k body) (Accepted r) ∷ es))) _ _ kept
             (λ mine. ap
             (λ b. b || kept_of s (kept_after (begun_of v bodies) (message_taken v body)))
             (sym (ap (kept_of s) begun_is) ∙ mine))
@@ -275,22 +275,21 @@ module _ (v : ℕ) (o : Opening) (es : List Entry) (e : Entry) (legal : IsPlayed
         by true is false un = λ up kept.
             let begun_is = ap (λ b. cond b (kept_after (begun o l es) (frame_taken o l es body))
             (begun o l es)) (λ i. is i && un i) ∙ none_begun o es legal l un in
-            from_or (kept_of s (begun o l (but e (Event.Frame k body) (Accepted r) ∷ es))) _ _ kept
+            from_or (kept_of s (begun o l (but e (Frame k body) (Accepted r) ∷ es))) _ _ kept
             (λ mine. lie (sym mine ∙ ap (kept_of s) begun_is))
             (λ both. (let hears = (and_parts _ _ both).0 in
-            let was = heard_before v o es e legal l agrees s (Event.Frame k body) (Accepted r) hears
+            let was = heard_before v o es e legal l agrees s (Frame k body) (Accepted r) hears
             (known_at k body r next hears before true false is un) in
             lie (sym ((and_parts (is_open l es) (is_whole l es)
             (is_up_there h legal l s was)).1) ∙ un)))
-    each_alike (Event.Frame k body) (Refused r) next honest =
+    each_alike (Frame k body) (Refused r) next honest =
         by (k == l) refl
       where
-        by : (b : Bool) → (k == l) ≡ b → Alike v o l s (but e (Event.Frame k body) (Refused r) ∷ es)
-        by false other = same_alike (Event.Frame k body) (Refused r) next
+        by : (b : Bool) → (k == l) ≡ b → Alike v o l s (but e (Frame k body) (Refused r) ∷ es)
+        by false other = same_alike (Frame k body) (Refused r) next
             (ap (λ b. cond b (body ∷ []) []) other) refl
         by true is = refused_alike v o es e legal l agrees s name creation gives k body is
-            (subst (λ b. IsHonest v name creation s (bodies ++ cond b (body ∷ []) [])) is honest)
-            before alike r next
+            (grind arith) before alike r next
     each_alike (Event.StopScope t) (Accepted r) next honest = grind (arith, stopped_alike)
     each_alike Event.Restart (Accepted r) next honest =
         λ up kept. cc
@@ -330,8 +329,7 @@ pub heard_said : (v : ℕ) (o : Opening) (es : List Entry) → IsPlayedIn o es �
     → Speaks o l v es → (s name : List ℕ) (creation : ℕ)
     → IsHonest v name creation s (delivered l es)
     → HasGiven l name creation es → heard o l s es ≡ true → HeardIsSaid v (past o es) l s
-heard_said v o es legal l speaks s name creation honest gives hears =
-    (follows_all v o es legal l speaks s name creation honest gives).hears hears
+heard_said = grind (arith, follows_all)
 
 pub keeps_or_not : (v : ℕ) (o : Opening) (es : List Entry) → IsPlayedIn o es → (l : ℕ)
     → Speaks o l v es → (name : List ℕ) (creation : ℕ)

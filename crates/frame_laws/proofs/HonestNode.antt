@@ -1,13 +1,12 @@
 -- What a node owes to a link is honest.
 use Rattle.frame_laws.proofs
 use proofs.Words.{ap, bodies_of, creation, History, IsHonest, IsNode, List, message_taken, moment}
-use proofs.Words.{out, Owing, PassesThrough, refl, slice_get, Some, Speaks, subst, suc, sym, take}
-use proofs.Words.{zero, ℕ, [], ◌∙◌, ◌∷◌, ◌≡◌}
+use proofs.Words.{out, Owing, PassesThrough, refl, slice_get, Some, Speaks, suc, take-map, zero, ℕ}
+use proofs.Words.{[], ◌∙◌, ◌∷◌, ◌≡◌}
 use proofs.FromHere.{rows_own}
 use proofs.LinksTell.{all_tell}
 use proofs.Orderly.{out_orderly}
 use proofs.Through.{passes}
-use proofs.Calm.{FewBehind, ThereBehind}
 
 -- the frame of a body
 pub record IsBodyOf (owings : List Owing) (place : ℕ) (body : List ℕ) : Type 0 where
@@ -22,12 +21,6 @@ frame_of (x ∷ owings) zero body q = record { owing = x; stands = refl; body_is
 frame_of (x ∷ owings) (suc place) body q = (let it = frame_of owings place body q in
     record { owing = it.owing; stands = it.stands; body_is = it.body_is })
 
-pub take_bodies : (n : ℕ) (owings : List Owing)
-    → take n (bodies_of owings) ≡ bodies_of (take n owings)
-take_bodies zero owings = refl
-take_bodies (suc n) [] = refl
-take_bodies (suc n) (x ∷ owings) = ap (λ bs. x.frame.body ∷ bs) (take_bodies n owings)
-
 pub node_honest : (h : History) → IsNode h → (l v : ℕ) → Speaks h.opening l v h.entries
     → (s : List ℕ) → IsHonest v h.opening.name (creation (moment l h)) s (bodies_of (out h l))
 node_honest h node l v speaks s = record {
@@ -38,12 +31,12 @@ node_honest h node l v speaks s = record {
   order = (out_orderly h.opening h.entries node l v speaks).order;
   few = λ place body q kind number last rows says.
       let it = frame_of (out h l) place body q in
-      subst (FewBehind v s kind number rows) (sym (take_bodies place (out h l)))
+      rw take-map
       (passed.few place it.owing it.stands kind number last rows
       (ap (message_taken v) it.body_is ∙ says));
   there = λ place body q number last rows says.
       let it = frame_of (out h l) place body q in
-      subst (ThereBehind v s number rows) (sym (take_bodies place (out h l)))
+      rw take-map
       (passed.there place it.owing it.stands number last rows
       (ap (message_taken v) it.body_is ∙ says));
 }

@@ -2,13 +2,13 @@
 -- Join and a Leave its peer is heard.
 use Rattle.frame_laws.proofs
 use proofs.Words.{Accepted, all_hold, always, ap, arith, Begun, begun, Bool, but, completed, cond}
-use proofs.Words.{Entry, entry_link, eq-eqb, eqb-true, Event, false, first_broken, frame_taken}
-use proofs.Words.{fresh, has_bit, heard, is_running, is_some, is_up, is_visible, is_whole}
-use proofs.Words.{IsPlayedIn, IsStep, judgement, kept_after, List, Message2, message_checks, None}
-use proofs.Words.{none_begun, not, opened, Opening, Option, option_and_then, option_map_or}
-use proofs.Words.{PartKind, past, refl, Refused, Reply, Rule, said_at, same, same_decides, Some}
-use proofs.Words.{start_of, subst, sym, talk, true, unbroken, Verdict, ℕ, [], ◌&&◌, ◌==◌, ◌||◌, ◌∙◌}
-use proofs.Words.{◌∷◌, ◌≡◌}
+use proofs.Words.{Entry, entry_link, eq-eqb, eqb-true, Event, false, first_broken, Frame}
+use proofs.Words.{frame_taken, fresh, has_bit, heard, is_running, is_some, is_up, is_visible}
+use proofs.Words.{is_whole, IsPlayedIn, IsStep, judgement, kept_after, List, Message2}
+use proofs.Words.{message_checks, None, none_begun, not, opened, Opening, Option, option_and_then}
+use proofs.Words.{option_map_or, Part, PartKind, past, refl, Refused, Reply, Rule, said_at, same}
+use proofs.Words.{same_decides, Some, start_of, subst, sym, talk, true, unbroken, Verdict, ℕ, []}
+use proofs.Words.{◌&&◌, ◌==◌, ◌||◌, ◌∙◌, ◌∷◌, ◌≡◌}
 use proofs.Pieces.{value_of}
 
 abbrev pub is_sync : PartKind → Bool
@@ -29,11 +29,11 @@ module _ (o : Opening) (l : ℕ) where
 
     pub up_back : opened e.number es ≡ None → (ev : Event) (w : Verdict)
         → is_up l (but e ev w ∷ es) ≡ true → is_whole l es ≡ true → is_up l es ≡ true
-    up_back new ev w up whole = grind arith
+    up_back = grind arith
 
     -- what is begun is begun on a whole link
     pub begun_whole : (k : Begun) → begun o l es ≡ Some k → is_whole l es ≡ true
-    begun_whole k is = grind (arith, none_begun o es legal l)
+    begun_whole = grind (arith, none_begun)
 
     still : IsStep (past o es) e → (ev : Event) (w : Verdict)
         → begun o l (but e ev w ∷ es) ≡ begun o l es
@@ -45,15 +45,15 @@ module _ (o : Opening) (l : ℕ) where
     still made ev w same_begun runs shows same_talk before up k is =
         let was = sym same_begun ∙ is in
         let it = before (up_back (fresh o es legal e made) ev w up (begun_whole k was)) k was in
-        grind (arith, begun_whole k was, runs k.scope)
+        grind (arith, begun_whole, runs k.scope)
 
     -- ---- a part that was accepted
 
     module _ (body : List ℕ) (r : Reply)
-        (q : Accepted r ≡ judgement (past o es) e.seat (Event.Frame l body))
+        (q : Accepted r ≡ judgement (past o es) e.seat (Frame l body))
         (whole : is_whole l es ≡ true) where
       abbrev fr : Entry
-      fr = but e (Event.Frame l body) (Accepted r)
+      fr = but e (Frame l body) (Accepted r)
 
       pub rules_met : first_broken (option_map_or (message_checks (past o es) l) (frame_taken o l
           es body)
@@ -62,27 +62,23 @@ module _ (o : Opening) (l : ℕ) where
 
       kept_talk : said_at o l es body ≡ None
           → talk o l (fr ∷ es) ≡ talk o l es
-      kept_talk none = grind arith
+      kept_talk = grind arith
 
       part_stands : (x : Option Message2) → frame_taken o l es body ≡ x
           → first_broken (option_map_or (message_checks (past o es) l) x (always Rule.BadFrame))
           ≡ None → is_up l (fr ∷ es) ≡ true → (k : Begun)
           → kept_after (begun o l es) x ≡ Some k
           → Stands (fr ∷ es) k
-      part_stands None says met up k is = cc
-      part_stands (Some (Message2.Discover s)) says met up k is = cc
-      part_stands (Some (Message2.Down s)) says met up k is = cc
-      part_stands (Some (Message2.Part kind s number true rows)) says met up k is =
-          cc
-      part_stands (Some (Message2.Part kind s number false rows)) says met up k is =
+      part_stands (Some (Part kind s number false rows)) says met up k is =
           let held = all_hold (message_checks (past o es) l
-          (Message2.Part kind s number false rows)) met in
+          (Part kind s number false rows)) met in
           let none = kept_talk (ap (option_and_then (completed (begun o l es))) says) in
           subst (Stands (fr ∷ es)) (value_of is) (record {
             runs = unbroken (is_running (past o es) s) held.1.0;
             shows = grind arith;
             hears = grind arith;
           })
+      part_stands x says met up k is = cc
 
       pub framed_stand : AllStand (fr ∷ es)
       framed_stand up k is = part_stands (frame_taken o l es body) refl rules_met up k
@@ -107,31 +103,27 @@ module _ (o : Opening) (l : ℕ) where
             of false other is =
                 let it = before (up_back (fresh o es legal e made) (Event.StopScope t) (Accepted r)
                 up (begun_whole j was)) j was in
-                let apart : same t j.scope ≡ false = grind (arith, same_decides t j.scope) in
+                let apart : same t j.scope ≡ false = grind (arith, same_decides) in
                 grind arith
 
     new_visible : IsStep (past o es) e → (ev : Event) (r : Reply)
         → is_some (start_of ev) ≡ true → is_whole l es ≡ true
         → is_visible (past o (but e ev (Accepted r) ∷ es)) l ≡ is_visible (past o es) l
-    new_visible made ev r starts whole =
-        grind (arith, fresh o es legal e made)
+    new_visible = grind (arith, fresh)
 
     pub each_stands : IsStep (past o es) e → AllStand es → (ev : Event) (w : Verdict)
         → w ≡ judgement (past o es) e.seat ev → AllStand (but e ev w ∷ es)
-    each_stands made before (Event.Frame j body) (Accepted r) q = by (j == l) refl
+    each_stands made before (Frame j body) (Accepted r) q = by (j == l) refl
         (is_whole l es) refl
       where
         by : (b : Bool) → (j == l) ≡ b → (c : Bool) → is_whole l es ≡ c
-            → AllStand (but e (Event.Frame j body) (Accepted r) ∷ es)
+            → AllStand (but e (Frame j body) (Accepted r) ∷ es)
         by true is true whole =
-            subst (λ n. AllStand (but e (Event.Frame n body) (Accepted r) ∷ es))
-            (sym (eqb-true j l is))
-            (framed_stand body r (subst (λ n. Accepted r ≡ judgement (past o es) e.seat
-            (Event.Frame n body)) (eqb-true j l is) q) whole)
+            rw (eqb-true j l is) (framed_stand body r (grind (arith, eqb-true j l is)) whole)
         by true is false un = grind (arith, none_begun)
         by false other c whole =
-            let it = entry_link es (but e (Event.Frame j body) (Accepted r)) j l body refl other in
-            still made (Event.Frame j body) (Accepted r)
+            let it = entry_link es (but e (Frame j body) (Accepted r)) j l body refl other in
+            still made (Frame j body) (Accepted r)
             (ap (λ b. cond (b && is_whole l es) (kept_after (begun o l es)
             (frame_taken o l es body)) (begun o l es)) other) (λ s runs. runs)
             (λ w. ap (λ g. not o.hidden && option_map_or (λ f. has_bit 0 f.flags) g false) it.given)

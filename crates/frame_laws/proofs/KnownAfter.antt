@@ -1,12 +1,11 @@
 -- What is known over a link after an entry: what its message makes of what was known before.
 use Rattle.frame_laws.proofs
 use proofs.Words.{Accepted, ap, arith, Awaited, AwaitMessage, awaits, Bool, but, ByDial, ByPeer}
-use proofs.Words.{cond, Entry, eqb-true, Event, false, first_broken, frame_checks, heard, hears}
-use proofs.Words.{History, is_message, is_whole, IsPlayedIn, IsStep, known, List, Message}
+use proofs.Words.{cond, Entry, eqb-true, Event, false, first_broken, Frame, frame_checks, heard}
+use proofs.Words.{hears, History, is_message, is_whole, IsPlayedIn, IsStep, known, List, Message}
 use proofs.Words.{message_at, message_heard, None, Opening, opening_heard, option_to_list, past}
-use proofs.Words.{Pid, refl, Refused, Reply, Said, said_at, seen, seen_by, Some, stated_in, sym}
-use proofs.Words.{Talk, talk, true, unwrap_or, Verdict, whole_is_message, ℕ, [], ◌&&◌, ◌==◌, ◌∙◌}
-use proofs.Words.{◌∷◌, ◌≡◌}
+use proofs.Words.{Pid, refl, Reply, Said, said_at, seen, seen_by, Some, stated_in, sym, Talk, talk}
+use proofs.Words.{true, unwrap_or, Verdict, whole_is_message, ℕ, [], ◌&&◌, ◌==◌, ◌∙◌, ◌∷◌, ◌≡◌}
 use proofs.Refusals.{was_so, within_hello}
 
 module _ (s g : List ℕ) (p : Pid) where
@@ -14,13 +13,13 @@ module _ (s g : List ℕ) (p : Pid) where
   said_known : (m : Message) (ts : List Talk) (was : Bool) → unwrap_or (hears s (Said m)) was ≡ true
       → Some (stated_in s g p (Said m ∷ ts)) ≡ seen s g p m
       (cond was (Some (cond was (stated_in s g p ts) 0)) None)
-  said_known m ts was q = grind arith
+  said_known = grind arith
 
   -- nothing was said: the same is known
   still_known : (o : Opening) (l : ℕ) (x : Entry) (es : List Entry) → heard o l s (x ∷ es) ≡ true
       → heard o l s es ≡ true → stated_in s g p (talk o l (x ∷ es)) ≡ stated_in s g p (talk o l es)
       → known o l s g p (x ∷ es) ≡ known o l s g p es
-  still_known o l x es now was same_talk = grind arith
+  still_known = grind arith
 
 module _ (o : Opening) (es : List Entry) (e : Entry) (legal : IsPlayedIn o es) (l : ℕ)
     (s g : List ℕ)
@@ -36,9 +35,9 @@ module _ (o : Opening) (es : List Entry) (e : Entry) (legal : IsPlayedIn o es) (
   -- ---- frames
 
   module _ (k : ℕ) (body : List ℕ) (r : Reply)
-      (next : IsStep h (but e (Event.Frame k body) (Accepted r))) where
+      (next : IsStep h (but e (Frame k body) (Accepted r))) where
     abbrev fr : Entry
-    fr = but e (Event.Frame k body) (Accepted r)
+    fr = but e (Frame k body) (Accepted r)
 
     -- what is known afterwards is what a message makes of what was
     abbrev Shown : Type 0
@@ -50,11 +49,10 @@ module _ (o : Opening) (es : List Entry) (e : Entry) (legal : IsPlayedIn o es) (
 
     other_known : (k == l) ≡ false → heard o l s (fr ∷ es) ≡ true
         → known o l s g p (fr ∷ es) ≡ known o l s g p es
-    other_known other now =
-        grind (arith, was_so)
+    other_known = grind (arith, was_so)
 
     module _ (same_link : k ≡ l) where
-      its : Event.Frame k body ≡ Event.Frame l body
+      its : Frame k body ≡ Frame l body
       its = grind arith
 
       -- within a handshake nobody is heard
@@ -87,20 +85,19 @@ module _ (o : Opening) (es : List Entry) (e : Entry) (legal : IsPlayedIn o es) (
 
         spoken_at : heard o l s (fr ∷ es) ≡ true
             → Shown
-        spoken_at now = said now ∙ sym
-            (λ i. seen_by s g p (cond (whole i) (option_to_list (says i)) []) (known o l s g p es))
+        spoken_at = grind (arith, said, whole)
 
       message_known : awaits l es ≡ AwaitMessage
           → first_broken (frame_checks h l body AwaitMessage) ≡ None → heard o l s (fr ∷ es) ≡ true
           → Shown
-      message_known a q now = grind (arith, spoken_at)
+      message_known = grind (arith, spoken_at)
 
       own_known : (a : Awaited) → awaits l es ≡ a → heard o l s (fr ∷ es) ≡ true
           → Shown
       own_known AwaitMessage is now = grind (arith, message_known)
       own_known a is now = unheard (ap is_message is) now
 
-    frame_known : KnownAfter (Event.Frame k body) (Accepted r)
+    frame_known : KnownAfter (Frame k body) (Accepted r)
     frame_known now = by (k == l) refl
       where
         by : (b : Bool) → (k == l) ≡ b
@@ -112,15 +109,15 @@ module _ (o : Opening) (es : List Entry) (e : Entry) (legal : IsPlayedIn o es) (
   -- ---- every entry
 
   pub known_after : (ev : Event) (v : Verdict) → IsStep h (but e ev v) → KnownAfter ev v
-  known_after ev (Refused r) next now = grind arith
-  known_after (Event.StopScope t) (Accepted r) next now = grind arith
-  known_after (Event.Frame k body) (Accepted r) next now = grind (arith, frame_known)
+  known_after (Frame k body) (Accepted r) next now = grind (arith, frame_known)
   known_after (Event.Dial n c) (Accepted r) next now =
-      still_known s g p o l (but e (Event.Dial n c) (Accepted r)) es now
-      (sym (opening_heard h (but e (Event.Dial n c) (Accepted r)) refl legal
-      next (ByDial n c) refl l s).heard_is ∙ now) refl
+      grind (
+        arith,
+        opening_heard h (but e (Event.Dial n c) (Accepted r)) refl legal next (ByDial n c) refl l s,
+      )
   known_after (Event.Opened c) (Accepted r) next now =
-      still_known s g p o l (but e (Event.Opened c) (Accepted r)) es now
-      (sym (opening_heard h (but e (Event.Opened c) (Accepted r)) refl legal
-      next (ByPeer c) refl l s).heard_is ∙ now) refl
-  known_after ev (Accepted r) next now = grind arith
+      grind (
+        arith,
+        opening_heard h (but e (Event.Opened c) (Accepted r)) refl legal next (ByPeer c) refl l s,
+      )
+  known_after ev v next now = grind arith

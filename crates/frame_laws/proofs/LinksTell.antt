@@ -3,14 +3,14 @@ use Rattle.frame_laws.proofs
 use proofs.Refusals.{found, was_so, within_hello}
 use proofs.Words.{Accepted, always, ap, arith, Awaited, AwaitMessage, awaits, Begun, begun, Bool}
 use proofs.Words.{but, ByDial, ByPeer, completed, cond, Entry, eqb-true, Event, false, first_broken}
-use proofs.Words.{frame_checks, frame_owes, frame_taken, heard, History, if_visible, is_message}
-use proofs.Words.{is_whole, IsListing, IsNode, IsStep, IsText, IsWritten, link_version, List}
-use proofs.Words.{local_rows, local_rows_are, Message, Message2, message_checks, message_heard}
-use proofs.Words.{message_owes, None, Opening, opening_heard, Option, option_and_then}
-use proofs.Words.{option_map_or, OutFrame, owed, own, PartKind, past, Pid, refl, refusal_owes}
-use proofs.Words.{Refused, Reply, Row, row, rows_of, Rule, Said, said_at, said_frames, same}
-use proofs.Words.{same_decides, Some, Speaks, subst, sym, tells, told, true, unwrap_or, Verdict}
-use proofs.Words.{whole_is_message, wide, ℕ, [], ◌++◌, ◌==◌, ◌∙◌, ◌∷◌, ◌≡◌}
+use proofs.Words.{Frame, frame_checks, frame_owes, frame_taken, heard, History, if_visible}
+use proofs.Words.{is_message, is_whole, IsListing, IsNode, IsStep, IsText, IsWritten, link_version}
+use proofs.Words.{List, local_rows, local_rows_are, Message, Message2, message_checks}
+use proofs.Words.{message_heard, message_owes, None, Opening, opening_heard, Option}
+use proofs.Words.{option_and_then, option_map_or, OutFrame, owed, own, Part, PartKind, past, Pid}
+use proofs.Words.{refl, refusal_owes, Refused, Reply, Row, row, rows_of, Rule, Said, said_at}
+use proofs.Words.{said_frames, same, same_decides, Some, Speaks, subst, sym, tells, told, true}
+use proofs.Words.{unwrap_or, Verdict, whole_is_message, wide, ℕ, [], ◌++◌, ◌==◌, ◌∙◌, ◌∷◌, ◌≡◌}
 use proofs.Calm.{AllCalm, calm_asks, calm_closed, calm_down, calm_hello, calm_message, HasNoRows}
 use proofs.Handshakes.{dial_all, frame_all, HoldsOfHellos, of_hellos, refusal_all}
 use proofs.RowsTell.{exit_tells, join_tells, leave_tells}
@@ -22,8 +22,8 @@ use proofs.OwnMessages.{asked_text, asked_room, sync_is}
 -- a message with rows tells nobody anew
 rows_tell_none : (s : List ℕ) (b : Option Begun) (kind : PartKind) (t : List ℕ) (number : ℕ)
     (last : Bool) (rows : List Row) (n : Message)
-    → completed b (Message2.Part kind t number last rows) ≡ Some n → tells s (Said n) ≡ None
-rows_tell_none s b kind t number last rows n is = grind arith
+    → completed b (Part kind t number last rows) ≡ Some n → tells s (Said n) ≡ None
+rows_tell_none = grind arith
 
 -- a Down is no part of rows
 down_quiet_in : (v : ℕ) (s t : List ℕ) → IsText t → HasNoRows v s (wide (Message.Down t) ∷ [])
@@ -47,7 +47,7 @@ module _ (o : Opening) (es : List Entry) (e : Entry) (node : IsNode (past o es))
   -- ---- refusals
 
   refused_calm : (ev : Event) (r : Rule) → AllCalm v s (owed h l e.number ev (Refused r))
-  refused_calm (Event.Frame k body) r = by (k == l)
+  refused_calm (Frame k body) r = by (k == l)
     where
       by : (b : Bool) → AllCalm v s (cond b (refusal_owes r) [])
       by true = refusal_all h node l (AllCalm v s) (calm_closed v s) hellos_calm (calm_asks v s) r
@@ -55,10 +55,10 @@ module _ (o : Opening) (es : List Entry) (e : Entry) (node : IsNode (past o es))
   refused_calm ev r = quiet
 
   refused_told : (ev : Event) (r : Rule) → told o l s (but e ev (Refused r) ∷ es) ≡ told o l s es
-  refused_told ev r = grind arith
+  refused_told = grind arith
 
   refused_tells : (ev : Event) (r : Rule) → IsStep h (but e ev (Refused r)) → TellsOf ev (Refused r)
-  refused_tells ev r next = grind (arith, refused_calm ev r, refused_told ev r)
+  refused_tells ev r = grind (arith, refused_calm ev r, refused_told)
 
   -- ---- scopes
 
@@ -68,13 +68,13 @@ module _ (o : Opening) (es : List Entry) (e : Entry) (node : IsNode (past o es))
   start_tells : (t : List ℕ) (r : Reply) → IsStep h (but e (Event.StartScope t) (Accepted r))
       → IsText t → TellsOf (Event.StartScope t) (Accepted r)
   start_tells t r next text =
-      grind (arith, visible_calm (Message.Discover t) (calm_asks v s t text), same_decides t s)
+      grind (arith, visible_calm (Message.Discover t) (calm_asks v s t text), same_decides)
 
   down_quiet : (t : List ℕ) → IsText t → HasNoRows v s (if_visible h l (Message.Down t))
-  down_quiet t text = grind (arith, down_quiet_in)
+  down_quiet = grind (arith, down_quiet_in)
 
   stop_tells : (t : List ℕ) (r : Reply) → IsText t → TellsOf (Event.StopScope t) (Accepted r)
-  stop_tells t r text = grind (arith, down_quiet t text, calm_down)
+  stop_tells = grind (arith, down_quiet, calm_down)
 
   -- ---- links
 
@@ -101,9 +101,9 @@ module _ (o : Opening) (es : List Entry) (e : Entry) (node : IsNode (past o es))
   -- ---- frames
 
   module _ (k : ℕ) (body : List ℕ) (r : Reply)
-      (next : IsStep h (but e (Event.Frame k body) (Accepted r))) where
+      (next : IsStep h (but e (Frame k body) (Accepted r))) where
     abbrev fr : Entry
-    fr = but e (Event.Frame k body) (Accepted r)
+    fr = but e (Frame k body) (Accepted r)
 
     made : IsStep h fr
     made = next
@@ -113,11 +113,11 @@ module _ (o : Opening) (es : List Entry) (e : Entry) (node : IsNode (past o es))
 
     -- of another link
     other_told : (k == l) ≡ false → told o l s (fr ∷ es) ≡ true → told o l s es ≡ true
-    other_told other t = grind (arith, was_so)
+    other_told = grind (arith, was_so)
 
     -- its own link: open, and no rule is broken
     module _ (same_link : k ≡ l) where
-      its : Event.Frame k body ≡ Event.Frame l body
+      its : Frame k body ≡ Frame l body
       its = grind arith
 
       handshake : (a : Awaited) → awaits l es ≡ a → is_message a ≡ false
@@ -142,7 +142,7 @@ module _ (o : Opening) (es : List Entry) (e : Entry) (node : IsNode (past o es))
 
         -- a part that completes nothing tells nobody anew
         told_on : said_at o l es body ≡ None → told o l s (fr ∷ es) ≡ true → told o l s es ≡ true
-        told_on none q = grind arith
+        told_on = grind arith
 
         synced : (t : List ℕ) → frame_taken o l es body ≡ Some (Message2.Discover t)
             → first_broken (message_checks h l (Message2.Discover t)) ≡ None
@@ -161,7 +161,7 @@ module _ (o : Opening) (es : List Entry) (e : Entry) (node : IsNode (past o es))
             text = asked_text h node l t met
 
             told_now : same t s ≡ false → told o l s (fr ∷ es) ≡ true → told o l s es ≡ true
-            told_now other q = grind arith
+            told_now = grind arith
 
             back : (b : Bool) → AllCalm v s (cond b [] (wide (Message.Discover t) ∷ []))
             back true = quiet
@@ -170,11 +170,7 @@ module _ (o : Opening) (es : List Entry) (e : Entry) (node : IsNode (past o es))
             all_rows : same t s ≡ true → (g : List ℕ) (p : Pid)
                 → rows_of g p (local_rows h t) ≡ own (past o (fr ∷ es)) s g p
             all_rows is g p =
-                grind (
-                  arith,
-                  same_decides t s,
-                  IsListing.counts (local_rows_are h s) (row g p),
-                )
+                grind (arith, same_decides, IsListing.counts (local_rows_are h s) (row g p))
 
             sayable : IsSayable v sync
             sayable = sync_is h node l v agrees whole_now t met
@@ -210,9 +206,9 @@ module _ (o : Opening) (es : List Entry) (e : Entry) (node : IsNode (past o es))
             → Now (message_owes h l m)
         said_so (Message2.Discover t) says met = synced t says met
         said_so (Message2.Down t) says met = grind arith
-        said_so (Message2.Part kind t number last rows) says met = Silent quiet
+        said_so (Part kind t number last rows) says met = Silent quiet
             (λ q. (
-              others_told (Message2.Part kind t number last rows) says
+              others_told (Part kind t number last rows) says
                   (λ n is now. sym (ap (λ x. unwrap_or x (told o l s es))
                   (rows_tell_none s (begun o l es) kind t number last rows n is)) ∙ now) q,
               λ g p. refl,
@@ -230,11 +226,10 @@ module _ (o : Opening) (es : List Entry) (e : Entry) (node : IsNode (past o es))
 
       own_frame : (a : Awaited) → awaits l es ≡ a → Now (frame_owes h l body a)
       own_frame AwaitMessage is =
-          message is (subst (λ x. first_broken (frame_checks h l body x) ≡ None) is
-          (found h e k body r next l same_link).1)
+          message is (rw is at (found h e k body r next l same_link).1)
       own_frame a is = handshake a is refl
 
-    frame_tells : TellsOf (Event.Frame k body) (Accepted r)
+    frame_tells : TellsOf (Frame k body) (Accepted r)
     frame_tells = by (k == l) refl
       where
         by : (b : Bool) → (k == l) ≡ b
@@ -256,7 +251,7 @@ module _ (o : Opening) (es : List Entry) (e : Entry) (node : IsNode (past o es))
       leave_tells o es e node l v agrees s g ps r t text
   entry_tells (Event.Dial n c) (Accepted r) next text = dial_tells n c r next
   entry_tells (Event.Opened c) (Accepted r) next text = opened_tells c r next
-  entry_tells (Event.Frame k body) (Accepted r) next text = frame_tells k body r next
+  entry_tells (Frame k body) (Accepted r) next text = frame_tells k body r next
   entry_tells Event.Restart (Accepted r) next text = Silent quiet (λ t. cc)
   entry_tells ev (Accepted r) next text = grind arith
 

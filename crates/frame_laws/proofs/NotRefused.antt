@@ -1,24 +1,24 @@
 -- What an honest node says on a link, over which it is heard, is not refused.
 use Rattle.frame_laws.proofs
 use proofs.Words.{ap, AreFrom, AreThere, arith, Begun, begun, begun_of, Bool, but, comes_next}
-use proofs.Words.{delivered, Entry, Event, false, fewer_length, heard, History, is_from, is_next}
+use proofs.Words.{delivered, Entry, false, fewer_length, Frame, heard, History, is_from, is_next}
 use proofs.Words.{is_running, is_up, is_visible, IsFew, IsGiven, IsHonest, IsPlayedIn, IsStep}
 use proofs.Words.{last_in_order, length, limit, link_version, List, list_all, MaySay, MaySaySoFar}
-use proofs.Words.{Message, Message2, message_taken, Opening, Option, option_map_or, PartKind, past}
-use proofs.Words.{peer_limit, Pid, refl, Refused, Row, rows_before, rows_of, Rule, same}
+use proofs.Words.{Message, Message2, message_taken, Opening, Option, option_map_or, Part, PartKind}
+use proofs.Words.{past, peer_limit, Pid, refl, Refused, Row, rows_before, rows_of, Rule, same}
 use proofs.Words.{same_decides, same_row, same_row_decides, same_sym, seen, slice_get, so_far}
-use proofs.Words.{so_far_behind, Some, stated, subst, sym, true, view_of, ℕ, [], ◌&&◌, ◌++◌, ◌+◌}
-use proofs.Words.{◌==◌, ◌∙◌, ◌∷◌, ◌≡◌, first_broken, message_checks, None}
+use proofs.Words.{so_far_behind, Some, stated, sym, true, view_of, ℕ, [], ◌&&◌, ◌++◌, ◌+◌, ◌==◌}
+use proofs.Words.{◌∙◌, ◌∷◌, ◌≡◌, first_broken, message_checks, None}
 use proofs.Accepting.{heard_met, sync_met}
 use proofs.Bodies.{frames_more, stands_last, take_all}
-use proofs.Calm.{FewBehind, ThereBehind}
+use proofs.Pieces.{value_of}
 
 -- processes of the name and the creation that the peer has given are from it
 module _ (o : Opening) (es : List Entry) (l : ℕ) (name : List ℕ) (creation : ℕ)
     (gave : IsGiven l name creation es) where
   pub one_from : (p : Pid) → (same p.node name && p.creation == creation) ≡ true
       → is_from l es p ≡ true
-  one_from p q = grind (arith, same_sym name p.node)
+  one_from = grind (arith, same_sym)
 
   all_from : (rows : List Row) → list_all (λ r. same r.pid.node name && r.pid.creation == creation)
       rows ≡ true → AreFrom (past o es) l rows
@@ -35,9 +35,9 @@ pub record IsInStep (r b : Option Begun) (kind : PartKind) (s : List ℕ) (numbe
   pub before : rows_before r kind s number ≡ rows_before b kind s number
 
 pub in_step : (r b : Option Begun) (kind : PartKind) (s : List ℕ) (number : ℕ) (last : Bool)
-    (rows : List Row) → comes_next b (Message2.Part kind s number last rows) ≡ true
+    (rows : List Row) → comes_next b (Part kind s number last rows) ≡ true
     → (kept_of s b ≡ true → r ≡ b) → IsInStep r b kind s number
-in_step r b kind s number last rows comes alike = grind arith
+in_step = grind arith
 
 module _ (v : ℕ) (o : Opening) (es : List Entry) (e : Entry) (legal : IsPlayedIn o es) (l : ℕ)
     (s : List ℕ) (up : is_up l es ≡ true) (agrees : link_version o l es ≡ v) where
@@ -58,10 +58,10 @@ module _ (v : ℕ) (o : Opening) (es : List Entry) (e : Entry) (legal : IsPlayed
     -- the next message stands right behind what came
     pub comes : (f : Message2) → message_taken v body ≡ Some f
         → comes_next (begun_of v bodies) f ≡ true
-    comes f says = grind (arith, last_in_order, frames_more v bodies body)
+    comes = grind (arith, last_in_order, frames_more)
 
     module _ (kind : PartKind) (number : ℕ) (last : Bool) (rows : List Row)
-        (says : message_taken v body ≡ Some (Message2.Part kind s number last rows))
+        (says : message_taken v body ≡ Some (Part kind s number last rows))
         (step : IsInStep (begun o l es) (begun_of v bodies) kind s number) where
       abbrev all_rows : List Row
       all_rows = so_far h l kind s number rows
@@ -71,20 +71,19 @@ module _ (v : ℕ) (o : Opening) (es : List Entry) (e : Entry) (legal : IsPlayed
 
       rows_from : AreFrom h l rows
       rows_from = all_from o es l name creation gave rows
-          (honest.own (length bodies) body (Message2.Part kind s number last rows) here says)
+          (honest.own (length bodies) body (Part kind s number last rows) here says)
 
       room : IsFew v s (λ g p. view_of v s g p bodies) kind all_rows
-      room = subst (IsFew v s (λ g p. view_of v s g p bodies) kind) rows_are
-          (subst (FewBehind v s kind number rows) (take_all bodies body)
-          (honest.few (length bodies) body here kind number last rows says))
+      room = rw (take_all bodies body, rows_are) at
+          (honest.few (length bodies) body here kind number last rows says)
 
-      may_if : MaySaySoFar h l kind s all_rows → MaySay h l (Message2.Part kind s number last rows)
+      may_if : MaySaySoFar h l kind s all_rows → MaySay h l (Part kind s number last rows)
       may_if may = (step.next, rows_from, may)
 
     -- as many rows as a Sync says
     synced_number : (g : List ℕ) (p : Pid) (rows : List Row) (x : Option ℕ) (n : ℕ)
         → seen s g p (Message.Sync s rows) x ≡ Some n → n ≡ rows_of g p rows
-    synced_number g p rows x n q = grind (arith, same_decides s s)
+    synced_number = grind (arith, same_decides)
 
     may_sync : (rows : List Row) → IsFew v s (λ g p. view_of v s g p bodies) PartKind.Sync rows
         → MaySaySoFar h l PartKind.Sync s rows
@@ -101,7 +100,7 @@ module _ (v : ℕ) (o : Opening) (es : List Entry) (e : Entry) (legal : IsPlayed
         → view_of v s g p bodies ≡ Some (stated o l s g p es)) where
       joined_number : (g : List ℕ) (p : Pid) (rows : List Row) (n m : ℕ)
           → seen s g p (Message.Join s rows) (Some m) ≡ Some n → n ≡ m + rows_of g p rows
-      joined_number g p rows n m q = grind (arith, same_decides s s)
+      joined_number = grind (arith, same_decides)
 
       may_join : (rows : List Row) → IsFew v s (λ g p. view_of v s g p bodies) PartKind.Join rows
           → MaySaySoFar h l PartKind.Join s rows
@@ -114,20 +113,17 @@ module _ (v : ℕ) (o : Opening) (es : List Entry) (e : Entry) (legal : IsPlayed
         room = omega (arith, room_is);
       }
 
-      number_of : (n m : ℕ) → Some n ≡ Some m → n ≡ m
-      number_of n m q = (cc)
-
       may_leave : (rows : List Row) → AreThere (λ g p. view_of v s g p bodies) rows
           → MaySaySoFar h l PartKind.Leave s rows
       may_leave rows there r =
           let it = there r.group r.pid in
-          let is = number_of it.0 (stated o l s r.group r.pid es) (sym it.1 ∙ now r.group r.pid) in
+          let is = value_of (sym it.1 ∙ now r.group r.pid) in
           omega arith
 
       may_say : (kind : PartKind) (number : ℕ) (last : Bool) (rows : List Row)
-          → message_taken v body ≡ Some (Message2.Part kind s number last rows)
+          → message_taken v body ≡ Some (Part kind s number last rows)
           → IsInStep (begun o l es) (begun_of v bodies) kind s number
-          → MaySay h l (Message2.Part kind s number last rows)
+          → MaySay h l (Part kind s number last rows)
       may_say PartKind.Sync number last rows says step =
           may_if PartKind.Sync number last rows says step
           (may_sync (so_far h l PartKind.Sync s number rows)
@@ -139,26 +135,24 @@ module _ (v : ℕ) (o : Opening) (es : List Entry) (e : Entry) (legal : IsPlayed
       may_say PartKind.Leave number last rows says step =
           may_if PartKind.Leave number last rows says step
           (may_leave (so_far h l PartKind.Leave s number rows)
-          (subst (AreThere (λ g p. view_of v s g p bodies))
-          (rows_are PartKind.Leave number last rows says step)
-          (subst (ThereBehind v s number rows) (take_all bodies body)
-          (honest.there (length bodies) body here number last rows says))))
+          (rw (take_all bodies body, rows_are PartKind.Leave number last rows says step) at
+          (honest.there (length bodies) body here number last rows says)))
 
     -- what meets the rules isn't refused
     never : (f : Message2) → message_taken v body ≡ Some f
         → first_broken (message_checks h l f) ≡ None → (r : Rule)
-        → IsStep h (but e (Event.Frame l body) (Refused r)) → true ≡ false
-    never f says met r next = grind arith
+        → IsStep h (but e (Frame l body) (Refused r)) → true ≡ false
+    never = grind arith
 
     -- so a part of s is not refused while it is heard
     pub heard_never : ((g : List ℕ) (p : Pid) → view_of v s g p bodies ≡ Some (stated o l s g p es))
         → heard o l s es ≡ true → (kept_of s (begun_of v bodies) ≡ true
         → begun o l es ≡ begun_of v bodies)
         → (kind : PartKind) (number : ℕ) (last : Bool) (rows : List Row)
-        → message_taken v body ≡ Some (Message2.Part kind s number last rows)
-        → (r : Rule) → IsStep h (but e (Event.Frame l body) (Refused r)) → true ≡ false
+        → message_taken v body ≡ Some (Part kind s number last rows)
+        → (r : Rule) → IsStep h (but e (Frame l body) (Refused r)) → true ≡ false
     heard_never now hears alike kind number last rows says r next =
-        let f = Message2.Part kind s number last rows in
+        let f = Part kind s number last rows in
         let step = in_step (begun o l es) (begun_of v bodies) kind s number last rows
         (comes f says) alike in
         never f says (heard_met h legal l f hears (may_say now kind number last rows says step)) r
@@ -168,10 +162,10 @@ module _ (v : ℕ) (o : Opening) (es : List Entry) (e : Entry) (legal : IsPlayed
     pub sync_never : is_visible h l ≡ true → is_running h s ≡ true
         → (kept_of s (begun_of v bodies) ≡ true → begun o l es ≡ begun_of v bodies)
         → (number : ℕ) (last : Bool) (rows : List Row)
-        → message_taken v body ≡ Some (Message2.Part PartKind.Sync s number last rows)
-        → (r : Rule) → IsStep h (but e (Event.Frame l body) (Refused r)) → true ≡ false
+        → message_taken v body ≡ Some (Part PartKind.Sync s number last rows)
+        → (r : Rule) → IsStep h (but e (Frame l body) (Refused r)) → true ≡ false
     sync_never shown runs alike number last rows says r next =
-        let f = Message2.Part PartKind.Sync s number last rows in
+        let f = Part PartKind.Sync s number last rows in
         let step = in_step (begun o l es) (begun_of v bodies) PartKind.Sync s number last rows
         (comes f says) alike in
         never f says (sync_met h legal l s shown runs number last rows

@@ -5,11 +5,11 @@ use proofs.Words.{Opening, OutFrame, owed, past, slice_get, Some, true, Verdict,
 use proofs.Words.{◌≡◌, ◌≤◌}
 
 pub entered_more : (e : Entry) (es : List Entry) → entered es ≤ entered (e ∷ es)
-entered_more e es = grind arith
+entered_more = grind arith
 
 pub entered_next : (e : Entry) (es : List Entry) → e.number ≡ entered es + 1
     → entered (e ∷ es) ≡ entered es + 1
-entered_next e es number = grind arith
+entered_next = grind arith
 
 -- a moment has no more entries than its number says
 pub moment_low : (k : ℕ) (es : List Entry) → entered (moment_in k es) ≤ k
@@ -20,14 +20,14 @@ module _ (o : Opening) (es : List Entry) (e : Entry) where
   pub owed_number : IsStep (past o es) e → (l m : ℕ) (f : OutFrame)
       → slice_get (owed (past o es) l e.number e.event e.verdict) m ≡ Some f
       → e.number ≡ entered es + 1
-  owed_number made l m f q = grind arith
+  owed_number = grind arith
 
   -- what opens a link
   pub opens_next : (l : ℕ) (ev : Event) (v : Verdict) → IsStep (past o es) (but e ev v)
       → is_opened_by l (but e ev v) ≡ true → l ≡ entered es + 1
-  opens_next l ev v made q = grind arith
+  opens_next = grind arith
 
   -- so none with an earlier number is opened
   pub unopened : (l : ℕ) (ev : Event) (v : Verdict) → IsStep (past o es) (but e ev v)
       → l ≤ entered es → is_opened_by l (but e ev v) ≡ false
-  unopened l ev v made le = grind arith
+  unopened = grind arith

@@ -2,10 +2,10 @@
 use Rattle.frame_laws.proofs
 use proofs.Numbers.{entered_more, opens_next}
 use proofs.Words.{Accepted, ap, arith, Bool, but, ByDial, ByPeer, cond, entered, Entry, Event}
-use proofs.Words.{false, fresh, given, is_open, is_opened_by, is_whole, IsPlayedIn, IsStep}
+use proofs.Words.{false, Frame, fresh, given, is_open, is_opened_by, is_whole, IsPlayedIn, IsStep}
 use proofs.Words.{link_version, List, Name, opened, opened_apart, Opening, Option, option_map_or}
-use proofs.Words.{past, refl, Refused, Speaks, Taken, taken, true, unborn, Verdict, whole_kept, ℕ}
-use proofs.Words.{[], ◌&&◌, ◌<◌, ◌==◌, ◌||◌, ◌∙◌, ◌∷◌, ◌≡◌}
+use proofs.Words.{past, refl, Speaks, Taken, taken, true, unborn, Verdict, whole_kept, ℕ, [], ◌&&◌}
+use proofs.Words.{◌<◌, ◌==◌, ◌||◌, ◌∙◌, ◌∷◌, ◌≡◌}
 use proofs.Spoken.{speaks_now}
 
 module _ (o : Opening) (l : ℕ) where
@@ -23,19 +23,18 @@ module _ (o : Opening) (l : ℕ) where
   module _ (e : Entry) (es : List Entry) (legal : IsPlayedIn o es) where
     same_number : (ev : Event) (w : Verdict) → IsStep (past o es) (but e ev w)
         → is_whole l es ≡ true → (e.number == l) ≡ false
-    same_number ev w made was =
-        grind (arith, fresh o es legal (but e ev w) made)
+    same_number ev w made = grind (arith, fresh o es legal (but e ev w) made)
 
     stays_whole : (ev : Event) (w : Verdict) → IsStep (past o es) (but e ev w)
         → is_whole l es ≡ true
         → (is_open l (but e ev w ∷ es) || is_whole l (but e ev w ∷ es)) ≡ true
         → StaysWhole (but e ev w) es
-    stays_whole (Event.Frame k body) (Accepted r) made was on = by (k == l) refl
+    stays_whole (Frame k body) (Accepted r) made was on = by (k == l) refl
       where
         moment : Taken
         moment = record { body = body; before = es }
 
-        by : (b : Bool) → (k == l) ≡ b → StaysWhole (but e (Event.Frame k body) (Accepted r)) es
+        by : (b : Bool) → (k == l) ≡ b → StaysWhole (but e (Frame k body) (Accepted r)) es
         by true is = record {
           whole = grind (arith, whole_kept moment (opened l es) (taken l es) was);
           given_is = grind arith;
@@ -53,20 +52,18 @@ module _ (o : Opening) (l : ℕ) where
           opened_apart es (but e (Event.Dial n c) (Accepted r)) l (ByDial n c) refl refl
               (same_number (Event.Dial n c) (Accepted r) made was),
         )
-    stays_whole Event.Restart (Accepted r) made was on = cc
-    stays_whole ev (Accepted r) made was on = record { whole = was; given_is = refl }
-    stays_whole ev (Refused r) made was on = record { whole = was; given_is = refl }
+    stays_whole ev v made was on = grind arith
 
     -- and one that is whole and not open was whole
     was_whole : (ev : Event) (w : Verdict) → IsStep (past o es) (but e ev w)
         → is_whole l (but e ev w ∷ es) ≡ true → is_open l (but e ev w ∷ es) ≡ false
         → is_whole l es ≡ true
-    was_whole ev w made whole shut = grind arith
+    was_whole = grind arith
 
   -- where a link is open and was not, the entry opened it
   opened_here : (e : Entry) (es : List Entry) → is_open l es ≡ false
       → is_open l (e ∷ es) ≡ true → is_opened_by l e ≡ true
-  opened_here e es shut opens = grind arith
+  opened_here = grind arith
 
   -- a link that becomes whole was never so
   newly_whole : (v : ℕ) (e : Entry) (es : List Entry) → IsPlayedIn o es → IsStep (past o es) e
@@ -87,7 +84,7 @@ module _ (o : Opening) (l : ℕ) where
           grind (arith, stays_whole d es legal.1 d.event d.verdict legal.0 was (grind arith))
 
   abbrev version_by : Option Name → ℕ
-  version_by g = cond (o.links == 2 && option_map_or (λ f. Name.version f) g 1 == 2) 2 1
+  version_by g = cond (o.links == 2 && option_map_or (Name.version) g 1 == 2) 2 1
 
   module _ (e : Entry) (es : List Entry) (legal : IsPlayedIn o es) where
     -- a link spoke what it did, if it does so where it is open
@@ -112,7 +109,7 @@ module _ (o : Opening) (l : ℕ) where
       -- whole as it was
       on : (v : ℕ) → Speaks o l v es → is_whole l es ≡ true → given l (e ∷ es) ≡ given l es
           → (u : ℕ) × Speaks o l u (e ∷ es)
-      on v speaks was same_given = grind (arith, speaks_now)
+      on = grind (arith, speaks_now)
 
       by : (a : Bool) → is_whole l (e ∷ es) ≡ a → (b : Bool) → is_open l (e ∷ es) ≡ b → (c : Bool)
           → is_whole l es ≡ c → (v : ℕ) × Speaks o l v es → (u : ℕ) × Speaks o l u (e ∷ es)

@@ -3,29 +3,27 @@ use Rattle.frame_laws.proofs
 use proofs.Numbers.{moment_low}
 use proofs.Words.{AllByRecursion, ap, append-nil, arith, bodies_of, Bool, creation, delivered}
 use proofs.Words.{entered, Falls, false, foreign_own, has_rows, HasGiven, heard, HeardIsSaid}
-use proofs.Words.{HearsMoment, History, is_from, is_local, is_peer, IsGiven, IsHonest, IsNode}
-use proofs.Words.{IsPlayed, IsProvedLink, length, List, listed, moment, None, Opened, opened}
-use proofs.Words.{Option, option_map, out, OutFrame, Owing, own, PassesThrough, Pid, refl, same}
-use proofs.Words.{same_sym, SaysOne, slice_get, slice_get_within, Some, source_at, Speaks, stated}
-use proofs.Words.{subst, suc, sym, take, take-append-le, told, true, view_of, zero, ℕ, [], ◌++◌}
-use proofs.Words.{◌+◌, ◌<◌, ◌==◌, ◌∙◌, ◌∷◌, ◌≡◌, ◌≤◌}
+use proofs.Words.{HearsMoment, History, is_from, is_local, is_peer, IsGiven, IsNode, IsPlayed}
+use proofs.Words.{IsProvedLink, length, List, listed, moment, None, Opened, opened, Option}
+use proofs.Words.{option_map, out, OutFrame, Owing, own, PassesThrough, Pid, refl, same, same_sym}
+use proofs.Words.{SaysOne, slice_get, slice_get_within, Some, source_at, Speaks, stated, suc, sym}
+use proofs.Words.{take, take-append-le, take-map, told, true, view_of, zero, ℕ, [], ◌++◌, ◌+◌, ◌<◌}
+use proofs.Words.{◌==◌, ◌∙◌, ◌∷◌, ◌≡◌, ◌≤◌}
 use proofs.Bodies.{honest_first, stands_first}
 use proofs.Accepting.{listed_is}
 use proofs.Hearing.{given_here, heard_said}
 use proofs.Moments.{legal_then}
 use proofs.Openings.{moment_then, same_creation, since_opening}
 use proofs.NotRefused.{one_from}
-use proofs.HonestNode.{frame_of, IsBodyOf, node_honest, take_bodies}
+use proofs.HonestNode.{frame_of, IsBodyOf, node_honest}
 use proofs.LinksTell.{all_tell}
+use proofs.Pieces.{value_of}
 use proofs.Places.{holds_then}
 use proofs.SaidUp.{all_said_up, IsSaidUp}
 use proofs.Sources.{is_entry, rises}
 use proofs.Spoken.{all_said, IsSaid}
 use proofs.Through.{passes}
 use proofs.ToldPlaces.{told_fall}
-
-same_number : (n m : ℕ) → Some n ≡ Some m → n ≡ m
-same_number n m q = (cc)
 
 -- each place in a list has an element
 pub element : {A : Type 0} (xs : List A) (n : ℕ) → n < length xs → (x : A) × (slice_get xs n ≡ Some
@@ -37,7 +35,7 @@ element (x ∷ xs) (suc n) less = element xs n (omega arith)
 -- what says rows is a message
 is_wide : (v : ℕ) (s : List ℕ) (f : OutFrame) → SaysOne v f → has_rows v s f.body ≡ true
     → f.wide ≡ true
-is_wide v s f y has = grind arith
+is_wide = grind arith
 
 module _ (v : ℕ) (A : History) (node : IsNode A) (a : ℕ) (B : History) (legal : IsPlayed B)
     (b : ℕ) (s : List ℕ) (there : Speaks A.opening a v A.entries)
@@ -53,17 +51,17 @@ module _ (v : ℕ) (A : History) (node : IsNode A) (a : ℕ) (B : History) (lega
     gave = grind (arith, given_here)
 
     its : is_peer p.node b B.entries ≡ true
-    its = grind (arith, gave.peer, same_sym A.opening.name p.node)
+    its = grind (arith, gave.peer, same_sym)
 
     foreign : (c : Bool) → (p.creation == creation K) ≡ c → is_from b B.entries p ≡ false
         → is_local K p ≡ false
-    foreign a other apart = grind (arith, one_from, gave)
+    foreign = grind (arith, one_from, gave)
 
     lists_all : listed B s g p ≡ own K s g p
     lists_all = by (is_from b B.entries p) refl
       where
         by : (c : Bool) → is_from b B.entries p ≡ c → listed B s g p ≡ own K s g p
-        by true from = grind (arith, listed_is B legal b s hears p its g)
+        by true from = grind (arith, listed_is)
         by false apart =
             grind (
               arith,
@@ -76,8 +74,7 @@ module _ (v : ℕ) (A : History) (node : IsNode A) (a : ℕ) (B : History) (lega
     it : HeardIsSaid v B b s
     it = heard_said v B.opening B.entries legal b here s A.opening.name (creation (moment a A))
         (honest_first v A.opening.name (creation (moment a A)) s (delivered b B.entries) later
-        (subst (IsHonest v A.opening.name (creation (moment a A)) s) (sym carried)
-        (node_honest A node a v there s))) gives hears
+        (rw carried (node_honest A node a v there s))) gives hears
 
     passed : PassesThrough v A a s
     passed = passes v A.opening a s A.entries node there
@@ -86,7 +83,7 @@ module _ (v : ℕ) (A : History) (node : IsNode A) (a : ℕ) (B : History) (lega
     -- a body that came is that of a frame owed
     owed_at : (n : ℕ) (body : List ℕ) → slice_get (delivered b B.entries) n ≡ Some body
         → slice_get (bodies_of (out A a)) n ≡ Some body
-    owed_at n body q = grind (arith, stands_first (delivered b B.entries) later n body q)
+    owed_at = grind (arith, stands_first)
 
     source_of : (n : ℕ) → n < length (delivered b B.entries)
         → (x : Owing) × (slice_get (out A a) n ≡ Some x)
@@ -125,11 +122,11 @@ module _ (v : ℕ) (A : History) (node : IsNode A) (a : ℕ) (B : History) (lega
     up_to g p = grind (
       arith,
       take-append-le (it.place + 1) (delivered b B.entries) later (omega (arith, less)),
-      take_bodies (it.place + 1) (out A a),
+      take-map,
     )
 
     rows_then : (g : List ℕ) (p : Pid) → stated B.opening b s g p B.entries ≡ own K s g p
-    rows_then g p = same_number (stated B.opening b s g p B.entries) (own K s g p)
+    rows_then g p = value_of
         (sym (it.behind g p) ∙ up_to g p ∙ passed.moments it.place x stands says g p)
 
     falls : Falls (it.place ∷ it.earlier)
@@ -177,8 +174,7 @@ module _ (v : ℕ) (A : History) (node : IsNode A) (a : ℕ) (B : History) (lega
       in_order = ordered it.earlier falls.0;
       proved = proved;
       rows = rows_then;
-      listed_is = λ g p its.
-          lists_all K refl (legal_then A node.legal x.source) same_then rows_then g p its;
+      listed_is = lists_all K refl (legal_then A node.legal x.source) same_then rows_then;
     }
 
   -- where all that is owed came, and the peer is told, they are the rows of now
@@ -186,11 +182,10 @@ module _ (v : ℕ) (A : History) (node : IsNode A) (a : ℕ) (B : History) (lega
       → (g : List ℕ) (p : Pid) → stated B.opening b s g p B.entries ≡ own A s g p
   hears_now all tells g p =
       let whole = append-nil (delivered b B.entries) ∙ all in
-      same_number (stated B.opening b s g p B.entries) (own A s g p)
+      value_of
       (sym (HeardIsSaid.now (it [] whole) g p) ∙ ap (view_of v s g p) all
       ∙ PassesThrough.now (passed [] whole) tells g p)
 
   pub listed_now : delivered b B.entries ≡ bodies_of (out A a) → told A.opening a s A.entries ≡ true
       → (g : List ℕ) (p : Pid) → same p.node A.opening.name ≡ true → listed B s g p ≡ own A s g p
-  listed_now all tells g p its_node =
-      grind (arith, lists_all, same_creation, hears_now all tells)
+  listed_now = grind (arith, lists_all, same_creation, hears_now)

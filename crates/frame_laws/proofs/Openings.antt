@@ -8,7 +8,7 @@ use proofs.Handing.{unborn_open}
 use proofs.Places.{earlier_moment}
 
 pub opened_number : (l : ℕ) (e : Entry) → is_opened_by l e ≡ true → e.number ≡ l
-opened_number l e q = grind arith
+opened_number = grind arith
 
 module _ (o : Opening) where
   -- its number is that of an entry
@@ -27,14 +27,14 @@ module _ (o : Opening) where
   -- an open link was opened by an entry
   pub open_low : (es : List Entry) → IsPlayedIn o es → (l : ℕ) → is_open l es ≡ true
       → l ≤ entered es
-  open_low es legal l opens = grind (arith, unborn_open)
+  open_low = grind (arith, unborn_open)
 
   -- while it is open the creation is the one at its opening
   pub same_creation : (es : List Entry) → IsPlayedIn o es → (l : ℕ) → is_open l es ≡ true
       → creation (past o es) ≡ creation (moment l (past o es))
   same_creation [] legal l opens = cc
   same_creation (e ∷ es) legal l opens =
-      grind (arith, same_creation es legal.1 l, earlier_moment o e es l, open_low es legal.1 l)
+      grind (arith, same_creation es legal.1 l, earlier_moment o e es l, open_low)
 
 -- how a link was opened is how it is said to be opened since the last restart
 pub opening_is : (es : List Entry) (l : ℕ) (x : Opened) → opened l es ≡ Some x

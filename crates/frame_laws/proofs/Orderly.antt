@@ -1,8 +1,8 @@
 -- What a node owes to a link is whole messages, one behind the other, each in its parts.
 use Rattle.frame_laws.proofs
 use proofs.Words.{AreInOrder, arith, begun_by, bodies_of, Entry, false, frames_said, History}
-use proofs.Words.{IsNode, List, map, Message, narrow, None, Opening, out_in, OutFrame, owed, Owing}
-use proofs.Words.{owing, past, refl, said_frames, Speaks, ℕ, [], ◌++◌, ◌∷◌, ◌≡◌}
+use proofs.Words.{IsNode, List, map, map-append, Message, narrow, None, Opening, out_in, OutFrame}
+use proofs.Words.{owed, Owing, owing, past, refl, said_frames, Speaks, ℕ, [], ◌++◌, ◌∷◌, ◌≡◌}
 use proofs.Calm.{AreWhole, frames_apart, message_ends, message_says, said_apart, whole_both}
 use proofs.Handshakes.{begins_message, first_byte, IsClosed, no_message}
 use proofs.Pieces.{begun_apart, order_apart, pieces_in_order}
@@ -16,27 +16,23 @@ pub record IsOrderly (v : ℕ) (fs : List OutFrame) : Type 0 where
 
 module _ (v : ℕ) where
   orderly_both : (xs ys : List OutFrame) → IsOrderly v xs → IsOrderly v ys → IsOrderly v (xs ++ ys)
-  orderly_both xs ys first later = grind (arith, whole_both, frames_apart, order_apart)
+  orderly_both = grind (arith, whole_both, frames_apart, order_apart)
 
   orderly_closed : IsClosed (IsOrderly v)
   orderly_closed = record { nothing = record { ends = refl; order = tt }; both = orderly_both }
 
   orderly_message : (m : Message) → IsSayable v m → IsOrderly v (said_frames v m)
-  orderly_message m can = grind (arith, message_ends, message_says, pieces_in_order)
+  orderly_message = grind (arith, message_ends, message_says, pieces_in_order)
 
   orderly_hello : (body : List ℕ) → begins_message (first_byte body) ≡ false
       → IsOrderly v (narrow body ∷ [])
-  orderly_hello body q = grind (arith, no_message)
+  orderly_hello = grind (arith, no_message)
 
   pub each_orderly : (h : History) (node : IsNode h) (l : ℕ) → Holds h node l v (IsOrderly v)
   each_orderly h node l = holds_of h node l v (IsOrderly v) orderly_closed orderly_hello
       (λ m can own. orderly_message m can)
 
 -- ---- along a history
-
-pub bodies_apart : (xs ys : List Owing) → bodies_of (xs ++ ys) ≡ bodies_of xs ++ bodies_of ys
-bodies_apart [] ys = refl
-bodies_apart (x ∷ xs) ys = grind (arith, bodies_apart xs ys)
 
 pub bodies_owing : (n : ℕ) (fs : List OutFrame) → bodies_of (map (owing n) fs) ≡ map (λ f. f.body)
     fs
@@ -46,13 +42,7 @@ bodies_owing n (f ∷ fs) = grind (arith, bodies_owing n fs)
 -- what these bodies say, and those of frames that one entry owes behind them
 pub said_more : (v : ℕ) (xs : List Owing) (n : ℕ) (fs : List OutFrame)
     → frames_said v (bodies_of (xs ++ map (owing n) fs)) ≡ frames_said v (bodies_of xs) ++ said v fs
-said_more v xs n fs =
-    grind (
-      arith,
-      bodies_apart xs (map (owing n) fs),
-      bodies_owing n fs,
-      said_apart,
-    )
+said_more = grind (arith, map-append, bodies_owing, said_apart)
 
 pub record OutOrderly (v : ℕ) (xs : List Owing) : Type 0 where
   pub ends : begun_by None (frames_said v (bodies_of xs)) ≡ None

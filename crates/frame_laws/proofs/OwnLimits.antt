@@ -1,13 +1,12 @@
 -- Own rows and running scopes are within the limits of messages.
 use Rattle.frame_laws.proofs
-use proofs.Words.{Accepted, accepted, all_hold, AllByRecursion, arith, Bool, but, cond, creation}
-use proofs.Words.{entered, Entry, Event, events, foreign_own, History, is_among, is_local}
-use proofs.Words.{is_running, IsNode, IsPlayedIn, IsRow, IsText, IsWritten, join_checks, joined}
-use proofs.Words.{judgement, leb-true, List, list_all, lives, local_rows, local_rows_are, mentions}
-use proofs.Words.{occurrences, Opening, own, past, Pid, refl, Refused, Reply, Row, row}
-use proofs.Words.{running_among, running_scopes, same, same_decides, same_pid_decides, same_row}
-use proofs.Words.{same_row_decides, spawned, true, unbroken, uncounted, Verdict, ℕ, [], ◌&&◌, ◌+◌}
-use proofs.Words.{◌<◌, ◌^◌, ◌∷◌, ◌≡◌, ◌≤◌}
+use proofs.Words.{Accepted, AllByRecursion, arith, Bool, but, cond, creation, entered, Entry, Event}
+use proofs.Words.{events, foreign_own, History, is_among, is_local, is_running, IsNode, IsPlayedIn}
+use proofs.Words.{IsRow, IsText, IsWritten, joined, judgement, leb-true, List, list_all, lives}
+use proofs.Words.{local_rows, local_rows_are, mentions, occurrences, Opening, own, past, Pid, refl}
+use proofs.Words.{Refused, Reply, Row, row, running_among, running_scopes, same, same_decides}
+use proofs.Words.{same_pid_decides, same_row, same_row_decides, spawned, true, uncounted, Verdict}
+use proofs.Words.{ℕ, [], ◌&&◌, ◌+◌, ◌<◌, ◌^◌, ◌∷◌, ◌≡◌, ◌≤◌}
 
 -- ---- lists
 
@@ -51,8 +50,7 @@ module _ (o : Opening) where
         → IsText f → same f g ≡ true → Before → 0 < joined s g p (events es) + mentions p ps
         → (b : Bool) → lives (past o es) p ≡ b
         → IsJoined (but e (Event.Join t f ps) (Accepted r) ∷ es) g p
-    mentioned t f ps r all text is so_far some b alive =
-        grind (arith, same_decides f g, uncounted, same_pid_decides)
+    mentioned = grind (arith, same_decides, uncounted, same_pid_decides)
 
     joins : (t f : List ℕ) (ps : List Pid) (r : Reply) → list_all (lives (past o es)) ps ≡ true
         → IsText f → Before
@@ -65,15 +63,13 @@ module _ (o : Opening) where
 
     was_so : (ev : Event) (v : Verdict) → spawned (past o es) ≤ spawned (past o (but e ev v ∷ es))
         → IsJoined es g p → IsJoined (but e ev v ∷ es) g p
-    was_so ev v more was = grind arith
+    was_so = grind arith
 
     by_event : (ev : Event) (v : Verdict) → v ≡ judgement (past o es) e.seat ev → IsWritten ev
         → Before → After ev v
-    by_event ev (Refused r) q text so_far some = was_so ev (Refused r) (omega arith) (so_far some)
+    by_event ev (Refused r) q text so_far some = grind arith
     by_event (Event.Join t f ps) (Accepted r) q text so_far some =
-        joins t f ps r (unbroken (list_all (lives (past o es)) ps)
-        (all_hold (join_checks (past o es) t f ps) (accepted (past o es) e.seat (Event.Join t f ps)
-        r q).0).1.1.0) text.1 so_far (same t s) (same f g) refl refl some
+        joins t f ps r (grind arith) text.1 so_far (same t s) (same f g) refl refl some
     by_event Event.Restart (Accepted r) q text so_far some = absurd (omega arith)
     by_event ev (Accepted r) q text so_far some = grind arith
 
@@ -98,7 +94,7 @@ module _ (o : Opening) where
 
 module _ (h : History) (node : IsNode h) where
   pub scope_text : (s : List ℕ) → is_running h s ≡ true → IsText s
-  scope_text s q = runs_text h.opening h.entries node.written s q
+  scope_text = runs_text h.opening h.entries node.written
 
   pub scopes_text : AllByRecursion IsText (running_scopes h)
   scopes_text = grind (arith, all_among, scope_text, running_among)
@@ -110,7 +106,7 @@ module _ (h : History) (node : IsNode h) where
   -- a local process with a number that was spawned has a row
   local_row : (g : List ℕ) (p : Pid) → IsText g → is_local h p ≡ true → p.number ≤ spawned h
       → IsRow (row g p)
-  local_row g p text local number = grind (arith, same_decides, own_creation_fits, few_spawned)
+  local_row = grind (arith, same_decides, own_creation_fits, few_spawned)
 
   -- a process that lives has one in each group
   pub living_row : (g : List ℕ) (p : Pid) → IsText g → lives h p ≡ true → IsRow (row g p)
@@ -118,12 +114,12 @@ module _ (h : History) (node : IsNode h) where
       (leb-true p.number (spawned h) (grind arith))
 
   pub own_row : (s g : List ℕ) (p : Pid) → 0 < own h s g p → IsRow (row g p)
-  own_row s g p some =
+  own_row s g p =
       grind (
         arith,
         joined_text h.opening h.entries node.legal node.written s g p,
         local_row g p,
-        foreign_own h node.legal s g p,
+        foreign_own,
       )
 
   -- all own rows of a scope

@@ -43,7 +43,7 @@ module _ (h : History) (node : IsNode h) where
 
   pub join_met : (seat : ℕ) (s g : List ℕ) (ps : List Pid) (r : Reply)
       → Accepted r ≡ judgement h seat (Event.Join s g ps) → JoinMet s ps
-  join_met seat s g ps r q = grind arith
+  join_met = grind arith
 
   abbrev pub join_rows : List ℕ → List Pid → List Row
   join_rows g ps = map (row g) (listing pid_cmp (λ p. mentions p ps) ps)
@@ -56,22 +56,17 @@ module _ (h : History) (node : IsNode h) where
 
   pub join_listing : (g : List ℕ) (ps : List Pid)
       → IsRowListing (λ f q. cond (same f g) (mentions q ps) 0) (join_rows g ps)
-  join_listing g ps = grind (arith, group_listing)
+  join_listing = grind (arith, group_listing)
 
   pub leave_listing : (s g : List ℕ) (ps : List Pid)
       → IsRowListing (λ f q. cond (same f g) (min (mentions q ps) (own h s g q)) 0)
       (leave_rows s g ps)
-  leave_listing s g ps = grind (arith, group_listing)
+  leave_listing = grind (arith, group_listing)
 
   pub join_few : (g : List ℕ) (ps : List Pid) → length (join_rows g ps) ≤ length ps
   join_few g ps =
       let all = fewer_length same_row same_row_decides (join_rows g ps) (map (row g) ps)
-      (λ r. grind (
-        arith,
-        IsListing.counts (join_listing g ps) r,
-        count_in_group r g ps,
-        same_sym r.group g,
-      )) in
+      (λ r. grind (arith, IsListing.counts (join_listing g ps) r, count_in_group, same_sym)) in
       omega (arith, length-map ps (row g))
 
   pub join_each : (g : List ℕ) (ps : List Pid) → IsText g → list_all (lives h) ps ≡ true
@@ -79,40 +74,37 @@ module _ (h : History) (node : IsNode h) where
   join_each g ps text alive = all_counted IsRow (join_rows g ps) each
     where
       each : (r : Row) → 0 < occurrences same_row r (join_rows g ps) → IsRow r
-      each r some = grind (arith, join_listing, living_row, same_decides, uncounted)
+      each = grind (arith, join_listing, living_row, same_decides, uncounted)
 
   leave_within : (s g : List ℕ) (ps : List Pid) (r : Row)
       → occurrences same_row r (leave_rows s g ps) ≤ own h s r.group r.pid
-  leave_within s g ps r =
-      grind (arith, IsListing.counts (leave_listing s g ps) r, same_decides r.group g)
+  leave_within s g ps r = grind (arith, IsListing.counts (leave_listing s g ps) r, same_decides)
 
   pub leave_few : (s g : List ℕ) (ps : List Pid)
       → length (leave_rows s g ps) ≤ length (local_rows h s)
   leave_few s g ps = few h s (leave_rows s g ps) (leave_within s g ps)
 
   pub leave_each : (s g : List ℕ) (ps : List Pid) → AllByRecursion IsRow (leave_rows s g ps)
-  leave_each s g ps = grind (arith, all_counted, own_row, leave_within)
+  leave_each = grind (arith, all_counted, own_row, leave_within)
 
   pub exit_few : (s : List ℕ) (p : Pid) → length (exit_rows s p) ≤ length (local_rows h s)
-  exit_few s p = grind (arith, length_filter)
+  exit_few = grind (arith, length_filter)
 
   pub exit_each : (s : List ℕ) (p : Pid) → AllByRecursion IsRow (exit_rows s p)
-  exit_each s p = grind (arith, filter_all, own_rows h node s)
+  exit_each s = grind (arith, filter_all, own_rows h node s)
 
   -- ---- messages
 
   -- a scope for whose rows a peer may ask
   pub asked_text : (l : ℕ) (s : List ℕ)
       → first_broken (message_checks h l (Message2.Discover s)) ≡ None → IsText s
-  asked_text l s met = scope_text h node s (unbroken (is_running h s)
-      (all_hold (message_checks h l (Message2.Discover s)) met).1.0)
+  asked_text = grind (arith, scope_text, unbroken, all_hold)
 
   module _ (l v : ℕ)
       (agrees : is_whole l h.entries ≡ true → link_version h.opening l h.entries ≡ v) where
     -- to a peer that is told all own rows can be said
     pub told_room : (s : List ℕ) → told h.opening l s h.entries ≡ true → own_limit h s ≤ limit v
-    told_room s tells =
-        grind (arith, old_limit h.opening h.entries l s)
+    told_room s = grind (arith, old_limit h.opening h.entries l s)
 
     pub own_room : (s : List ℕ) → told h.opening l s h.entries ≡ true
         → length (local_rows h s) ≤ limit v
@@ -122,14 +114,13 @@ module _ (h : History) (node : IsNode h) where
     pub asked_room : is_whole l h.entries ≡ true → (s : List ℕ)
         → first_broken (message_checks h l (Message2.Discover s)) ≡ None
         → length (local_rows h s) ≤ limit v
-    asked_room whole s met = grind (arith, few_local h node.legal s)
+    asked_room whole s = grind (arith, few_local h node.legal s)
 
     pub join_is : (s g : List ℕ) (ps : List Pid) → IsText s → IsText g
         → list_all (lives h) ps ≡ true → length (local_rows h s) + length ps ≤ own_limit h s
         → told h.opening l s h.entries ≡ true → is_empty (join_rows g ps) ≡ false
         → IsSayable v (Message.Join s (join_rows g ps))
-    join_is s g ps scope group alive small tells some =
-        grind (arith, join_sayable, join_each, join_few, told_room)
+    join_is = grind (arith, join_sayable, join_each, join_few, told_room)
 
     pub leave_is : (s g : List ℕ) (ps : List Pid) → IsText s
         → told h.opening l s h.entries ≡ true → is_empty (leave_rows s g ps) ≡ false
@@ -160,7 +151,7 @@ module _ (h : History) (node : IsNode h) where
   all_own (r ∷ rows) each = grind (arith, same_row_decides, all_own rows)
 
   own_is_local : (s g : List ℕ) (p : Pid) → 0 < own h s g p → is_local h p ≡ true
-  own_is_local s g p some = grind (arith, foreign_own)
+  own_is_local = grind (arith, foreign_own)
 
   pub sync_own : (s : List ℕ) → AreLocal (local_rows h s)
   sync_own s = grind (arith, all_own, own_is_local, local_rows_are h s)
@@ -175,8 +166,8 @@ module _ (h : History) (node : IsNode h) where
 
   pub leave_own : (s g : List ℕ) (ps : List Pid)
       → AreLocal (leave_rows s g ps)
-  leave_own s g ps = grind (arith, all_own, own_is_local, leave_within)
+  leave_own = grind (arith, all_own, own_is_local, leave_within)
 
   pub join_own : (g : List ℕ) (ps : List Pid) → list_all (lives h) ps ≡ true
       → AreLocal (join_rows g ps)
-  join_own g ps alive = grind (arith, all_own, join_listing g ps, uncounted, same_pid_decides)
+  join_own = grind (arith, all_own, join_listing, uncounted, same_pid_decides)

@@ -2,10 +2,10 @@
 use Rattle.frame_laws.proofs
 use proofs.Words.{ap, append-nil, append_assoc, AreInOrder, arith, before_last, Begun, begun_after}
 use proofs.Words.{begun_by, Bool, completed_by, cond, drop, false, length, List, max_rows, Message}
-use proofs.Words.{Message2, message_of, None, Option, PartKind, parts, parts_complete, parts_from}
-use proofs.Words.{parts_in_order, refl, Row, rows_before, rows_so_far, rules, slice_get, Some}
-use proofs.Words.{subst, suc, sym, take, take-append-drop, true, whole, zero, ℕ, [], ◌++◌, ◌+◌}
-use proofs.Words.{◌==◌, ◌∙◌, ◌∷◌, ◌≡◌}
+use proofs.Words.{Message2, message_of, None, Option, Part, PartKind, parts, parts_complete}
+use proofs.Words.{parts_from, parts_in_order, refl, Row, rows_before, rows_so_far, rules, slice_get}
+use proofs.Words.{Some, suc, sym, take, take-append-drop, true, whole, zero, ℕ, [], ◌++◌, ◌+◌, ◌==◌}
+use proofs.Words.{◌∙◌, ◌∷◌, ◌≡◌}
 
 -- ---- lists of parts
 
@@ -38,7 +38,7 @@ cuts v rows = cond (v == 2) (before_last rows) 0
 
 pub pieces_are : (v : ℕ) (kind : PartKind) (s : List ℕ) (rows : List Row)
     → pieces v (message_of kind s rows) ≡ parts_from kind s 1 (cuts v rows) rows
-pieces_are v kind s rows = grind arith
+pieces_are = grind arith
 
 pub pieces_complete : (v : ℕ) (m : Message) → completed_by None (pieces v m) ≡ m ∷ []
 pieces_complete v m = grind (arith, append-nil (parts m), parts_complete)
@@ -47,7 +47,7 @@ pub pieces_in_order : (v : ℕ) (m : Message) → AreInOrder None (pieces v m)
 pieces_in_order v m = by (v == 2) m
   where
     by : (b : Bool) (m : Message) → AreInOrder None (cond b (parts m) (whole m ∷ []))
-    by true m = subst (AreInOrder None) (append-nil (parts m)) (parts_in_order m [] tt)
+    by true m = rw append-nil at (parts_in_order m [] tt)
     by false m = (grind arith, tt)
 
 pub last_ends : (kind : PartKind) (s : List ℕ) (number more : ℕ) (rows : List Row) (b : Option
@@ -58,7 +58,7 @@ last_ends kind s number (suc more) rows b = last_ends kind s (suc number) more (
     _
 
 pub pieces_end : (v : ℕ) (m : Message) → begun_by None (pieces v m) ≡ None
-pieces_end v = grind (arith, last_ends)
+pieces_end = grind (arith, last_ends)
 
 -- ---- one part of a message
 
@@ -73,7 +73,7 @@ pub record IsPiece (b : Option Begun) (kind : PartKind) (s : List ℕ) (before r
   pub some : List Row
   pub first : List Row
   pub rest : List Row
-  pub is : f ≡ Message2.Part kind s number last some
+  pub is : f ≡ Part kind s number last some
   pub so_far : rows_so_far (begun_by b (take k all)) kind s number some ≡ before ++ first
   pub whole_is : first ++ rest ≡ rows
   pub none : completed_by b (take k all) ≡ []
@@ -85,7 +85,7 @@ pub record IsPiece (b : Option Begun) (kind : PartKind) (s : List ℕ) (before r
 kept_before : (kind : PartKind) (s : List ℕ) (n : ℕ) (before : List Row)
     → rows_before (Some (record { kind = kind; scope = s; number = suc n; rows = before })) kind s
     (suc (suc n)) ≡ before
-kept_before kind s n before = search rules
+kept_before = search rules
 
 pub value_of : {A : Type 0} {x y : A} → Some x ≡ Some y → x ≡ y
 value_of q = cc
@@ -93,7 +93,7 @@ value_of q = cc
 -- what is kept behind the first of some parts
 abbrev kept_first : Option Begun → PartKind → List ℕ → ℕ → List Row → Option Begun
 kept_first b kind s n rows =
-    begun_after b (Message2.Part kind s (suc n) false (take max_rows rows))
+    begun_after b (Part kind s (suc n) false (take max_rows rows))
 
 -- a part behind the first
 piece_later : (kind : PartKind) (s : List ℕ) (n more : ℕ) (rows before : List Row)
@@ -109,15 +109,11 @@ piece_later kind s n more rows before b k f it = record {
   first = take max_rows rows ++ it.first;
   rest = it.rest;
   is = it.is;
-  so_far = grind (arith, append_assoc before (take max_rows rows) it.first);
-  whole_is = grind (
-    arith,
-    append_assoc (take max_rows rows) it.first it.rest,
-    take-append-drop max_rows rows,
-  );
+  so_far = grind (arith, append_assoc);
+  whole_is = grind (arith, append_assoc, take-append-drop max_rows rows);
   none = it.none;
   ends = λ is. grind arith;
-  begins = λ is. grind (arith, append_assoc before (take max_rows rows) it.first);
+  begins = λ is. grind (arith, append_assoc);
 }
 
 pub piece_at : (kind : PartKind) (s : List ℕ) (n more : ℕ) (rows before : List Row)

@@ -27,11 +27,6 @@ module _ {A : Type 0} where
   all_at P (y ∷ xs) all zero x q = grind arith
   all_at P (y ∷ xs) all (suc n) x q = all_at P xs all.1 n x q
 
-  pub first_of_both : (xs ys : List A) (x : A) → slice_get xs 0 ≡ Some x
-      → slice_get (xs ++ ys) 0 ≡ Some x
-  first_of_both [] ys x q = grind arith
-  first_of_both (y ∷ xs) ys x q = q
-
 -- ---- owed frames
 
 pub frames_owing : (n : ℕ) (fs : List OutFrame) → frames_of (map (owing n) fs) ≡ fs
@@ -53,11 +48,11 @@ owed_here n (f ∷ fs) (suc m) x q = grind (arith, owed_here n fs m x q)
 
 pub earlier_moment : (o : Opening) (e : Entry) (es : List Entry) (k : ℕ) → k ≤ entered es
     → moment k (past o (e ∷ es)) ≡ moment k (past o es)
-earlier_moment o e es k le = grind arith
+earlier_moment = grind arith
 
 pub this_moment : (o : Opening) (e : Entry) (es : List Entry) (k : ℕ) → k ≡ entered es + 1
     → moment k (past o (e ∷ es)) ≡ past o (e ∷ es)
-this_moment o e es k is = grind arith
+this_moment = grind arith
 
 -- ---- along a history
 
@@ -79,7 +74,7 @@ module _ (o : Opening) (l : ℕ) (P : History → OutFrame → Type 0) where
   pub holds_then : (es : List Entry) → IsPlayedIn o es → AllOwed es → (n : ℕ) (x : Owing)
       → slice_get (out_in o l es) n ≡ Some x → HoldsThen es x
   holds_then [] legal all n x q = grind arith
-  holds_then (e ∷ es) legal all n x q = by (λ r. holds_then es legal.1 all.1 n x r)
+  holds_then (e ∷ es) legal all n x q = by (holds_then es legal.1 all.1 n x)
       (part (out_in o l es) (owes (past o es) l e) n x q)
     where
       by : (slice_get (out_in o l es) n ≡ Some x → HoldsThen es x)

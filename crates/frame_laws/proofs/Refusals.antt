@@ -1,19 +1,19 @@
 -- A frame that was accepted: its link is open, and within a handshake nobody becomes heard or told.
 use Rattle.frame_laws.proofs
-use proofs.Words.{Accepted, ap, arith, awaits, Bool, but, done_now, Entry, Event, false}
-use proofs.Words.{first_broken, frame_checks, framed_heard, fresh, heard, History, is_last}
-use proofs.Words.{is_message, is_open, IsPlayed, IsStep, List, None, not, proved_heard, refl, Reply}
-use proofs.Words.{told, true, ℕ, [], ◌&&◌, ◌∷◌, ◌≡◌}
+use proofs.Words.{Accepted, ap, arith, awaits, Bool, but, done_now, Entry, false, first_broken}
+use proofs.Words.{Frame, frame_checks, framed_heard, fresh, heard, History, is_last, is_message}
+use proofs.Words.{is_open, IsPlayed, IsStep, List, None, not, proved_heard, refl, Reply, told, true}
+use proofs.Words.{ℕ, [], ◌&&◌, ◌∷◌, ◌≡◌}
 
 -- who is heard or told after an entry that says nothing was so before
 pub was_so : (ended opens whole said : Bool) → (((not ended && opens) && whole) && said) ≡ true
     → ((opens && whole) && said) ≡ true
-was_so ended opens whole said q = grind arith
+was_so = grind arith
 
 module _ (h : History) (e : Entry) (k : ℕ) (body : List ℕ) (r : Reply)
-    (made : IsStep h (but e (Event.Frame k body) (Accepted r))) (l : ℕ) (same_link : k ≡ l) where
+    (made : IsStep h (but e (Frame k body) (Accepted r))) (l : ℕ) (same_link : k ≡ l) where
   abbrev fr : Entry
-  fr = but e (Event.Frame k body) (Accepted r)
+  fr = but e (Frame k body) (Accepted r)
 
   -- no rule is broken
   pub found : (is_open l h.entries ≡ true)
@@ -28,8 +28,8 @@ module _ (h : History) (e : Entry) (k : ℕ) (body : List ℕ) (r : Reply)
   pub within_hello : IsPlayed h → is_message (awaits l h.entries) ≡ false → (s : List ℕ) → WasSo s
   within_hello legal unlike s = by (is_last (awaits l h.entries)) refl
     where
-      its : Event.Frame k body ≡ Event.Frame l body
-      its = ap (λ j. Event.Frame j body) same_link
+      its : Frame k body ≡ Frame l body
+      its = ap (λ j. Frame j body) same_link
 
       by : (b : Bool) → is_last (awaits l h.entries) ≡ b → WasSo s
       by false inner =

@@ -7,8 +7,8 @@ use proofs.Words.{IsWritten, Less, lie, link_version, List, local_rows, local_ro
 use proofs.Words.{message_of, occurrences, Opening, OutFrame, own, PartKind, past, Pid, refl, Reply}
 use proofs.Words.{Rises, Row, row, rows_of, running_among, running_rises, running_scopes}
 use proofs.Words.{said_frames, same, same_decides, same_pid, same_pid_decides, same_row}
-use proofs.Words.{same_row_decides, same_sym, Some, subst, sym, text_cmp, told, told_runs, true}
-use proofs.Words.{Verdict, ℕ, [], ◌++◌, ◌+◌, ◌-◌, ◌∙◌, ◌∷◌, ◌≡◌, ◌≤◌}
+use proofs.Words.{same_row_decides, same_sym, Some, sym, text_cmp, told, told_runs, true, Verdict}
+use proofs.Words.{ℕ, [], ◌++◌, ◌+◌, ◌-◌, ◌∙◌, ◌∷◌, ◌≡◌, ◌≤◌}
 use proofs.Calm.{AllCalm, calm_closed, calm_message}
 use proofs.OwnLimits.{scope_text, scopes_text}
 use proofs.Telling.{EntryTells, IsTold, Silent, Spoke, Tells, told_join, told_leave}
@@ -40,11 +40,11 @@ module _ (h : History) (node : IsNode h) (l v : ℕ)
         by is_told refl (is_empty rows) refl
       where
         none : if_told h l s say rows ≡ [] → AllCalm v s fs
-        none empty = grind (arith, calm_closed v s)
+        none = grind (arith, calm_closed v s)
 
         one : is_told ≡ true → is_empty rows ≡ false
             → if_told h l s say rows ≡ said_frames v (say rows)
-        one tells q = grind arith
+        one = grind arith
 
         by : (b : Bool) → is_told ≡ b → (c : Bool) → is_empty rows ≡ c
             → Tells v s is_told is_told was now fs
@@ -67,7 +67,7 @@ part_calm : (h : History) (node : IsNode h) (l v : ℕ)
     (s t : List ℕ) (say : List Row → Message) (rows : List Row)
     → (told h.opening l t h.entries ≡ true → is_empty rows ≡ false → IsSayable v (say rows))
     → is_about_rows s (Some (say rows)) ≡ false → AllCalm v s (if_told h l t say rows)
-part_calm h node l v agrees s t say rows is other = grind (arith, calm_message v s (say rows))
+part_calm h node l v agrees s t say rows = grind (arith, calm_message v s (say rows))
 
 nothing_of : (g : List ℕ) (p : Pid) (rows : List Row) → is_empty rows ≡ true → rows_of g p rows ≡ 0
 nothing_of g p [] q = refl
@@ -94,12 +94,7 @@ module _ (o : Opening) (es : List Entry) (e : Entry) (node : IsNode (past o es))
     joined_now : is_running h s ≡ true → (f : List ℕ) (p : Pid)
         → own (past o (joins ∷ es)) s f p ≡ own h s f p + rows_of f p (join_rows h node g ps)
     joined_now runs f p =
-        grind (
-          arith,
-          same_decides s s,
-          same_sym f g,
-          IsListing.counts (join_listing h node g ps) (row f p),
-        )
+        grind (arith, same_decides, same_sym, IsListing.counts (join_listing h node g ps) (row f p))
 
     join_here : IsStep h (but e (Event.Join s g ps) (Accepted r)) → IsWritten (Event.Join s g ps)
         → TellsOf (Event.Join s g ps) (Accepted r)
@@ -107,8 +102,7 @@ module _ (o : Opening) (es : List Entry) (e : Entry) (node : IsNode (past o es))
         let met = join_met h node e.seat s g ps r next.judged in
         alone_tells h node l v agrees s (own h s) (own (past o (joins ∷ es)) s)
         PartKind.Join (join_rows h node g ps)
-        (λ tells some. join_is h node l v agrees s g ps text.0 text.1
-        met.alive met.room tells some)
+        (join_is h node l v agrees s g ps text.0 text.1 met.alive met.room)
         (λ q f p. (let none = nothing_of f p (join_rows h node g ps) q in let is =
         joined_now met.runs f p in omega arith))
         (λ tells. told_join tells (local_rows h s) (own_within h s)
@@ -120,9 +114,9 @@ module _ (o : Opening) (es : List Entry) (e : Entry) (node : IsNode (past o es))
     join_tells t next text = by (same t s) refl
       where
         by : (b : Bool) → same t s ≡ b → TellsOf (Event.Join t g ps) (Accepted r)
-        by true is = subst (λ u. IsStep h (but e (Event.Join u g ps) (Accepted r))
-            → IsWritten (Event.Join u g ps) → TellsOf (Event.Join u g ps) (Accepted r))
-            (sym ((same_decides t s).0 is)) join_here next text
+        by true is =
+            let it = (same_decides t s).0 is in
+            rw it (join_here (rw it at next) (rw it at text))
         by false other =
             grind (
               arith,
@@ -142,9 +136,8 @@ module _ (o : Opening) (es : List Entry) (e : Entry) (node : IsNode (past o es))
     left_now f p =
         grind (
           arith,
-          same_decides s s,
-          same_sym f g,
-          same_decides f g,
+          same_decides,
+          same_sym,
           IsListing.counts (leave_listing h node s g ps) (row f p),
         )
 
@@ -152,12 +145,15 @@ module _ (o : Opening) (es : List Entry) (e : Entry) (node : IsNode (past o es))
     leave_here text =
         alone_tells h node l v agrees s (own h s) (own (past o (leaves ∷ es)) s)
         PartKind.Leave (leave_rows h node s g ps)
-        (λ tells some. leave_is h node l v agrees s g ps text.0 tells some)
+        (leave_is h node l v agrees s g ps text.0)
         (λ q f p. omega (arith, nothing_of f p (leave_rows h node s g ps) q, left_now f p))
         (λ tells. told_leave tells (local_rows h s) (own_within h s)
         (own_room h node l v agrees s tells)
-        (λ f p. grind
-        (arith, same_decides f g, IsListing.counts (leave_listing h node s g ps) (row f p)))
+        (λ f p. grind (
+          arith,
+          same_decides,
+          IsListing.counts (leave_listing h node s g ps) (row f p),
+        ))
         left_now)
 
     pub leave_tells : (t : List ℕ) → IsWritten (Event.Leave t g ps)
@@ -165,8 +161,8 @@ module _ (o : Opening) (es : List Entry) (e : Entry) (node : IsNode (past o es))
     leave_tells t text = by (same t s) refl
       where
         by : (b : Bool) → same t s ≡ b → TellsOf (Event.Leave t g ps) (Accepted r)
-        by true is = subst (λ u. IsWritten (Event.Leave u g ps) → TellsOf (Event.Leave u g ps)
-            (Accepted r)) (sym ((same_decides t s).0 is)) leave_here text
+        by true is =
+            let it = (same_decides t s).0 is in rw it (leave_here (rw it at text))
         by false other =
             grind (
               arith,
@@ -187,7 +183,7 @@ module _ (o : Opening) (es : List Entry) (e : Entry) (node : IsNode (past o es))
         → occurrences same_row q (filter (λ w. same_pid w.pid x) rows) ≡ cond (same_pid q.pid x)
         (occurrences same_row q rows) 0
     exit_counts q [] = grind arith
-    exit_counts q (w ∷ rows) = grind (arith, exit_counts q rows, same_row_decides w q)
+    exit_counts q (w ∷ rows) = grind (arith, exit_counts q rows, same_row_decides)
 
     abbrev exits : Entry
     exits = but e (Event.Exit x) (Accepted r)
@@ -197,10 +193,9 @@ module _ (o : Opening) (es : List Entry) (e : Entry) (node : IsNode (past o es))
     exited_now f p =
         grind (
           arith,
-          exit_counts (row f p) (local_rows h s),
+          exit_counts,
           IsListing.counts (local_rows_are h s) (row f p),
-          same_pid_decides x p,
-          same_pid_decides p x,
+          same_pid_decides,
         )
 
     -- the parts of other scopes
@@ -227,7 +222,7 @@ module _ (o : Opening) (es : List Entry) (e : Entry) (node : IsNode (past o es))
     absent : (t : List ℕ) (ss : List (List ℕ)) → AllByRecursion (λ u. text_cmp t u ≡ Less) ss
         → is_among t ss ≡ false
     absent t [] above = refl
-    absent t (u ∷ ss) above = grind (arith, apart t u above.0, absent t ss above.1)
+    absent t (u ∷ ss) above = grind (arith, apart, absent t ss above.1)
 
     parted : (ss : List (List ℕ)) → Rises text_cmp ss → AllByRecursion IsText ss
         → is_among s ss ≡ true → IsParted ss
@@ -242,8 +237,7 @@ module _ (o : Opening) (es : List Entry) (e : Entry) (node : IsNode (past o es))
               back = parts ss;
               whole = ap (λ u. part_of u ++ parts ss) here;
               early = (calm_closed v s).nothing;
-              late = others ss (subst (λ u. is_among u ss ≡ false) here (absent t ss rises.0))
-                  texts.1;
+              late = others ss (rw here at (absent t ss rises.0)) texts.1;
             }
         by false other later =
             let it = later (grind arith) in
@@ -253,7 +247,7 @@ module _ (o : Opening) (es : List Entry) (e : Entry) (node : IsNode (past o es))
               whole = grind (arith, append_assoc);
               early = (calm_closed v s).both (part_of t) it.front
                   (part_calm h node l v agrees s t (Message.Leave t) (exit_rows h node t x)
-                  (λ tells some. exit_is h node l v agrees t x texts.0 tells some) other) it.early;
+                  (exit_is h node l v agrees t x texts.0) other) it.early;
               late = it.late;
             }
 
@@ -266,15 +260,11 @@ module _ (o : Opening) (es : List Entry) (e : Entry) (node : IsNode (past o es))
             (running_among h s ∙ runs) in
             part_tells h node l v agrees s (own h s) (own (past o (exits ∷ es)) s)
             PartKind.Leave (exit_rows h node s x)
-            (λ tells some. exit_is h node l v agrees s x (scope_text h node s runs) tells some)
+            (exit_is h node l v agrees s x (scope_text h node s runs))
             (λ q f p. omega (arith, nothing_of f p (exit_rows h node s x) q, exited_now f p))
             (λ tells. told_leave tells (local_rows h s) (own_within h s)
             (own_room h node l v agrees s tells)
-            (λ f p. grind (
-              arith,
-              exit_counts (row f p) (local_rows h s),
-              IsListing.counts (local_rows_are h s) (row f p),
-            ))
+            (λ f p. grind (arith, exit_counts, IsListing.counts (local_rows_are h s) (row f p)))
             exited_now)
             it.front it.back (parts (running_scopes h)) it.whole it.early it.late
         by false stopped = Silent (others (running_scopes h) (running_among h s ∙ stopped)

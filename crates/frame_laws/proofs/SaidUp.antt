@@ -1,12 +1,11 @@
 -- A message is owed to a link after it was proved, and no restart comes between.
 use Rattle.frame_laws.proofs
-use proofs.Words.{Accepted, ack_taken, ap, arith, AwaitAck, Awaited, AwaitMessage, AwaitReply}
-use proofs.Words.{awaits, Bool, but, entered, Entry, eqb-true, Event, false, filter, flat_map}
-use proofs.Words.{frame_owes, History, if_told, is_restarted_after, is_whole, IsNumbered}
-use proofs.Words.{IsPlayedIn, IsProvedLink, IsStep, IsTrue, List, list_all, local_rows, Message}
-use proofs.Words.{message_taken_on, not, Opening, OutFrame, owed, past, refl, Refused, Reply}
-use proofs.Words.{reply_taken, Row, running_scopes, same_pid, slice_get, Some, suc, true, Verdict}
-use proofs.Words.{zero, ℕ, [], ◌+◌, ◌==◌, ◌∷◌, ◌≡◌, ◌≤◌}
+use proofs.Words.{Accepted, ack_taken, ap, arith, Awaited, awaits, Bool, but, entered, Entry}
+use proofs.Words.{eqb-true, Event, false, filter, flat_map, Frame, frame_owes, History, if_told}
+use proofs.Words.{is_restarted_after, is_whole, IsPlayedIn, IsProvedLink, IsStep, IsTrue, List}
+use proofs.Words.{list_all, local_rows, Message, message_taken_on, not, Opening, OutFrame, owed}
+use proofs.Words.{past, refl, Reply, reply_taken, Row, running_scopes, same_pid, slice_get, Some}
+use proofs.Words.{suc, true, Verdict, zero, ℕ, [], ◌+◌, ◌==◌, ◌∷◌, ◌≡◌, ◌≤◌}
 use proofs.Places.{AllOwed}
 
 -- ---- a link that is whole was proved
@@ -18,19 +17,13 @@ module _ (o : Opening) where
   unrestarted [] legal k le = refl
   unrestarted (e ∷ es) legal k le = grind (arith, unrestarted es legal.1 k)
 
-  -- what makes a link whole is an entry
-  whole_number : (es : List Entry) (e : Entry) (l : ℕ) (ev : Event) (v : Verdict)
-      → IsNumbered (past o es) e.number ev → is_whole l es ≡ false
-      → is_whole l (but e ev v ∷ es) ≡ true → e.number ≡ entered es + 1
-  whole_number es e l ev v here was now = grind arith
-
   was_proved : (es : List Entry) → IsPlayedIn o es → (l : ℕ) → is_whole l es ≡ true
       → IsProvedLink (past o es) l
   was_proved [] legal l w = cc
   was_proved (e ∷ es) legal l w = by (was_proved es legal.1 l) (is_whole l es) refl
     where
       number : is_whole l es ≡ false → e.number ≡ entered es + 1
-      number was = whole_number es e l e.event e.verdict legal.0.number was w
+      number = grind arith
 
       by : (is_whole l es ≡ true → IsProvedLink (past o es) l) → (b : Bool) → is_whole l es ≡ b
           → IsProvedLink (past o (e ∷ es)) l
@@ -56,46 +49,29 @@ module _ (o : Opening) (es : List Entry) (e : Entry) (l : ℕ) where
   all_untold un say rows (s ∷ ss) = grind (arith, all_untold un say rows ss)
 
   framed : (k : ℕ) (body : List ℕ) (r : Reply)
-      → IsStep (past o es) (but e (Event.Frame k body) (Accepted r)) → (k == l) ≡ true
-      → is_whole l (but e (Event.Frame k body) (Accepted r) ∷ es) ≡ false
+      → IsStep (past o es) (but e (Frame k body) (Accepted r)) → (k == l) ≡ true
+      → is_whole l (but e (Frame k body) (Accepted r) ∷ es) ≡ false
       → (a : Awaited) → awaits l es ≡ a → are_narrow (frame_owes (past o es) l body a) ≡ true
-  framed k body r made is un AwaitReply a =
+  framed k body r made is un x a =
+      let its = ap (λ j. Frame j body) (eqb-true k l is) in
       grind (
         arith,
-        reply_taken (past o es) (but e (Event.Frame k body) (Accepted r)) made refl l body
-            (ap (λ j. Event.Frame j body) (eqb-true k l is)) a,
+        reply_taken (past o es) (but e (Frame k body) (Accepted r)) made refl l body its,
+        ack_taken (past o es) (but e (Frame k body) (Accepted r)) made refl l body its,
+        message_taken_on (past o es) (but e (Frame k body) (Accepted r)) made refl l body its,
       )
-  framed k body r made is un AwaitAck a =
-      grind (
-        arith,
-        ack_taken (past o es) (but e (Event.Frame k body) (Accepted r)) made refl l body
-            (ap (λ j. Event.Frame j body) (eqb-true k l is)) a,
-      )
-  framed k body r made is un AwaitMessage a =
-      grind (
-        arith,
-        message_taken_on (past o es) (but e (Event.Frame k body) (Accepted r)) made refl l body
-            (ap (λ j. Event.Frame j body) (eqb-true k l is)) a,
-      )
-  framed k body r made is un x a = grind arith
 
   -- while the link isn't whole no message is owed to it
   unsaid : (ev : Event) (v : Verdict) → IsStep (past o es) (but e ev v)
       → is_whole l (but e ev v ∷ es) ≡ false → are_narrow (owed (past o es) l e.number ev v) ≡ true
-  unsaid (Event.StartScope s) (Accepted r) made un = grind arith
-  unsaid (Event.StopScope s) (Accepted r) made un = grind arith
   unsaid (Event.Exit p) (Accepted r) made un =
       grind (
         arith,
-        all_untold un (λ s. Message.Leave s) (λ s. filter (λ x. same_pid x.pid p)
+        all_untold un (Message.Leave) (λ s. filter (λ x. same_pid x.pid p)
             (local_rows (past o es) s)) (running_scopes (past o es)),
       )
-  unsaid (Event.Join s g ps) (Accepted r) made un = grind arith
-  unsaid (Event.Leave s g ps) (Accepted r) made un = grind arith
-  unsaid (Event.Dial n c) (Accepted r) made un = grind arith
-  unsaid (Event.Frame k body) (Accepted r) made un = grind (arith, framed)
-  unsaid (Event.Frame k body) (Refused r) made un = grind arith
-  unsaid ev v made un = refl
+  unsaid (Frame k body) (Accepted r) made un = grind (arith, framed)
+  unsaid ev v made un = grind arith
 
 -- ---- along a history
 

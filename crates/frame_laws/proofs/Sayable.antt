@@ -31,10 +31,10 @@ module _ (v : ℕ) (s : List ℕ) (text : IsText s) (rows : List Row)
   sync_sayable = grind (arith, All-from_recursion)
 
   pub join_sayable : 0 < length rows → IsSayable v (Message.Join s rows)
-  join_sayable some = grind (arith, All-from_recursion)
+  join_sayable = grind (arith, All-from_recursion)
 
   pub leave_sayable : 0 < length rows → IsSayable v (Message.Leave s rows)
-  leave_sayable some = grind (arith, All-from_recursion)
+  leave_sayable = grind (arith, All-from_recursion)
 
 -- ---- frames that are read as these parts
 
@@ -119,17 +119,17 @@ reads v m it =
 -- a message without rows is one frame, of the same bytes in both versions
 pub asks_alike : (v : ℕ) (s : List ℕ)
     → said_frames v (Message.Discover s) ≡ wide (Message.Discover s) ∷ []
-asks_alike v s = grind arith
+asks_alike = grind arith
 
 pub downs_alike : (v : ℕ) (s : List ℕ)
     → said_frames v (Message.Down s) ≡ wide (Message.Down s) ∷ []
-downs_alike v s = grind arith
+downs_alike = grind arith
 
 pub asks_sayable : (v : ℕ) (s : List ℕ) → IsText s → IsSayable v (Message.Discover s)
-asks_sayable v s text = record { written = text; has = tt; few = omega arith }
+asks_sayable = grind arith
 
 pub downs_sayable : (v : ℕ) (s : List ℕ) → IsText s → IsSayable v (Message.Down s)
-downs_sayable v s text = record { written = text; has = tt; few = omega arith }
+downs_sayable = grind arith
 
 -- ---- rows of parts are rows of the message
 
@@ -153,4 +153,4 @@ module _ (test : Row → Bool) where
 
   pub pieces_meet : (v : ℕ) (m : Message) → list_all test (rows_said m) ≡ true
       → AllMeet (pieces v m)
-  pieces_meet v = grind (arith, from_meet)
+  pieces_meet = grind (arith, from_meet)

@@ -11,7 +11,7 @@ pub record IsFrameOf (owings : List Owing) (n k : ℕ) : Type 0 where
   pub source : owing.source ≡ k
 
 pub frame_at : (owings : List Owing) (n k : ℕ) → source_at n owings ≡ Some k → IsFrameOf owings n k
-frame_at owings n k q = grind arith
+frame_at = grind arith
 
 module _ (o : Opening) (l : ℕ) where
   abbrev IsAny : History → OutFrame → Type 0
@@ -23,7 +23,7 @@ module _ (o : Opening) (l : ℕ) where
 
   pub is_entry : (es : List Entry) → IsPlayedIn o es → (n : ℕ) (x : Owing)
       → slice_get (out_in o l es) n ≡ Some x → HoldsThen o l IsAny es x
-  is_entry es legal n x q = holds_then o l IsAny es legal (any es) n x q
+  is_entry es legal = holds_then o l IsAny es legal (any es)
 
   pub rises : (es : List Entry) → IsPlayedIn o es → (m n : ℕ) (x y : Owing) → m ≤ n
       → slice_get (out_in o l es) m ≡ Some x → slice_get (out_in o l es) n ≡ Some y
@@ -41,6 +41,6 @@ module _ (o : Opening) (l : ℕ) where
           grind (
             arith,
             owed_here e.number (owed (past o es) l e.number e.event e.verdict) j y b,
-            is_entry es legal.1 m x a,
+            is_entry,
           )
       by so_far (InSecond i is a) c = grind (arith, owed_here)

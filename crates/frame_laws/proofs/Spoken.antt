@@ -1,14 +1,14 @@
 -- Each frame that is owed is one of the handshake, or a message within the grammar, in its parts.
 use Rattle.frame_laws.proofs
-use proofs.Words.{Accepted, accepted, AllByRecursion, arith, Awaited, AwaitMessage, awaits, Bool}
-use proofs.Words.{cond, creation, Entry, eqb-true, Event, false, first_broken, flat_map}
+use proofs.Words.{Accepted, AllByRecursion, arith, Awaited, AwaitMessage, awaits, Bool, cond}
+use proofs.Words.{creation, Entry, eqb-true, Event, false, first_broken, flat_map, Frame}
 use proofs.Words.{frame_checks, frame_owes, frame_taken, frames_to, heard, History, if_told}
 use proofs.Words.{is_empty, is_local, is_of, is_open, is_whole, IsNode, IsText, IsWritten}
 use proofs.Words.{judgement, link_version, List, list_all, local_rows, Means, Message, Message2}
-use proofs.Words.{message_checks, message_owes, message_taken, narrow, None, open_first, Opening}
-use proofs.Words.{OutFrame, owed, own, own_name_frame, past, Pid, refl, Refused, Row}
-use proofs.Words.{running_scopes, said_frames, SaysOne, Some, Speaks, subst, sym, told, true}
-use proofs.Words.{Verdict, whole_is_message, wide, ℕ, [], ◌==◌, ◌∷◌, ◌≡◌}
+use proofs.Words.{message_checks, message_owes, message_taken, narrow, None, Opening, OutFrame}
+use proofs.Words.{owed, own, own_name_frame, past, Pid, refl, Refused, Row, running_scopes}
+use proofs.Words.{said_frames, SaysOne, Some, Speaks, subst, told, true, Verdict, whole_is_message}
+use proofs.Words.{wide, ℕ, [], ◌==◌, ◌∷◌, ◌≡◌}
 use proofs.OwnLimits.{scopes_text}
 use proofs.Handshakes.{all_closed, begins_message, first_byte, frame_all, HoldsOfHellos, IsClosed}
 use proofs.Handshakes.{no_message, of_hellos, refusal_all}
@@ -29,7 +29,7 @@ pub record IsSpoken (v : ℕ) (h : History) (f : OutFrame) : Type 0 where
 
 hello : (v : ℕ) (h : History) (body : List ℕ) → begins_message (first_byte body) ≡ false
     → IsSpoken v h (narrow body)
-hello v h body q = grind (arith, no_message)
+hello = grind (arith, no_message)
 
 means : (v : ℕ) (h : History) (f : OutFrame) (m : Message2) → f.wide ≡ true
     → message_taken v f.body ≡ Some m → is_of h.opening.name (creation h) m ≡ true → IsSpoken v h f
@@ -74,7 +74,7 @@ module _ (h : History) (node : IsNode h) where
     told_hold : (s : List ℕ) (say : List Row → Message) (rows : List Row)
         → (told h.opening l s h.entries ≡ true → is_empty rows ≡ false → IsSayable v (say rows))
         → AreOwn (say rows) → L (if_told h l s say rows)
-    told_hold s say rows is from = grind arith
+    told_hold = grind arith
 
     exits_hold : (p : Pid) (ss : List (List ℕ)) → AllByRecursion IsText ss
         → L (flat_map (λ s. if_told h l s (Message.Leave s) (exit_rows h node s p)) ss)
@@ -93,8 +93,7 @@ module _ (h : History) (node : IsNode h) where
     message_hold whole (Message2.Discover s) q =
         it.closed.both (frames_to h l (Message.Sync s (local_rows h s)))
         (cond (heard h.opening l s h.entries) [] (wide (Message.Discover s) ∷ []))
-        (subst (λ n. L (said_frames n (Message.Sync s (local_rows h s)))) (sym (agrees whole))
-        (it.said (Message.Sync s (local_rows h s))
+        (rw (agrees whole) (it.said (Message.Sync s (local_rows h s))
         (sync_is h node l v agrees whole s q) (sync_own h node s)))
         (by (heard h.opening l s h.entries))
       where
@@ -108,7 +107,7 @@ module _ (h : History) (node : IsNode h) where
         → frame_taken h.opening l h.entries body ≡ Some m
         → first_broken (frame_checks h l body a) ≡ None
         → first_broken (message_checks h l m) ≡ None
-    message_met body a awaited m says q = grind arith
+    message_met = grind arith
 
     -- each frame that an entry owes
     pub owed_hold : (number seat : ℕ) (ev : Event) (v : Verdict)
@@ -128,19 +127,18 @@ module _ (h : History) (node : IsNode h) where
         text.0)
         (leave_own h node s g ps)
     owed_hold number seat (Event.Dial n c) (Accepted r) name q text = grind arith
-    owed_hold number seat (Event.Frame k body) (Accepted r) name q text = by (k == l) refl
+    owed_hold number seat (Frame k body) (Accepted r) name q text = by (k == l) refl
       where
         by : (b : Bool) → (k == l) ≡ b → L (cond b (frame_owes h l body (awaits l h.entries)) [])
         by true is =
-            let found = subst (λ j. (is_open j h.entries ≡ true)
-            × (first_broken (frame_checks h j body (awaits j h.entries)) ≡ None)) (eqb-true k l is)
-            (open_first (is_open k h.entries) (frame_checks h k body
-            (awaits k h.entries)) (accepted h seat (Event.Frame k body) r q).0) in
+            let found : (is_open l h.entries ≡ true)
+            × (first_broken (frame_checks h l body (awaits l h.entries)) ≡ None) =
+            grind (arith, eqb-true k l is) in
             frame_all h node l L it.closed it.hellos it.asks body (awaits l h.entries)
             (λ a m says. message_hold ((whole_is_message l h.entries found.0).1 a) m
             (message_met body (awaits l h.entries) a m says found.1))
         by false is = it.closed.nothing
-    owed_hold number seat (Event.Frame k body) (Refused r) name q text =
+    owed_hold number seat (Frame k body) (Refused r) name q text =
         grind (arith, refusal_all h node l L it.closed it.hellos it.asks r)
     owed_hold number seat ev v name q text = it.closed.nothing
 
@@ -166,7 +164,7 @@ speaks_now o l v (e ∷ es) speaks whole = speaks.0 whole
 -- a node as it was
 pub node_before : (o : Opening) (e : Entry) (es : List Entry) → IsNode (past o (e ∷ es))
     → IsNode (past o es)
-node_before o e es node = grind arith
+node_before = grind arith
 
 -- what holds so holds of all that an entry owes
 module _ (o : Opening) (e : Entry) (es : List Entry) (node : IsNode (past o (e ∷ es))) (l v : ℕ)

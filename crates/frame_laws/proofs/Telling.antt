@@ -2,8 +2,8 @@
 use Rattle.frame_laws.proofs
 use proofs.Words.{ap, AreThere, arith, Bool, Entry, false, how_many_append, IsFew, length}
 use proofs.Words.{length-append, limit, List, Message, message_of, Opening, Option, OutFrame, owed}
-use proofs.Words.{own, PartKind, past, Pid, Row, row, rows_of, said_frames, same_decides, same_row}
-use proofs.Words.{seen, Some, told, true, ℕ, [], ◌++◌, ◌+◌, ◌-◌, ◌∙◌, ◌∷◌, ◌≡◌, ◌≤◌}
+use proofs.Words.{own, PartKind, past, Pid, Row, rows_of, said_frames, same_decides, seen, Some}
+use proofs.Words.{told, true, ℕ, [], ◌++◌, ◌+◌, ◌-◌, ◌∙◌, ◌∷◌, ◌≡◌, ◌≤◌}
 use proofs.Calm.{AllCalm, HasNoRows}
 use proofs.Sayable.{IsSayable}
 
@@ -42,26 +42,26 @@ pub data Tells (v : ℕ) (s : List ℕ) (told_before told_now : Bool) (was now :
 
 pub rows_both : (g : List ℕ) (p : Pid) (xs ys : List Row)
     → rows_of g p (xs ++ ys) ≡ rows_of g p xs + rows_of g p ys
-rows_both g p xs ys = how_many_append (λ x. same_row x (row g p)) xs ys
+rows_both = grind (arith, how_many_append)
 
 module _ (g : List ℕ) (p : Pid) (first rest rows : List Row) (is : first ++ rest ≡ rows) where
   pub fewer_of : rows_of g p first ≤ rows_of g p rows
   fewer_of = grind (arith, rows_both)
 
 shorter : (first rest rows : List Row) → first ++ rest ≡ rows → length first ≤ length rows
-shorter first rest rows is = grind (arith, length-append)
+shorter = grind (arith, length-append)
 
 synced : (s g : List ℕ) (p : Pid) (rows : List Row) (x : Option ℕ)
     → seen s g p (Message.Sync s rows) x ≡ Some (rows_of g p rows)
-synced s g p rows x = grind (arith, same_decides s s)
+synced = grind (arith, same_decides)
 
 added : (s g : List ℕ) (p : Pid) (rows : List Row) (n : ℕ)
     → seen s g p (Message.Join s rows) (Some n) ≡ Some (n + rows_of g p rows)
-added s g p rows n = grind (arith, same_decides s s)
+added = grind (arith, same_decides)
 
 taken_off : (s g : List ℕ) (p : Pid) (rows : List Row) (n : ℕ)
     → seen s g p (Message.Leave s rows) (Some n) ≡ Some (n - rows_of g p rows)
-taken_off s g p rows n = grind (arith, same_decides s s)
+taken_off s = grind (arith, same_decides s s)
 
 module _ {v : ℕ} {s : List ℕ} {told_before : Bool} {was now : List ℕ → Pid → ℕ}
     {rows : List Row} where
@@ -69,7 +69,7 @@ module _ {v : ℕ} {s : List ℕ} {told_before : Bool} {was now : List ℕ → P
       → IsTold v s told_before was now PartKind.Sync rows
   told_sync few all = record {
     says = λ x before g p. grind (arith, synced);
-    few = λ x before first rest is. grind (arith, synced s, shorter first rest rows is);
+    few = λ x before first rest is. grind (arith, synced, shorter first rest rows is);
     there = λ x before is. cc;
   }
 

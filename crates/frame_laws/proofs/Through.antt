@@ -1,13 +1,13 @@
 -- Where each entry tells what it does, the frames pass through the sender's rows.
 use Rattle.frame_laws.proofs
-use proofs.Words.{ap, AreThere, arith, Begun, begun_by, begun_of, bodies_of, Bool, completed_by}
-use proofs.Words.{Entry, frames_said, has_rows, IsFew, IsNode, IsPlayedIn, IsStep, length, lie}
-use proofs.Words.{List, map, Message, Message2, message_of, message_taken, moment, None, Opening}
-use proofs.Words.{Option, out_in, OutFrame, owed, owes, Owing, owing, own, PartKind, parts_from}
-use proofs.Words.{PassesThrough, past, Pid, refl, Row, rows_so_far, said_frames, same_decides, seen}
-use proofs.Words.{slice_get, slice_get_within, so_far_behind, Some, Speaks, subst, suc, sym, take}
-use proofs.Words.{take-append-add, take-append-le, take-length, told, true, view_of, zero, ℕ, []}
-use proofs.Words.{◌++◌, ◌+◌, ◌<◌, ◌∙◌, ◌∷◌, ◌≡◌}
+use proofs.Words.{ap, AreThere, arith, Begun, begun_by, begun_of, bodies_of, Bool, Entry, has_rows}
+use proofs.Words.{IsFew, IsNode, IsPlayedIn, IsStep, length, lie, List, map, Message, Message2}
+use proofs.Words.{message_of, message_taken, moment, None, Opening, Option, out_in, OutFrame, owed}
+use proofs.Words.{owes, Owing, owing, own, Part, PartKind, parts_from, PassesThrough, past, Pid}
+use proofs.Words.{refl, Row, rows_so_far, said_frames, same_decides, seen, slice_get}
+use proofs.Words.{slice_get_within, so_far_behind, Some, Speaks, subst, suc, sym, take}
+use proofs.Words.{take-append-add, take-append-le, take-length, take-map, told, true, view_of, ℕ}
+use proofs.Words.{[], ◌++◌, ◌+◌, ◌<◌, ◌∙◌, ◌∷◌, ◌≡◌}
 use proofs.Calm.{AllCalm, FewBehind, frames_apart, frames_seen, is_part, message_ends, message_seen}
 use proofs.Calm.{no_rows_at, rows_part, seen_apart, seen_frames, ThereBehind}
 use proofs.Orderly.{out_orderly, said_more}
@@ -19,41 +19,24 @@ use proofs.Spoken.{node_before}
 use proofs.Telling.{AllTell, Ended, EntryTells, fewer_of, IsTold, Silent, Spoke, WasSeen}
 use proofs.Sayable.{IsReadAt, IsSayable, reads, reads_at, reads_length, said, said_take}
 
-take_owing : (n m : ℕ) (fs : List OutFrame) → take m (map (owing n) fs) ≡ map (owing n) (take m fs)
-take_owing n zero fs = refl
-take_owing n (suc m) [] = refl
-take_owing n (suc m) (f ∷ fs) = grind (arith, take_owing n m fs)
-
 -- frames that one entry owes, behind whole messages
 module _ (v : ℕ) (xs : List Owing) (ends : begun_of v (bodies_of xs) ≡ None) (n : ℕ)
     (fs : List OutFrame) where
   view_after : (s g : List ℕ) (p : Pid) → view_of v s g p (bodies_of (xs ++ map (owing n) fs))
       ≡ seen_frames v s g p fs (view_of v s g p (bodies_of xs))
-  view_after s g p =
-      grind (
-        arith,
-        said_more v xs n fs,
-        completed_apart None (frames_said v (bodies_of xs)) (said v fs),
-        seen_apart s g p (completed_by None (frames_said v (bodies_of xs)))
-            (completed_by None (said v fs)) None,
-      )
+  view_after = grind (arith, said_more, completed_apart, seen_apart)
 
   begun_after_them : begun_of v (bodies_of (xs ++ map (owing n) fs)) ≡ begun_by None (said v fs)
-  begun_after_them =
-      grind (
-        arith,
-        said_more v xs n fs,
-        begun_apart None (frames_said v (bodies_of xs)) (said v fs),
-      )
+  begun_after_them = grind (arith, said_more, begun_apart)
 
 -- what holds at a part, with the rows so far, where this was kept and the view was x
 abbrev FewAt : ℕ → List ℕ → (List ℕ → Pid → Option ℕ) → Option Begun → Message2 → Type 0
-FewAt v s x b (Message2.Part kind t number last rows) =
+FewAt v s x b (Part kind t number last rows) =
     IsFew v s x kind (rows_so_far b kind s number rows)
 FewAt v s x b m = Unit {0}
 
 abbrev ThereAt : List ℕ → (List ℕ → Pid → Option ℕ) → Option Begun → Message2 → Type 0
-ThereAt s x b (Message2.Part PartKind.Leave t number last rows) =
+ThereAt s x b (Part PartKind.Leave t number last rows) =
     AreThere x (rows_so_far b PartKind.Leave s number rows)
 ThereAt s x b m = Unit {0}
 
@@ -79,7 +62,7 @@ module _ {v : ℕ} {s : List ℕ} {front back fs : List OutFrame} (kind : PartKi
   in_all g p x =
       grind (
         arith,
-        frames_seen v s g p front (block ++ back) x early.ends,
+        frames_seen,
         frames_seen v s g p block back x (message_ends v whole_said can),
         message_seen v whole_said can s g p x,
       )
@@ -92,7 +75,7 @@ module _ {v : ℕ} {s : List ℕ} {front back fs : List OutFrame} (kind : PartKi
 
   within : (m : ℕ) (f : OutFrame) → slice_get fs m ≡ Some f
       → is_part s (message_taken v f.body) ≡ true → IsWithin m f
-  within m f q its = grind (arith, part, no_rows_at)
+  within = grind (arith, part, no_rows_at)
 
   module _ {m : ℕ} {f : OutFrame} (it : IsWithin m f) where
     abbrev k : ℕ
@@ -105,40 +88,20 @@ module _ {v : ℕ} {s : List ℕ} {front back fs : List OutFrame} (kind : PartKi
     piece = grind (arith, piece_at)
 
     taken_so : take m fs ≡ front ++ take k block
-    taken_so =
-        grind (
-          arith,
-          slice_get_within block k f it.stands,
-          take-append-add front (block ++ back) k,
-          take-append-le,
-        )
+    taken_so = grind (arith, slice_get_within, take-append-add, take-append-le)
 
     said_so : said v (take k block) ≡ take k cut
     said_so = grind (arith, said_take, reads, cut_is)
 
     begun_so : begun_by None (said v (take m fs)) ≡ begun_by None (take k cut)
-    begun_so =
-        grind (
-          arith,
-          taken_so,
-          frames_apart v front (take k block),
-          begun_apart None (said v front) (said v (take k block)),
-          said_so,
-        )
+    begun_so = grind (arith, taken_so, frames_apart, begun_apart, said_so)
 
     view_so : (g : List ℕ) (p : Pid) (x : Option ℕ) → seen_frames v s g p (take m fs) x ≡ x
-    view_so g p x =
-        grind (
-          arith,
-          taken_so,
-          frames_seen v s g p front (take k block) x early.ends,
-          said_so,
-          piece.none,
-        )
+    view_so = grind (arith, taken_so, frames_seen, said_so, piece.none)
 
     -- the part that is read there
     says : message_taken v f.body
-        ≡ Some (Message2.Part kind s piece.number piece.last piece.some)
+        ≡ Some (Part kind s piece.number piece.last piece.some)
     says = read.says ∙ ap Some piece.is
 
     -- behind its last part the message is said
@@ -151,7 +114,7 @@ module _ {v : ℕ} {s : List ℕ} {front back fs : List OutFrame} (kind : PartKi
           take-append-add front (block ++ back) (length block),
           take-append-le (length block) block back,
           take-length block,
-          frames_seen v s g p front block x early.ends,
+          frames_seen,
           message_seen v whole_said can s g p x,
         )
       where
@@ -169,12 +132,12 @@ module _ {v : ℕ} {s : List ℕ} {front back fs : List OutFrame} (kind : PartKi
         (told_so : IsTold v s told_before was now kind rows) (x : List ℕ → Pid → Option ℕ)
         (before : WasSeen told_before was x) where
       few_at : FewAt v s x (begun_by None (take k cut))
-          (Message2.Part kind s piece.number piece.last piece.some)
-      few_at = subst (IsFew v s x kind) (sym piece.so_far)
+          (Part kind s piece.number piece.last piece.some)
+      few_at = rw piece.so_far
           (told_so.few x before piece.first piece.rest piece.whole_is)
 
       there_at : (j : PartKind) → kind ≡ j → ThereAt s x (begun_by None (take k cut))
-          (Message2.Part j s piece.number piece.last piece.some)
+          (Part j s piece.number piece.last piece.some)
       there_at PartKind.Leave leaves =
           subst (AreThere x)
           (sym (ap (λ j. rows_so_far (begun_by None (take k cut)) j s piece.number piece.some)
@@ -195,7 +158,7 @@ module _ (v : ℕ) (o : Opening) (l : ℕ) (s : List ℕ) where
     view g p = view_of v s g p (bodies_of (out_in o l es))
 
     seen_before : WasSeen (told o l s es) (own (past o es) s) view
-    seen_before tells g p = before.now tells g p
+    seen_before = before.now
 
     now_seen : EntryTells v o l s e es → told o l s (e ∷ es) ≡ true → (g : List ℕ) (p : Pid)
         → seen_frames v s g p fs (view g p) ≡ Some (own (past o (e ∷ es)) s g p)
@@ -253,36 +216,21 @@ module _ (v : ℕ) (o : Opening) (l : ℕ) (s : List ℕ) where
       -- a place in what was owed before, or one in what is owed now
       earlier_take : (n : ℕ) (x : Owing) → n < length (out_in o l es)
           → take n (out_in o l (e ∷ es)) ≡ take n (out_in o l es)
-      earlier_take n x less = grind (arith, take-append-le)
+      earlier_take = grind (arith, take-append-le)
 
       now_take : (n m : ℕ) → n ≡ length (out_in o l es) + m
           → take n (out_in o l (e ∷ es)) ≡ out_in o l es ++ map (owing e.number) (take m fs)
-      now_take n m at =
-          grind (
-            arith,
-            take-append-add (out_in o l es) (owes (past o es) l e) m,
-            take_owing e.number m fs,
-          )
+      now_take = grind (arith, take-append-add, take-map)
 
       -- behind that, while nothing completes
       now_view : (n m : ℕ) → n ≡ length (out_in o l es) + m → (f : Message2) → PartSeen m f
           → (g : List ℕ) (p : Pid)
           → view_of v s g p (bodies_of (take n (out_in o l (e ∷ es)))) ≡ view g p
-      now_view n m at f it g p =
-          grind (
-            arith,
-            now_take n m at,
-            view_after v (out_in o l es) ends e.number (take m fs) s g p,
-          )
+      now_view = grind (arith, now_take, view_after)
 
       now_begun : (n m : ℕ) → n ≡ length (out_in o l es) + m → (f : Message2) → (it : PartSeen m f)
           → begun_of v (bodies_of (take n (out_in o l (e ∷ es)))) ≡ it.kept
-      now_begun n m at f it =
-          grind (
-            arith,
-            now_take n m at,
-            begun_after_them v (out_in o l es) ends e.number (take m fs),
-          )
+      now_begun n m at = grind (arith, now_take n m at, begun_after_them)
 
       abbrev behind : ℕ → List (List ℕ)
       behind n = bodies_of (take n (out_in o l (e ∷ es)))
@@ -292,17 +240,15 @@ module _ (v : ℕ) (o : Opening) (l : ℕ) (s : List ℕ) where
 
       few : (n : ℕ) (x : Owing) → Here n x
           → (kind : PartKind) (number : ℕ) (last : Bool) (rows : List Row)
-          → message_taken v x.frame.body ≡ Some (Message2.Part kind s number last rows)
+          → message_taken v x.frame.body ≡ Some (Part kind s number last rows)
           → FewBehind v s kind number rows (behind n)
       few n x (InFirst r less) kind number last rows says =
-          subst (λ ys. FewBehind v s kind number rows (bodies_of ys)) (sym (earlier_take n x less))
-          (before.few n x r kind number last rows says)
+          rw (earlier_take n x less) (before.few n x r kind number last rows says)
       few n x (InSecond m at r) kind number last rows says =
           let here = owed_here e.number fs m x r in
-          let f = Message2.Part kind s number last rows in
+          let f = Part kind s number last rows in
           let it = part_seen tells m x.frame here.frame f says ((same_decides s s).1 refl) in
-          let all = subst (λ b. IsFew v s view kind (rows_so_far b kind s number rows))
-          (sym (now_begun n m at f it)) (PartSeen.few it) in (
+          let all = rw (← now_begun n m at f it) at (PartSeen.few it) in (
             all.0,
             (λ g p. (let one = all.1 g p in (
               one.0,
@@ -314,17 +260,15 @@ module _ (v : ℕ) (o : Opening) (l : ℕ) (s : List ℕ) where
           )
 
       there : (n : ℕ) (x : Owing) → Here n x → (number : ℕ) (last : Bool) (rows : List Row)
-          → message_taken v x.frame.body ≡ Some (Message2.Part PartKind.Leave s number last rows)
+          → message_taken v x.frame.body ≡ Some (Part PartKind.Leave s number last rows)
           → ThereBehind v s number rows (behind n)
       there n x (InFirst r less) number last rows says g p =
-          subst (λ ys. ThereBehind v s number rows (bodies_of ys))
-          (sym (earlier_take n x less)) (before.there n x r number last rows says) g p
+          rw (earlier_take n x less) (before.there n x r number last rows says g p)
       there n x (InSecond m at r) number last rows says g p =
           let here = owed_here e.number fs m x r in
-          let f = Message2.Part PartKind.Leave s number last rows in
+          let f = Part PartKind.Leave s number last rows in
           let it = part_seen tells m x.frame here.frame f says ((same_decides s s).1 refl) in
-          let one = subst (λ b. AreThere view (rows_so_far b PartKind.Leave s number rows))
-          (sym (now_begun n m at f it)) (PartSeen.there it) g p in
+          let one = rw (← now_begun n m at f it) at (PartSeen.there it g p) in
           (one.0, now_view n m at f it g p ∙ one.1, one.2)
 
       moments : (n : ℕ) (x : Owing) → Here n x
@@ -334,7 +278,7 @@ module _ (v : ℕ) (o : Opening) (l : ℕ) (s : List ℕ) where
       moments n x (InFirst r less) has g p =
           grind (
             arith,
-            take-append-le (n + 1) (out_in o l es) (owes (past o es) l e) (omega arith),
+            take-append-le,
             earlier_moment o e es x.source (is_entry o l es legal n x r).within,
           )
       moments n x (InSecond m at r) has g p =
@@ -342,7 +286,7 @@ module _ (v : ℕ) (o : Opening) (l : ℕ) (s : List ℕ) where
             arith,
             owed_here e.number fs m x r,
             now_take (n + 1) (suc m) (omega arith),
-            view_after v (out_in o l es) ends e.number (take (suc m) fs) s g p,
+            view_after,
             then_seen tells m x.frame,
             this_moment o e es x.source,
           )

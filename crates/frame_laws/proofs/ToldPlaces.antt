@@ -33,10 +33,4 @@ told_fall o l s (e ∷ es) = by (heard o l s (e ∷ es)) (tells_rows o l s es e.
           lower (length (delivered l es)) (length (delivered l (e ∷ es))) (omega (arith, grown))
               (told_rows o l s es) before.below,
         )
-    by true true q before =
-        grind (
-          arith,
-          grown,
-          lower (length (delivered l es)) (length (delivered l (e ∷ es))) (omega (arith, grown))
-              (told_rows o l s es) before.below,
-        )
+    by true true q before = grind (arith, grown, lower)

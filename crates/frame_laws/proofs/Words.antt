@@ -39,6 +39,7 @@ pub use Rattle.dist_types.proofs.Totals.{how_many_append}
 pub use link.Spelling.{IsRow, message_bytes}
 pub use link.declared.message.Message.{Message}
 pub use link.declared.part.Message2.{Message2}
+pub use link.declared.part.Message2.TheVariants.{Part}
 pub use link.declared.part.PartKind.{PartKind}
 pub use link.Parts.{AreInOrder, AreWritten, before_last, Begun, begun_after, begun_by, comes_next}
 pub use link.Parts.{completed, completed_by, HasParts, is_next, IsMessage2, KeepsOrNot, kind_byte}
@@ -52,6 +53,7 @@ pub use links.Words.{rules}
 pub use audit.OutFrame.{OutFrame}
 pub use audit.declared.opening.Opening.{Opening}
 pub use audit.declared.event.Event.{Event}
+pub use audit.declared.event.Event.TheVariants.{Frame}
 pub use audit.declared.reply.Reply.{Reply}
 pub use audit.declared.rule.Rule.{Rule}
 pub use audit.declared.entry.Verdict.{Verdict}
@@ -68,15 +70,14 @@ pub use link.Reading.{message as read_message}
 pub use audit.Hearing.{begun, frame_taken, heard, hears, kept_after, link_version, message_taken}
 pub use audit.Hearing.{rows_of, Said, said_at, stated, stated_in, Talk, talk, talk_of, tells, told}
 pub use audit.Contents.{groups, groups_named, local_rows, members, pids_named, row}
-pub use audit.Checks.{always, first_broken, frame_checks, join_checks, message_checks, own_limit}
-pub use audit.Checks.{peer_limit, peer_rows, so_far}
+pub use audit.Checks.{always, first_broken, frame_checks, message_checks, own_limit, peer_limit}
+pub use audit.Checks.{peer_rows, so_far}
 pub use audit.Owed.{digest_for, discovers, drops, frame_owes, frames_to, if_told, if_visible}
 pub use audit.Owed.{message_owes, narrow, owed, own_challenge, own_challenge_frame, own_name_frame}
-pub use audit.Owed.{refusal_owes, said_frames, status_frame, true_to, waiting, waiting_in, welcome}
-pub use audit.Owed.{wide}
-pub use audit.Policy.{is_full, IsNumbered, IsPlayed, IsPlayedIn, IsStep, judgement, verdict}
-pub use audits.Accepted.{accepted, all_hold, lie, open_first, unbroken}
-pub use audits.Walked.{but, Far, far, frame_fits, fresh, open_opened, unborn}
+pub use audit.Owed.{refusal_owes, said_frames, status_frame, true_to, waiting_in, welcome, wide}
+pub use audit.Policy.{is_full, IsPlayed, IsPlayedIn, IsStep, judgement, verdict}
+pub use audits.Accepted.{all_hold, lie, unbroken}
+pub use audits.Walked.{but, Far, far, fresh, open_opened, unborn}
 pub use audit.Effects.{is_about_rows}
 pub use Rattle.dist_types.specs.Flags.{has_bit, own_flags}
 pub use Rattle.handshake_frames.proofs.ReadingLemmas.{challenge_frame-spelled, name_frame-spelled}

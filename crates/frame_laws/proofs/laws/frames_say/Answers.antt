@@ -9,5 +9,5 @@ returns-clause-one c = λ h node l v speaks n x q. (holds_then h.opening l (IsSa
     node.legal (all_said h.opening h.entries node l v speaks) n x q).holds
 
 pub returns-clause-own : goal.returns-clause-own
-returns-clause-own c = λ h node l v speaks n x m q says. rows_own h.opening h.entries node l v
-    speaks n x q m says
+returns-clause-own c =
+    λ h node l v speaks n x m q. rows_own h.opening h.entries node l v speaks n x q m

@@ -5,9 +5,8 @@ use Rattle.frame_laws.proofs.laws.given_came.Goals as goal
 
 pub returns : goal.returns
 returns c = record {
-  opened = λ h legal l d before opens none whole. named_first h.opening l h.entries legal d before
-      none opens whole;
-  dialled = λ h legal l n d before opens whole. asked_once h.opening l h.entries legal n d before
-      opens whole;
-  once = λ l es x opens. opening_is es l x opens;
+  opened =
+      λ h legal l d before opens none. named_first h.opening l h.entries legal d before none opens;
+  dialled = λ h legal l. asked_once h.opening l h.entries legal;
+  once = λ l es. opening_is es l;
 }

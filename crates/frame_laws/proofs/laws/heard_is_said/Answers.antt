@@ -2,5 +2,4 @@ use Rattle.frame_laws.proofs.Hearing.{heard_said}
 use Rattle.frame_laws.proofs.laws.heard_is_said.Goals as goal
 
 pub returns : goal.returns
-returns c = λ h legal l v speaks s name made honest gives hears. heard_said v h.opening h.entries
-    legal l speaks s name made honest gives hears
+returns c = λ h legal l v. heard_said v h.opening h.entries legal l

@@ -5,9 +5,8 @@ pub returns : goal.returns
 returns c = record {
   moment = λ sender receiver node legal a b v there here s later carried gives hears. heard_moment
       v sender node a receiver legal b s there here hears gives later carried;
-  now = λ sender receiver node legal a b v there here s all gives hears tells g p. hears_now v
-      sender node a receiver legal b s there here hears gives all tells g p;
-  listed_now =
-      λ sender receiver node legal a b v there here s all gives hears tells g p its. listed_now v
-      sender node a receiver legal b s there here hears gives all tells g p its;
+  now = λ sender receiver node legal a b v there here s all gives hears.
+      hears_now v sender node a receiver legal b s there here hears gives all;
+  listed_now = λ sender receiver node legal a b v there here s all gives hears.
+      listed_now v sender node a receiver legal b s there here hears gives all;
 }
