@@ -2,7 +2,8 @@
 use Rattle.std.specs.Prelude.{◌≡◌, ◌==◌, ◌||◌, ◌++◌, ℕ, Bool, true, false, List, All}
 use Rattle.dist_types.specs.Fault.{IsTextFault}
 use Rattle.named_files.specs.declared.secrets.SecretFault.{SecretFault}
-use Rattle.named_files.specs.declared.secrets.SecretFault.TheVariants.{Unread, Open, Lines, NoCookie}
+use Rattle.named_files.specs.declared.secrets.SecretFault.TheVariants.{Unread, Open, Lines}
+use Rattle.named_files.specs.declared.secrets.SecretFault.TheVariants.{NoCookie}
 
 -- whether the byte is a line feed, or a carriage return
 abbrev pub ends_line : ℕ → Bool
