@@ -211,7 +211,7 @@ impl IndexedRows {
         }
     }
 
-    /// Whether this process is in a group, and no other of its node is.
+    /// Whether this process is in many groups, and no other of its node in any.
     pub fn are_all_of(&self, pid: &Pid) -> bool
         ensures { IsTrue result → (g : List ℕ) (p : Pid) → same p.node pid.now.node ≡ true
             → same_pid p pid.now ≡ false → tally (is_row g p) self.now ≡ 0 }

@@ -24,6 +24,9 @@ use crate::small_map::SmallMap;
 use dist_types::{Group, GroupChange, OutOfMemory, Pid, Row};
 use std::collections::BTreeMap;
 
+/// So many groups that to let all maps go costs less than to search for each.
+const MANY: usize = 16;
+
 impl HashedRows {
     /// Whether a process of the node is in the group.
     pub fn has_group(&self, group: &Group) -> bool
@@ -82,13 +85,16 @@ impl HashedRows {
         Ok(rows)
     }
 
-    /// Whether this process is in a group, and no other of the node is.
+    /// Whether this process is in many groups, and no other of the node in any.
     pub fn are_all_of(&self, pid: &Pid) -> bool
         requires { pid.now.node ≡ self.now.node }
         ensures { IsTrue result → (g : List ℕ) (p : Pid)
             → same_pid p pid.now ≡ false → tally (is_row g p) self.now.rows ≡ 0 }
     {
-        self.processes.len() == 1 && self.processes.contains_key(&ProcessKey::of(pid))
+        match self.processes.get(&ProcessKey::of(pid)) {
+            Some(groups) => groups.len() >= MANY && self.processes.len() == 1,
+            None => false,
+        }
     }
 
     /// The changes where a process leaves all groups.

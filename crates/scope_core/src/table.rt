@@ -234,7 +234,7 @@ impl ScopeTable {
         if !self.leave_one(pid) {
             return;
         }
-        // Where its node has no other process, the rest goes at once.
+        // Where its node has no other process, many rows go at once.
         if self.rows.are_all_of(pid) {
             return self.drop_peer(&pid.node);
         }
