@@ -24,7 +24,7 @@ use crate::small_map::SmallMap;
 use dist_types::{Group, GroupChange, OutOfMemory, Pid, Row};
 use std::collections::BTreeMap;
 
-/// So many groups that to let all maps go costs less than to search for each.
+/// So many groups that to let all maps go costs no more than to search for each.
 const MANY: usize = 16;
 
 impl HashedRows {

@@ -244,8 +244,10 @@ impl ScopeTable {
     /// The process leaves one of its groups, if it is in any. Answers whether it is in others.
     fn leave_one(&mut self, pid: &Pid) -> bool
         ensures own { self.new.own ≡ self.old.own }
-        ensures others { (g : List ℕ) (p : Pid) → same_pid p pid.now ≡ false → count_of self.new g p ≡ count_of self.old g p }
-        ensures none { result ≡ false → (g : List ℕ) (p : Pid) → same_pid p pid.now ≡ true → count_of self.new g p ≡ 0 }
+        ensures others { (g : List ℕ) (p : Pid) → same_pid p pid.now ≡ false
+            → count_of self.new g p ≡ count_of self.old g p }
+        ensures none { result ≡ false → (g : List ℕ) (p : Pid) → same_pid p pid.now ≡ true
+            → count_of self.new g p ≡ 0 }
         ensures fewer { IsTrue result → length self.new.rows < length self.old.rows }
     {
         let Some(gone) = self.rows.pop_of(pid) else {
