@@ -21,7 +21,8 @@ same_pid p q = same p.node q.node && (p.creation == q.creation && p.number == q.
 abbrev pub same_row : Row → Row → Bool
 same_row r s = same r.group s.group && same_pid r.pid s.pid
 
--- the most rows that the processes of one node may have in a scope, and that a message may bring, repeats included
+-- the most rows that a message may bring, or a part of one, repeats included; and that a node has
+-- in a scope whose rows go over links of version 1
 abbrev pub max_rows : ℕ
 max_rows = 4096
 

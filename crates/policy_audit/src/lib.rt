@@ -23,8 +23,9 @@ pub use entry::{Entry, Verdict};
 pub use event::{Event, NodeNames};
 pub use later::Later;
 pub use laws::{
-    admitted, equal_values, few_own, goes_on, left_alone, lists_ascend, one_link_up, own_counts,
-    refusal_leaves, rows_after, rows_after_messages, slow_links_end, up_by_events,
+    admitted, equal_values, few_own, goes_on, kept_parts, left_alone, lists_ascend, one_link_up,
+    own_counts, parts_are_said, refusal_leaves, rows_after, rows_after_messages, slow_links_end,
+    up_by_events,
 };
 pub use opening::Opening;
 pub use out_frame::{OutFrame, OutFrames};

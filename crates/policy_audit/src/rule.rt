@@ -42,7 +42,7 @@ pub enum Rule {
     ForeignPid,
     /// Some process is named more often in a group than it is listed.
     NotListed,
-    /// A node would have more than 4,096 rows in the scope.
+    /// A node would have more rows in the scope than it may: 4,096, or 65,536 where they go in parts.
     RowsFull,
     /// Some process is of another node or creation.
     NotLocal,
