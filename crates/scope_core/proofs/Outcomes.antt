@@ -53,3 +53,7 @@ pub if_both : {T E : Type 0} {P Q R : T → Type 0} (r : Result T E) → ((x : T
     → IfOk r P → IfOk r Q → IfOk r R
 if_both (Ok x) f p q = f x p q
 if_both (Err e) f p q = tt
+
+pub none_weaker : {A P Q : Type 0} (o : Option A) → (P → Q) → IfNone o P → IfNone o Q
+none_weaker None f p = f p
+none_weaker (Some x) f p = p

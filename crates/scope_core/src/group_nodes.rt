@@ -1,6 +1,7 @@
 //! The nodes whose processes are in each group.
 ghost use Rattle.std.specs.Prelude.{◌≡◌, ◌≤◌, ◌<◌, ◌&&◌, ℕ, List, [], cond, IsTrue, IfSome, IfOk, IfErr, OnOk, OnErr, ◌∷◌, length};
 ghost use Rattle.std.specs.List.{IsDistinct, HoldsAt};
+ghost use Rattle.std.specs.Option.{IfNone};
 ghost use Rattle.std.specs.Map.{keys_of};
 ghost use Rattle.dist_types.specs.Order.{text_cmp};
 ghost use Rattle.dist_types.specs.Listing.{same, how_many, is_among, Rises};
@@ -54,7 +55,8 @@ impl GroupNodes {
 
     /// The group's name as it is kept here, so that whoever has an equal one can share it.
     pub fn stored(&self, group: &Group) -> Option<&Group>
-        ensures { IfSome result (λ stored. stored.now ≡ group.now) }
+        ensures equal { IfSome result (λ stored. stored.now ≡ group.now) }
+        ensures none { IfNone result ((n : List ℕ) → times_named self.now group.now n ≡ 0) }
     {
         let (stored, _) = self.nodes.get_key_value(group)?;
         Some(stored)

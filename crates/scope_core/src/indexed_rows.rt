@@ -52,9 +52,10 @@ impl IndexedRows {
         }
     }
 
-    /// The group's name as it is kept here.
+    /// The group's name as it is kept here, where the group has a process.
     pub fn stored(&self, group: &Group) -> Option<&Group>
-        ensures { IfSome result (λ stored. stored.now ≡ group.now) }
+        ensures equal { IfSome result (λ stored. stored.now ≡ group.now) }
+        ensures none { IfNone result ((p : Pid) → tally (is_row group.now p) self.now ≡ 0) }
     {
         self.index.stored(group)
     }

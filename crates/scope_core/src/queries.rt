@@ -1,5 +1,7 @@
 //! What is asked of the table of one scope. No answer changes it.
-ghost use Rattle.std.specs.Prelude.{◌≡◌, ◌≤◌, min, IfSome, IfOk, length, All};
+ghost use Rattle.std.specs.Prelude.{◌≡◌, ◌≤◌, ℕ, List, min, IfSome, IfOk, length, All};
+ghost use Rattle.std.specs.Option.{IfNone};
+ghost use Rattle.dist_types.specs.declared.pid.Pid.{Pid};
 ghost use Rattle.dist_types.specs.Listing.{mentions, IsPidListing, IsRowListing, IsGroupListing};
 ghost use Rattle.scope_core.specs.Table.{count_of, local_count, local_total, node_total, max_rows};
 ghost use Rattle.scope_core.specs.Calls.{are_counted};
@@ -41,9 +43,11 @@ impl ScopeTable {
         Ok(pids)
     }
 
-    /// A group's name as the table keeps it, so that whoever has an equal one can share it.
+    /// A group's name as the table keeps it, where the group has a process, so that whoever has an
+    /// equal one can share it.
     pub fn stored_group(&self, group: &Group) -> Option<&Group>
-        ensures { IfSome result (λ stored. stored.now ≡ group.now) }
+        ensures equal { IfSome result (λ stored. stored.now ≡ group.now) }
+        ensures none { IfNone result ((p : Pid) → count_of self.now group.now p ≡ 0) }
     {
         self.rows.stored(group)
     }
