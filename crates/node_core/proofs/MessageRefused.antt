@@ -15,11 +15,10 @@ use proofs.Words.{◌&&◌, ◌==◌, ◌∙◌, ◌∷◌, ◌≡◌}
 use Rattle.std.proofs.lemmas.List.Folds.{list_all-append, list_all_at}
 use Rattle.scope_core.proofs.Members.{length-members}
 use Rattle.policy_audit.specs.Sides.{is_visible}
-use Rattle.policy_audit.specs.Checks.{are_from, hears_in, is_in_order}
 use Rattle.policy_audit.proofs.Begun.{are_peers, kept_peers}
 use Rattle.policy_audit.specs.Hearing.{rows_kept}
 use Rattle.policy_audit.proofs.Onward.{whole_is_message}
-use Rattle.node_core.specs.Messages.{refusal, row_refusal}
+use Rattle.node_core.specs.Messages.{refusal}
 use proofs.Found.{some_is}
 use proofs.Scopes.{counts_listed, groups_listing, members_listing}
 use proofs.MessagePlaces.{IsUpHere}
@@ -117,31 +116,17 @@ module _ {h : History} {l : ℕ} {x : KeptLink} (here : IsUpHere h l x) where
       ap row_limit here.is
       ∙ ap (λ v. cond (v == 2) 65536 max_rows) here.introduced.said.1.version_is
 
-  -- the first rule that a part breaks, of its order and of its rows
-  rows_refused : (kind : PartKind) (s : List ℕ) (number : ℕ) (rows : List Row)
-      → first_broken (is_in_order h l kind s number ∷ are_from h l rows ∷ [])
-      ≡ row_refusal x kind s number rows
-  rows_refused kind s number rows = grind (arith, of_peer_is rows, begun_is)
-
-  -- and of further rows
-  further_refused : (hs : List ℕ) (kind : PartKind) (s : List ℕ) (number : ℕ) (rows : List Row)
-      → is_number l hs ≡ heard h.opening l s h.entries
-      → first_broken (hears_in h l s ∷ is_in_order h l kind s number ∷ are_from h l rows ∷ [])
-      ≡ cond (is_number x.number hs) (row_refusal x kind s number rows) (Some Rule.NotHeard)
-  further_refused hs kind s number rows hears =
-      grind (arith, rows_refused kind s number rows, here.number)
-
   -- the first rule that is broken, but for those that the table tells
   pub refusal_is : (hs : List ℕ) (m : Message2) → is_visible h l ≡ true
       → is_running h (scope_in m) ≡ true → is_number l hs ≡ heard h.opening l (scope_in m) h.entries
       → first_broken (early_checks h l m) ≡ refusal x hs m
   refusal_is hs (Message2.Discover s) v q hears = rw (v, q) refl
   refusal_is hs (Message2.Part PartKind.Sync s number last rows) v q hears =
-      rw (v, q) (rows_refused PartKind.Sync s number rows)
+      rw (v, q) (grind (arith, of_peer_is rows, begun_is))
   refusal_is hs (Message2.Part PartKind.Join s number last rows) v q hears =
-      rw (v, q) (further_refused hs PartKind.Join s number rows hears)
+      rw (v, q) (grind (arith, of_peer_is rows, begun_is, here.number, hears))
   refusal_is hs (Message2.Part PartKind.Leave s number last rows) v q hears =
-      rw (v, q) (further_refused hs PartKind.Leave s number rows hears)
+      rw (v, q) (grind (arith, of_peer_is rows, begun_is, here.number, hears))
   refusal_is hs (Message2.Down s) v q hears = rw (v, q) refl
 
 -- ---- refusals end no link
@@ -150,32 +135,20 @@ module _ (h : History) (l : ℕ) (body : List ℕ) (up : is_up l h.entries ≡ t
   pub calm : (r : Rule) → refusal_owes r ≡ [] → refuses_calmly h (Event.Frame l body) r ≡ true
   calm r nothing = grind arith
 
-row_silent : (a b : Bool) (r : Rule)
-    → cond a (cond b None (Some Rule.ForeignPid)) (Some Rule.PartOrder) ≡ Some r
+silent : (a b c : Bool) (r : Rule)
+    → cond a (Some Rule.NotHeard) (cond b (Some Rule.PartOrder) (cond c (Some Rule.ForeignPid) None))
+    ≡ Some r
     → refusal_owes r ≡ []
-row_silent true true r q = no_value (sym q)
-row_silent true false r q = ap refusal_owes (sym (some_is q))
-row_silent false b r q = ap refusal_owes (sym (some_is q))
-
-further_silent : (c a b : Bool) (r : Rule)
-    → cond c (cond a (cond b None (Some Rule.ForeignPid)) (Some Rule.PartOrder))
-    (Some Rule.NotHeard) ≡ Some r
-    → refusal_owes r ≡ []
-further_silent true a b r q = row_silent a b r q
-further_silent false a b r q = ap refusal_owes (sym (some_is q))
+silent true b c r q = ap refusal_owes (sym (some_is q))
+silent false true c r q = ap refusal_owes (sym (some_is q))
+silent false false true r q = ap refusal_owes (sym (some_is q))
+silent false false false r q = no_value (sym q)
 
 -- what a message breaks early is owed nothing
 pub refusal_silent : (x : KeptLink) (hs : List ℕ) (m : Message2) (r : Rule)
     → refusal x hs m ≡ Some r → refusal_owes r ≡ []
 refusal_silent x hs (Message2.Discover s) r q = no_value (sym q)
-refusal_silent x hs (Message2.Part PartKind.Sync s number last rows) r q =
-    row_silent (is_next x.begun PartKind.Sync s number) (are_of_peer x.state rows) r q
-refusal_silent x hs (Message2.Part PartKind.Join s number last rows) r q =
-    further_silent (is_number x.number hs) (is_next x.begun PartKind.Join s number)
-    (are_of_peer x.state rows) r q
-refusal_silent x hs (Message2.Part PartKind.Leave s number last rows) r q =
-    further_silent (is_number x.number hs) (is_next x.begun PartKind.Leave s number)
-    (are_of_peer x.state rows) r q
+refusal_silent x hs (Message2.Part kind s number last rows) r q = silent _ _ _ r q
 refusal_silent x hs (Message2.Down s) r q = no_value (sym q)
 
 -- ---- all rows of a message so far are of the peer

@@ -1,5 +1,5 @@
 -- Messages of linked nodes.
-use Rattle.std.specs.Prelude.{ℕ, Bool, cond, List, Option, Some, None}
+use Rattle.std.specs.Prelude.{ℕ, Bool, true, false, not, ◌&&◌, cond, List, Option, Some, None}
 use Rattle.std.specs.Option.{option_map}
 use Rattle.dist_types.specs.declared.row.Row.{Row}
 use Rattle.link_frames.specs.declared.part.PartKind.{PartKind}
@@ -24,28 +24,18 @@ scope_in (frames.Discover s) = s
 scope_in (frames.Part kind s number last rows) = s
 scope_in (frames.Down s) = s
 
--- a part that isn't next breaks a rule, and so do rows of others than the peer
-abbrev pub row_refusal : KeptLink → PartKind → List ℕ → ℕ → List Row → Option Rule
-row_refusal link kind s number rows =
-    cond (is_next link.begun kind s number)
-    (cond (are_of_peer link.state rows) None (Some rule.ForeignPid))
-    (Some rule.PartOrder)
+-- a Join and a Leave bring rows that go on with others
+abbrev pub brings_further : PartKind → Bool
+brings_further kinds.Sync = false
+brings_further kinds.Join = true
+brings_further kinds.Leave = true
 
--- and so do further rows of a link that isn't heard; the links of these numbers are
-abbrev pub further_refusal : KeptLink → List ℕ → PartKind → List ℕ → ℕ → List Row → Option Rule
-further_refusal link heard kind s number rows =
-    cond (is_number link.number heard) (row_refusal link kind s number rows) (Some rule.NotHeard)
-
--- a Join and a Leave bring further rows
-abbrev pub part_refusal : KeptLink → List ℕ → PartKind → List ℕ → ℕ → List Row → Option Rule
-part_refusal link heard kinds.Sync s number rows = row_refusal link kinds.Sync s number rows
-part_refusal link heard kinds.Join s number rows =
-    further_refusal link heard kinds.Join s number rows
-part_refusal link heard kinds.Leave s number rows =
-    further_refusal link heard kinds.Leave s number rows
-
--- the rule that a message on this link breaks first, but for those that the table tells
+-- the rule that a message on this link breaks first, but for those that the table tells: further
+-- rows of a link that isn't one of those that are heard, a part that isn't next, rows of others
+-- than the peer
 abbrev pub refusal : KeptLink → List ℕ → Message2 → Option Rule
 refusal link heard (frames.Part kind s number last rows) =
-    part_refusal link heard kind s number rows
+    cond (brings_further kind && not (is_number link.number heard)) (Some rule.NotHeard)
+    (cond (not (is_next link.begun kind s number)) (Some rule.PartOrder)
+    (cond (not (are_of_peer link.state rows)) (Some rule.ForeignPid) None))
 refusal link heard m = None

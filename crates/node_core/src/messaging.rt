@@ -27,7 +27,7 @@ ghost use Rattle.policy_audit.specs.Hearing.{frame_taken};
 ghost use Rattle.node_core.specs.FramesHere.{IsUpLink, IsSoundMessage};
 ghost use Rattle.node_core.specs.Step.{Call, Answers};
 ghost use Rattle.node_core.specs.Links.{are_of_peer, takes_parts};
-ghost use Rattle.node_core.specs.Messages.{scope_in, says_in, refusal, part_refusal, further_refusal, row_refusal};
+ghost use Rattle.node_core.specs.Messages.{scope_in, says_in, refusal, brings_further};
 
 use crate::changes::cut_off;
 use crate::entering::Answered;
@@ -266,75 +266,45 @@ fn scope_in(message: &Message2) -> &Scope
 fn refusal(link: &Link, running: &Running, message: &Message2) -> Option<Rule>
     ensures { result ≡ refusal link.now running.now.heard.items message.now }
 {
-    match message {
-        Message2::Discover(_) | Message2::Down(_) => None,
-        Message2::Part {
-            kind,
-            scope,
-            number,
-            rows,
-            ..
-        } => part_refusal(link, running, *kind, scope, *number, rows),
+    let Message2::Part {
+        kind,
+        scope,
+        number,
+        rows,
+        ..
+    } = message
+    else {
+        return None;
+    };
+    if brings_further(*kind) && !running.heard.contains(&link.number()) {
+        return Some(Rule::NotHeard);
     }
+    if !link.is_next(*kind, scope, *number) {
+        return Some(Rule::PartOrder);
+    }
+    if !are_of_peer(link, rows) {
+        return Some(Rule::ForeignPid);
+    }
+    None
 }
 
-/// The same of a part.
-fn part_refusal(
-    link: &Link,
-    running: &Running,
-    kind: PartKind,
-    scope: &Scope,
-    number: u32,
-    rows: &Rows,
-) -> Option<Rule>
-    ensures { result ≡ part_refusal link.now running.now.heard.items kind scope.now number rows.now }
+/// Whether rows of this kind go on with others, which only a link that is heard has.
+fn brings_further(kind: PartKind) -> bool
+    ensures { result ≡ brings_further kind }
 {
     match kind {
-        PartKind::Sync => row_refusal(link, PartKind::Sync, scope, number, rows),
-        PartKind::Join => further_refusal(link, running, PartKind::Join, scope, number, rows),
-        PartKind::Leave => further_refusal(link, running, PartKind::Leave, scope, number, rows),
+        PartKind::Sync => false,
+        PartKind::Join | PartKind::Leave => true,
     }
 }
 
-/// The same of further rows, which only a heard link may have.
-fn further_refusal(
-    link: &Link,
-    running: &Running,
-    kind: PartKind,
-    scope: &Scope,
-    number: u32,
-    rows: &Rows,
-) -> Option<Rule>
-    ensures { result ≡ further_refusal link.now running.now.heard.items kind scope.now number rows.now }
+/// Whether each row's process is of the link's peer, with the creation that it gave.
+fn are_of_peer(link: &Link, rows: &Rows) -> bool
+    ensures { result ≡ are_of_peer link.now.state rows.now }
 {
-    if running.heard.contains(&link.number()) {
-        row_refusal(link, kind, scope, number, rows)
-    } else {
-        Some(Rule::NotHeard)
-    }
-}
-
-/// `PartOrder`, where the part may not come, and then what its rows break.
-fn row_refusal(link: &Link, kind: PartKind, scope: &Scope, number: u32, rows: &Rows) -> Option<Rule>
-    ensures { result ≡ row_refusal link.now kind scope.now number rows.now }
-{
-    if link.is_next(kind, scope, number) {
-        foreign(link, rows)
-    } else {
-        Some(Rule::PartOrder)
-    }
-}
-
-/// `ForeignPid`, where a row's process isn't of the link's peer, or has another creation than the peer gave.
-fn foreign(link: &Link, rows: &Rows) -> Option<Rule>
-    ensures { result ≡ cond (are_of_peer link.now.state rows.now) None (Some Rule.ForeignPid) }
-{
-    if let LinkState::Up(up) = link.state()
-        && are_from(up, rows)
-    {
-        None
-    } else {
-        Some(Rule::ForeignPid)
+    match link.state() {
+        LinkState::Up(up) => are_from(up, rows),
+        _ => false,
     }
 }
 
