@@ -17,8 +17,6 @@ mod edges;
 #[cfg(test)]
 mod frames;
 #[cfg(test)]
-mod gathered;
-#[cfg(test)]
 mod made;
 #[cfg(test)]
 mod monitors;

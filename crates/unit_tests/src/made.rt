@@ -1,5 +1,5 @@
-//! Texts, processes and rows of them, and copies. What can't be made for want of memory is None.
-use dist_types::{Cookie, Group, Items, NodeName, Pid, Pids, Row, Scope, TryClone};
+//! Texts, processes and rows of them. What can't be made for want of memory is None.
+use dist_types::{Cookie, Group, NodeName, Pid, Row, Scope};
 use std::alloc::Global;
 
 // What reads a text has no contract, so that a check doesn't compute with the text.
@@ -38,14 +38,6 @@ pub fn pid_of(alloc: Global, process: &Process) -> Option<Pid> {
     }
 }
 
-pub fn pids_of(alloc: Global, processes: &[Process]) -> Option<Pids> {
-    let mut pids = Vec::new(alloc);
-    for process in processes {
-        pids.push(pid_of(alloc, process)?).ok()?;
-    }
-    Some(Items::of(pids))
-}
-
 /// The process in this group.
 pub fn row_of(alloc: Global, group: &[u8], process: &Process) -> Option<Row> {
     let pid = pid_of(alloc, process)?;
@@ -60,19 +52,4 @@ pub fn alone<T: Drop>(alloc: Global, made: Option<T>) -> Option<Vec<T>> {
     let mut list = Vec::new(alloc);
     list.push(made?).ok()?;
     Some(list)
-}
-
-/// Whether a copy of what was made equals it.
-pub fn copies<T: TryClone + PartialEq + Drop>(alloc: Global, made: Option<T>) -> bool {
-    match &made {
-        Some(value) => is_copied(alloc, value),
-        None => false,
-    }
-}
-
-fn is_copied<T: TryClone + PartialEq + Drop>(alloc: Global, value: &T) -> bool {
-    match value.try_clone(alloc) {
-        Ok(copy) => copy == *value,
-        Err(_) => false,
-    }
 }
