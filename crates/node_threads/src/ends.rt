@@ -97,7 +97,7 @@ pub trait Gate {
     /// The reader of that link is about to read.
     fn reading(&self, _link: u32) {}
 
-    /// A frame of that link was answered.
+    /// A call of that link's reader was answered.
     fn answered(&self, _link: u32) {}
 
     /// The link has come up with the frame that was answered last.

@@ -62,7 +62,7 @@ pub(crate) fn read_to_end<R: Wait, I: Read, G: Gate>(
     ensures closed { result ≡ ends.Closed → IsAtEnd (I.remaining input.new) }
 {
     let stop = read_on(work, pass, input, gate);
-    let step = leave(work, pass, stop.gives_up());
+    let step = leave(work, pass, gate, stop.gives_up());
     stop.after(step)
 }
 

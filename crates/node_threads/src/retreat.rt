@@ -7,6 +7,7 @@ ghost use Rattle.node_threads.specs.Applied.{answer_now};
 ghost use Rattle.node_threads.specs.declared.pass.Call.{Call};
 ghost use Rattle.node_threads.specs.Retreat.{tries_after, step_after, GivesUp, Leaves};
 
+use crate::ends::Gate;
 use crate::fault::CallFault;
 use crate::pass::Pass;
 use crate::work::LinkWork;
@@ -77,13 +78,16 @@ impl Retreat {
     }
 }
 
-/// Calls `Lost` until it is settled. Where memory is wanting to the end, all writers of the node are told.
-fn lose<R: Wait>(work: &LinkWork<'_, R>, pass: &mut Pass) -> RetreatStep
+/// Calls `Lost` until it is settled, and tells the gate of each call. Where memory is wanting to the end, all writers of the node
+/// are told.
+fn lose<R: Wait, G: Gate>(work: &LinkWork<'_, R>, pass: &mut Pass, gate: &G) -> RetreatStep
     ensures { (lost : List Call) × GivesUp work.now.link pass.old lost result pass.new }
 {
     let mut retreat = Retreat::new();
     loop {
-        match retreat.next(&pass.call(work.node, work.rt, Event::Lost(work.link))) {
+        let step = retreat.next(&pass.call(work.node, work.rt, Event::Lost(work.link)));
+        gate.answered(work.link);
+        match step {
             RetreatStep::Again => {}
             RetreatStep::Stuck => {
                 work.node.mark_stuck(work.rt);
@@ -95,11 +99,16 @@ fn lose<R: Wait>(work: &LinkWork<'_, R>, pass: &mut Pass) -> RetreatStep
 }
 
 /// Gives the link up, where its worker is to.
-pub(crate) fn leave<R: Wait>(work: &LinkWork<'_, R>, pass: &mut Pass, gives_up: bool) -> RetreatStep
+pub(crate) fn leave<R: Wait, G: Gate>(
+    work: &LinkWork<'_, R>,
+    pass: &mut Pass,
+    gate: &G,
+    gives_up: bool,
+) -> RetreatStep
     ensures { (lost : List Call) × Leaves work.now.link gives_up pass.old lost result pass.new }
 {
     if gives_up {
-        lose(work, pass)
+        lose(work, pass, gate)
     } else {
         RetreatStep::Settled
     }

@@ -5,7 +5,7 @@ ghost use Rattle.policy_audit.specs.Wire.{wire_bytes};
 ghost use Rattle.node_threads.specs.Ends.{take_end};
 ghost use Rattle.node_threads.specs.Writing.{Took, WritesTo, WritesAs};
 
-use crate::ends::{LinkOut, WriteEnd};
+use crate::ends::{LinkOut, OpenGate, WriteEnd};
 use crate::fault::CallFault;
 use crate::node::Node;
 use crate::pass::Pass;
@@ -49,7 +49,7 @@ pub(crate) fn write_to_end<R: Wait, W: LinkOut>(
     ensures hung_up { W.is_hung_up output.new }
 {
     let stop = write_on(work, pass, output);
-    let step = leave(work, pass, stop.gives_up());
+    let step = leave(work, pass, &OpenGate, stop.gives_up());
     output.hang_up();
     stop.after(step)
 }
