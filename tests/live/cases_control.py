@@ -340,6 +340,17 @@ def quit_and_end(field):
 
 
 @case
+def quit_of_one_that_is_gone(field):
+    """`quit` is obeyed also where its `ok` can't be written, since who has asked reads no more."""
+    a = field.node("a@h")
+    stream = field.keep(socket.socket(socket.AF_UNIX))
+    stream.connect(a.control_path)
+    stream.shutdown(socket.SHUT_RD)  # (who closes at once may still be written to)
+    stream.sendall(b"quit\n")
+    expect("the status after quit", 0, a.status(20))
+
+
+@case
 def half_open_at_the_end(field):
     """A node with a link up, another half open and a client connected ends at `quit` without waiting for them."""
     a = field.node("a@h")

@@ -104,7 +104,8 @@ impl<'a, N: Asked> Desk<'a, N> {
         }
         let sent = send(writer, out.as_slice());
         drop(printing);
-        if next == Next::Drain || (next == Next::Quit && sent.is_ok()) {
+        // Also where the answer can't be written: who has asked for it may be gone.
+        if next == Next::Drain || next == Next::Quit {
             node.quit(rt);
         }
         sent
