@@ -5,12 +5,13 @@ use pg_session::Rights;
 use std::alloc::Global;
 use std::fmt::Display;
 use std::fs::{self, File, Files, Metadata, OpenFile, Permissions, TryLockError};
+use std::io::{self, ErrorKind};
 use std::net::{Net, Shutdown};
 use std::os::fd::OwnedFd;
 use std::os::unix::fs::{FileTypeExt, MetadataExt, OpenOptionsExt, PermissionsExt};
 use std::os::unix::net::{UnixListener, UnixStream};
+use std::thread;
 use std::time::{Clock, Duration};
-use std::{io, thread};
 
 /// The mode of the file that is locked, which is the owner's alone.
 const OWNERS: u32 = 0o600;
@@ -143,6 +144,7 @@ fn bind<'a, R: Files + Net>(rt: &R, first: &str, place: DoorPlace<'a>) -> io::Re
 fn bind_as<'a, R: Files + Net>(rt: &R, first: &str, place: DoorPlace<'a>) -> io::Result<Door<'a>> {
     let listener = UnixListener::bind(rt, first)?;
     fs::set_permissions(rt, first, Permissions::from_mode(place.mode))?;
+    turn_away(&listener)?;
     let handle = UnixStream::from(OwnedFd::from(listener.try_clone()?));
     let file = FileNumber::of(&fs::symlink_metadata(rt, first)?);
     fs::rename(rt, first, place.path)?;
@@ -153,6 +155,19 @@ fn bind_as<'a, R: Files + Net>(rt: &R, first: &str, place: DoorPlace<'a>) -> io:
         file,
         rights: place.rights,
     })
+}
+
+/// Hangs up on who has come while the socket had no mode yet.
+fn turn_away(listener: &UnixListener) -> io::Result<()> {
+    listener.set_nonblocking(true)?;
+    for _ in 0..u64::MAX {
+        match listener.accept() {
+            Ok(_) => {}
+            Err(error) if error.kind() == ErrorKind::WouldBlock => break,
+            Err(error) => return Err(error),
+        }
+    }
+    listener.set_nonblocking(false)
 }
 
 fn remove_socket<R: Files>(rt: &R, path: &str) {
