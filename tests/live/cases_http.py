@@ -212,6 +212,30 @@ def only_reads_by_http(field):
     expect("health", (200, "ok\n"), get(a.http_port, "/healthz")[::2])
 
 
+@case
+def hosts_of_this_machine(field):
+    """At a loopback address a request is told 421 whose `Host` is neither an address nor `localhost`, so that no page of another place
+    reads the node by a name that was made to mean this machine; at other addresses it is answered."""
+    a = http_node(field, "a@h")
+    for host in (b"localhost", b"LocalHost:80", b"127.0.0.1", b"127.0.0.1:9464", b"[::1]", b"[::1]:80", b"10.1.2.3:80"):
+        expect(f"the status for {host}", 200, status_for(a.http_port, b" HTTP/1.1\r\nHost: " + host))
+    for host in (b"h", b"rebound.example:80", b"localhost.example", b"127.0.0.1.example:80", b"h:127", b"localhost:x", b""):
+        expect_that(status_for(a.http_port, b" HTTP/1.1\r\nHost: " + host) in (400, 421), f"no answer for {host}", 200)
+    came = said_by_http(a.http_port, b"GET /metrics HTTP/1.1\r\nHost: rebound.example\r\n\r\n")
+    expect_that(came.startswith(b"HTTP/1.1 421 "), "a status of its own", came[:40])
+    expect("what it is told", b"the Host is neither an address nor localhost\n", came.split(b"\r\n\r\n")[-1])
+    expect("the status without a host", 200, status_for(a.http_port, b" HTTP/1.0"))
+    b = field.start("b@h", "--http", "0.0.0.0:0", "--http-anywhere", port=None)
+    ports = [re.search(r"^http .*:(\d+)$", b.next_answer("a first line")) for _ in range(2)]
+    port = next(int(found[1]) for found in ports if found)
+    expect("the status at another address", 200, status_for(port, b" HTTP/1.1\r\nHost: h"))
+
+
+def status_for(port, rest):
+    """The status of `/healthz` for a request that goes on so."""
+    return int(said_by_http(port, b"GET /healthz" + rest + b"\r\n\r\n").split(b" ", 2)[1])
+
+
 def said_by_http(port, words):
     """All that is answered to these bytes."""
     with socket.create_connection(("127.0.0.1", port)) as stranger:
@@ -238,7 +262,7 @@ def slow_reader_of_the_page(field):
         stranger = field.keep(socket.socket())
         stranger.setsockopt(socket.SOL_SOCKET, socket.SO_RCVBUF, 1024)
         stranger.connect(("127.0.0.1", a.http_port))
-        stranger.sendall(b"GET / HTTP/1.1\r\nHost: h\r\n\r\n" * 3)
+        stranger.sendall(b"GET / HTTP/1.1\r\nHost: localhost\r\n\r\n" * 3)
         slow.append(stranger)
     began = time.monotonic()
     for _ in range(200):
@@ -259,7 +283,7 @@ def many_who_look_on(field):
     idle = []
     for _ in range(16):
         idle.append(field.keep(socket.create_connection(("127.0.0.1", a.http_port))))
-    expect_that(until("a refusal", lambda: said_by_http(a.http_port, b"GET / HTTP/1.1\r\nHost: h\r\n\r\n")).startswith(b"HTTP/1.1 503 "), "no room", "some")
+    expect_that(until("a refusal", lambda: said_by_http(a.http_port, b"GET / HTTP/1.1\r\nHost: localhost\r\n\r\n")).startswith(b"HTTP/1.1 503 "), "no room", "some")
     expect_that(a.ask("size").startswith("size "), "an answer meanwhile", "none")
     idle.pop().close()
     until("room", lambda: get(a.http_port, "/healthz")[0], lambda status: status == 200, limit=5)

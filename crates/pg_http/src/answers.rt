@@ -95,6 +95,16 @@ pub fn refuse_method(response: &mut Response) -> Result<(), AllocError> {
     say_line(status, "only GET and HEAD\n", response)
 }
 
+/// Says that the node isn't the host that was asked.
+pub fn refuse_host(response: &mut Response) -> Result<(), AllocError> {
+    let status = StatusCode::MISDIRECTED_REQUEST;
+    say_line(
+        status,
+        "the Host is neither an address nor localhost\n",
+        response,
+    )
+}
+
 fn add(name: HeaderName, value: HeaderValue, response: &mut Response) -> Result<(), AllocError> {
     response.add_header(name, value)
 }

@@ -17,6 +17,8 @@ pub struct PageEntrance {
     /// The same socket, as what can be shut. It is made at once, since later there may be no
     /// descriptor for it.
     handle: TcpStream,
+    /// Whether this machine alone reaches it.
+    pub(crate) is_here: bool,
     pub(crate) visitors: Visitors,
     /// Of the maps of headers: who asks chooses their names.
     pub(crate) keys: RandomState,
@@ -60,9 +62,11 @@ where
 {
     let listener = TcpListener::bind(rt, place)?;
     let handle = TcpStream::from(OwnedFd::from(listener.try_clone()?));
+    let is_here = listener.local_addr()?.ip().is_loopback();
     Ok(PageEntrance {
         alloc,
         listener,
+        is_here,
         handle,
         visitors: Visitors::new(alloc),
         keys: RandomState::new(words)?,

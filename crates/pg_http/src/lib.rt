@@ -3,6 +3,7 @@
 
 mod answers;
 mod entrance;
+mod host;
 mod looker;
 mod refusing;
 mod serving;

@@ -1,5 +1,6 @@
 //! Who answers the requests of a connection.
-use crate::answers::{ContentKind, Wanted, refuse_method, say, say_line};
+use crate::answers::{ContentKind, Wanted, refuse_host, refuse_method, say, say_line};
+use crate::host::is_of_here;
 use bytes::Bytes;
 use http::{Request, StatusCode};
 use http_server::{Response, Service};
@@ -14,6 +15,8 @@ pub struct Looker<'a, R: Wait + Clock, N: Shown> {
     pub rt: &'a R,
     pub alloc: Global,
     pub node: &'a N,
+    /// Whether this machine alone is to look on.
+    pub is_here: bool,
 }
 
 impl<R: Wait + Clock, N: Shown> Service for Looker<'_, R, N> {
@@ -33,6 +36,9 @@ fn answer<R: Wait + Clock, N: Shown>(
     request: &Request<Bytes>,
     response: &mut Response,
 ) -> Result<(), AllocError> {
+    if looker.is_here && !is_of_here(request) {
+        return refuse_host(response);
+    }
     let method = request.method().as_str();
     if method != "GET" && method != "HEAD" {
         return refuse_method(response);

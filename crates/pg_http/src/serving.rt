@@ -131,7 +131,12 @@ fn answer_all<R: Wait + Clock, N: Shown>(
 ) -> io::Result<()> {
     let start = Instant::now(rt)?;
     let alloc = entrance.alloc;
-    let mut looker = Looker { rt, alloc, node };
+    let mut looker = Looker {
+        rt,
+        alloc,
+        node,
+        is_here: entrance.is_here,
+    };
     let mut connection = Connection::new(alloc, entrance.keys, config());
     let answered = answer_each(rt, &mut connection, &mut looker, start, stream);
     drop(connection);
