@@ -7,6 +7,7 @@ import subprocess
 import sys
 import threading
 
+from cases_life import Silent
 from field import case
 from node import asked, await_members, await_nodes, member, new_pid, size, start
 from talk import Control
@@ -242,6 +243,43 @@ def told_that_it_is_behind(field):
     last = reading.last_line()
     expect("its last line", "! behind", last)
     await_kept(a)
+
+
+@case
+def output_that_is_read_late(field):
+    """Where nobody reads standard output for too long its monitors alone end, with `! behind`; then the lines of standard input are
+    answered, and it is told what comes, as before."""
+    a, b = Silent(field, "--entries", KEPT), field.node("b@h")
+    first = [say(a, line) for line in ("", "start pg", "monitor_scope pg")]
+    expect("the first answers", [f"control {a.control_path}", "ok", "ref 2"], first)
+    busy = a.control()
+    moves(busy, new_pid(busy), 20_000)
+    for _ in range(60):
+        refused(busy, 2_000)
+        if "warn behind seat=1" in a.errors() and kept(busy) < 2 * KEPT:
+            break
+    await_kept(busy)
+    asked(busy, f"dial b@h=127.0.0.1:{b.port}")
+    await_nodes(busy, ["b@h"])
+    told = [line for line in iter(lambda: say(a, ""), "! behind") if not line.startswith(("! join 2 ", "! leave 2 "))]
+    expect("what it is told beside changes", [], told)
+    expect("an answer", "scopes pg", say(a, "scopes"))
+    number = say(a, "monitor_scope pg").split()[1]
+    pid = member(busy)
+    expect("what it is told of a change", f"! join {number} g 1 {pid}", say(a, ""))
+    b.quit()
+    expect_that(say(a, "").startswith("! down b@h "), "what it is told of a peer", "another")
+    expect("the answer to quit", "ok", say(a, "quit"))
+    expect("the status", 0, a.process.wait(LIMIT))
+    expect("such warnings", ["warn behind seat=1"], a.errors())
+
+
+def say(node, line):
+    """Says a line on the node's standard input, if any, and gives the next one of its standard output."""
+    if line:
+        node.process.stdin.write(line.encode() + b"\n")
+        node.process.stdin.flush()
+    return node.process.stdout.readline().decode().rstrip("\n")
 
 
 class Slowly:

@@ -14,6 +14,8 @@ from waiting import LIMIT, expect, expect_that, seconds_since, until
 
 # The longest line that is kept whole.
 LONGEST = 4_194_304
+# In so many groups a process is at most, but for one.
+GROUPS = 4_000
 # Seconds in which a node ends that is told to, on a busy machine.
 SOON = 2
 
@@ -82,6 +84,30 @@ def client_line_without_memory(field):
     expect_that(control.ask("nodes") == "nodes", "an answer", "another")
     asked(other, f"leave pg g {pid}")
     expect("lines on standard error", [], a.errors())
+
+
+@case
+def reads_without_memory(field):
+    """A read that finds no memory for its answer is answered so, and so is a monitor, which ends:
+    neither the client's connection nor anything of others ends by it."""
+    reading = os.path.join(field.folder, "reading")
+    with one_arena():
+        a = field.node("a@h", "--control-read", reading)
+    b = field.node("b@h", dial=[a])
+    await_nodes(a, ["b@h"])
+    owner, client = field.control(a), field.keep(Control(reading))
+    pid = member(owner)
+    for number in range(GROUPS):
+        owner.send(f"join pg {'g' * 250}{number:04} {pid}")
+    for number in range(GROUPS):
+        expect("the answer to a join", "ok", owner.next_answer("an answer"))
+    limit_memory(a.process.pid)
+    for line in ("groups pg", "monitor_scope pg") * 2:
+        expect(f"the answer to {line}", "fault out of memory", client.ask(line))
+    await_members(owner, [pid])
+    asked(owner, f"leave pg g {pid}")
+    asked(client, "nodes", "nodes b@h")
+    expect("ends", [], owner.untold("! (down|restarted) .*") + client.untold("! .*"))
 
 
 @case

@@ -65,8 +65,8 @@ pub trait Asked {
     /// Memory was wanting for a connection.
     fn want_memory<R: Wait>(&self, rt: &R);
 
-    /// A line couldn't be read for want of memory.
-    fn lose_line<R: Wait>(&self, rt: &R);
+    /// A line of a seat couldn't be read for want of memory.
+    fn lose_line<R: Wait>(&self, rt: &R, seat: usize);
 
     /// Has all look whether anything is to do.
     fn wake<R: Wait>(&self, rt: &R);

@@ -128,7 +128,7 @@ impl<'a, N: Asked> Desk<'a, N> {
                 "fault out of memory\n"
             }
             None => {
-                self.node.lose_line(rt);
+                self.node.lose_line(rt, self.seat);
                 "fault out of memory\n"
             }
         };

@@ -1,16 +1,37 @@
 //! What connections are answered, and when they are told.
+use crate::asked::OPERATOR;
 use crate::hub::Hub;
 use crate::reporting::Reporting;
 use dist_types::OutOfMemory;
 use node_threads::Shared;
 use pg_asked::Asked;
-use pg_session::{Lack, Next, Seen, Session};
+use pg_session::{Lack, Next, Rights, Seen, Session};
+use pg_text::put_word;
 use std::sync::Wait;
 use std::time::Clock;
 
+/// What a query is answered for which the node finds no memory.
+const UNREAD: &[u8] = b"memory\n";
+
+/// What a line is answered for whose answer there is no memory.
+const UNANSWERED: &str = "fault out of memory\n";
+
+/// What has become of a line. But for an answer nothing is added.
+#[derive(Clone, Copy)]
+enum Tried {
+    Answered(Next),
+    /// That was wanting for its call, which wasn't made.
+    Lacks(Lack),
+    /// There is no memory for its answer, and it has left nothing behind.
+    Unanswered,
+    /// There is no memory for the answer to a call that was made.
+    Lost,
+}
+
 impl Hub {
-    /// Adds the answer to a line of a seat, for which there is room. A call that meets a full audit,
-    /// or no memory, is answered by the next life.
+    /// Adds the answer to a line of a seat, for which there is room. A call that meets a full
+    /// audit, or no memory, is answered by the next life. Clients end no life by what only reads or
+    /// watches.
     pub(crate) fn answer_line<R: Wait + Clock>(
         &self,
         rt: &R,
@@ -21,17 +42,22 @@ impl Hub {
         let mut has_let_go = false;
         for _ in rt.forever() {
             match self.try_answer(rt, seat, line, out) {
-                Ok((next, None)) => return Ok(next),
-                Ok((_, Some(Lack::Room))) => {}
-                Ok((_, Some(Lack::Memory))) if has_let_go => self.want_memory(rt),
-                Ok((_, Some(Lack::Memory))) => {
+                Tried::Answered(next) => return Ok(next),
+                Tried::Lacks(Lack::Room) => {}
+                Tried::Lacks(Lack::Memory) if has_let_go && self.has_to_be_made(seat, line) => {
+                    self.want_memory(rt);
+                }
+                Tried::Lacks(Lack::Memory) | Tried::Unanswered if has_let_go => {
+                    return self.give_no_answer(rt, seat, out);
+                }
+                Tried::Lacks(Lack::Memory) | Tried::Unanswered => {
                     self.node.shared.lock(rt).let_go();
                     has_let_go = true;
                 }
-                Err(fault) => {
+                Tried::Lost => {
                     // A process may have been spawned that nobody knows of: it ends with this life.
                     self.want_memory(rt);
-                    return Err(fault);
+                    return Err(OutOfMemory);
                 }
             }
             self.wait_for_room(rt);
@@ -39,35 +65,107 @@ impl Hub {
         unreachable!()
     }
 
-    /// The same in this life, unless something is wanting for the call of the line: then nothing is added.
+    /// Whether the next life has to make the call of a line. A client that may only read can begin
+    /// monitors, and isn't to end this life by that.
+    fn has_to_be_made(&self, seat: usize, line: &[u8]) -> bool {
+        seat == OPERATOR || !Rights::Reads.allow(self.alloc, line).unwrap_or(false)
+    }
+
+    /// Adds that there is no memory for an answer. Where there is none for that either, or the
+    /// operator has asked, the next life is to begin.
+    fn give_no_answer<R: Wait>(
+        &self,
+        rt: &R,
+        seat: usize,
+        out: &mut Vec<u8>,
+    ) -> Result<Next, OutOfMemory> {
+        let added = put_word(UNANSWERED, out);
+        if added.is_err() || seat == OPERATOR {
+            self.want_memory(rt);
+        }
+        added?;
+        Ok(Next::Line)
+    }
+
+    /// Answers a line in this life, unless something is wanting for it.
     fn try_answer<R: Wait + Clock>(
         &self,
         rt: &R,
         seat: usize,
         line: &[u8],
         out: &mut Vec<u8>,
-    ) -> Result<(Next, Option<Lack>), OutOfMemory> {
+    ) -> Tried {
         self.signals.read_line();
         let house = self.house.read(rt);
         let Some(session) = house.sessions.get(seat) else {
-            return Ok((Next::Line, None));
+            return Tried::Answered(Next::Line);
         };
         let mut session = session.lock(rt);
-        session.put_restart(out)?;
         let start = out.len();
+        if session.put_restart(out).is_err() {
+            out.truncate(start);
+            return Tried::Unanswered;
+        }
+        let start = out.len();
+        let tried = self.ask_session(rt, seat, &mut session, line, out);
+        match tried {
+            Tried::Answered(_) => {}
+            _ => out.truncate(start),
+        }
+        tried
+    }
+
+    /// The same, of a session that has been told of this life.
+    fn ask_session<R: Wait + Clock>(
+        &self,
+        rt: &R,
+        seat: usize,
+        session: &mut Session,
+        line: &[u8],
+        out: &mut Vec<u8>,
+    ) -> Tried {
+        let start = out.len();
+        let (calls, monitors) = (session.calls(), session.monitors());
         let surroundings = Reporting {
             rt,
             hub: self,
             line,
         };
-        let next = session.answer(rt, self.alloc, &self.node, &surroundings, line, out)?;
-        self.begin_to_watch(rt, seat, &session);
-        let lack = session.lack();
-        if lack.is_none() || self.signals.is_quitting() {
-            return Ok((next, None));
+        let answered = session.answer(rt, self.alloc, &self.node, &surroundings, line, out);
+        let Ok(next) = answered else {
+            return self.take_back(rt, session, calls, monitors);
+        };
+        self.begin_to_watch(rt, seat, session);
+        if self.signals.is_quitting() {
+            return Tried::Answered(next);
         }
-        out.truncate(start);
-        Ok((next, lack))
+        match session.lack() {
+            Some(lack) => Tried::Lacks(lack),
+            None if out.get(start..) == Some(UNREAD) => Tried::Unanswered,
+            None => Tried::Answered(next),
+        }
+    }
+
+    /// What has become of a line for whose answer there is no memory, of a session that had made so
+    /// many calls and had so many monitors. A monitor that it has begun is ended.
+    fn take_back<R: Wait>(
+        &self,
+        rt: &R,
+        session: &mut Session,
+        calls: usize,
+        monitors: usize,
+    ) -> Tried {
+        let made = session.calls();
+        if made == calls {
+            return Tried::Unanswered;
+        }
+        if session.monitors() > monitors
+            && session.leave_monitor(rt, &self.node)
+            && session.calls() > made
+        {
+            return Tried::Unanswered;
+        }
+        Tried::Lost
     }
 
     /// Whether nothing is to be told at a seat that has seen so much, by who has monitors or has none.

@@ -1,7 +1,6 @@
 //! The node as its connections see it. A call that meets a full audit, or no memory, is answered by
 //! the next life.
 use crate::hub::Hub;
-use crate::lost::Lost;
 use dist_types::OutOfMemory;
 use pg_asked::{Asked, Clients};
 use pg_log::{Level, Log};
@@ -11,8 +10,8 @@ use std::sync::Wait;
 use std::sync::atomic::{AtomicBool, Ordering};
 use std::time::Clock;
 
-/// The seat of standard input.
-const OPERATOR: usize = 0;
+/// The seat of standard input and output.
+pub(crate) const OPERATOR: usize = 0;
 
 impl Asked for Hub {
     fn alloc(&self) -> Global {
@@ -111,13 +110,9 @@ impl Asked for Hub {
         let Some(session) = house.sessions.get(seat) else {
             return Ok(None);
         };
-        let lost = Lost {
-            rt,
-            links: self.link_notes(),
-        };
         let mut session = session.lock(rt);
         self.readers.begin_to_ask(seat);
-        match session.tell(rt, self.alloc, &self.node, &lost, self.keeping.stale(), out) {
+        match self.tell_session(rt, seat, &mut session, out) {
             Ok(seen) => {
                 self.readers.note(seat, seen.entries(), session.monitors());
                 self.signals.count_told(out.as_slice());
@@ -125,14 +120,15 @@ impl Asked for Hub {
             }
             Err(OutOfMemory) => {
                 drop(session);
-                self.want_memory(rt);
+                self.lack_news(rt, seat);
                 Err(OutOfMemory)
             }
         }
     }
 
+    // Standard output can't be ended: it is told when it is read again.
     fn gives_up(&self, seat: usize) -> bool {
-        let gives_up = self.readers.is_behind(seat);
+        let gives_up = seat != OPERATOR && self.readers.is_behind(seat);
         if gives_up {
             self.readers.leave(seat);
         }
@@ -153,9 +149,9 @@ impl Asked for Hub {
         Hub::want_memory(self, rt);
     }
 
-    fn lose_line<R: Wait>(&self, rt: &R) {
+    fn lose_line<R: Wait>(&self, rt: &R, seat: usize) {
         self.node.shared.lock(rt).let_go();
-        if self.signals.lose_line() {
+        if seat == OPERATOR && self.signals.lose_line() {
             self.want_memory(rt);
         }
     }

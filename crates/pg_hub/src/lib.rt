@@ -21,6 +21,7 @@ mod reporting;
 mod seating;
 mod signals;
 mod stock;
+mod telling;
 mod viewing;
 mod views;
 

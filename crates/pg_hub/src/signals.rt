@@ -15,7 +15,7 @@ pub struct Signals {
     is_turning: AtomicBool,
     /// How many lives the node has had.
     lives: AtomicU32,
-    /// How many lines in a row couldn't be read for want of memory.
+    /// How many lines in a row of standard input couldn't be read for want of memory.
     lost_lines: AtomicU32,
     /// How many lines were told unasked.
     told: AtomicU64,
