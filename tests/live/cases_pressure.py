@@ -88,8 +88,8 @@ def client_line_without_memory(field):
 
 @case
 def reads_without_memory(field):
-    """A read that finds no memory for its answer is answered so, and so is a monitor, which ends:
-    neither the client's connection nor anything of others ends by it."""
+    """A read that finds no memory for its answer is answered so: neither the client's connection
+    nor anything of others ends by it."""
     reading = os.path.join(field.folder, "reading")
     with one_arena():
         a = field.node("a@h", "--control-read", reading)
@@ -102,10 +102,10 @@ def reads_without_memory(field):
     for number in range(GROUPS):
         expect("the answer to a join", "ok", owner.next_answer("an answer"))
     limit_memory(a.process.pid)
-    for line in ("groups pg", "monitor_scope pg") * 2:
-        expect(f"the answer to {line}", "fault out of memory", client.ask(line))
-    await_members(owner, [pid])
-    asked(owner, f"leave pg g {pid}")
+    for _ in range(4):
+        expect("the answer to a read", "fault out of memory", client.ask("groups pg"))
+    group = "g" * 250 + "0000"
+    await_members(owner, [pid], group)
     asked(client, "nodes", "nodes b@h")
     expect("ends", [], owner.untold("! (down|restarted) .*") + client.untold("! .*"))
 

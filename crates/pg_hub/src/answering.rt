@@ -30,8 +30,7 @@ enum Tried {
 
 impl Hub {
     /// Adds the answer to a line of a seat, for which there is room. A call that meets a full
-    /// audit, or no memory, is answered by the next life. Clients end no life by what only reads or
-    /// watches.
+    /// audit, or no memory, is answered by the next life. Clients end no life by what only reads.
     pub(crate) fn answer_line<R: Wait + Clock>(
         &self,
         rt: &R,
@@ -44,12 +43,12 @@ impl Hub {
             match self.try_answer(rt, seat, line, out) {
                 Tried::Answered(next) => return Ok(next),
                 Tried::Lacks(Lack::Room) => {}
-                Tried::Lacks(Lack::Memory) if has_let_go && self.has_to_be_made(seat, line) => {
-                    self.want_memory(rt);
-                }
-                Tried::Lacks(Lack::Memory) | Tried::Unanswered if has_let_go => {
+                // The node has let go what it can, and would begin anew for one more such call.
+                Tried::Lacks(Lack::Memory) if !self.has_to_be_made(seat, line) => {
                     return self.give_no_answer(rt, seat, out);
                 }
+                Tried::Lacks(Lack::Memory) if has_let_go => self.want_memory(rt),
+                Tried::Unanswered if has_let_go => return self.give_no_answer(rt, seat, out),
                 Tried::Lacks(Lack::Memory) | Tried::Unanswered => {
                     self.node.shared.lock(rt).let_go();
                     has_let_go = true;
