@@ -36,7 +36,7 @@ pub(crate) enum Goal<'a> {
 impl Goal<'_> {
     fn connect<R>(&self, rt: &R, time: Duration) -> Result<TcpStream, DialFault>
     where
-        R: Net<Listener = TcpListener, Stream = TcpStream>,
+        R: Net<Listener = TcpListener, Stream = TcpStream> + Clock,
     {
         match self {
             Goal::Address(place) => connect(rt, place, time),
@@ -67,7 +67,7 @@ impl Connector {
     /// Connects to the place whenever that is wanted, until the end.
     pub(crate) fn connect_all<R>(&self, rt: &R, goal: Goal<'_>)
     where
-        R: Net<Listener = TcpListener, Stream = TcpStream> + Wait,
+        R: Net<Listener = TcpListener, Stream = TcpStream> + Wait + Clock,
     {
         for _ in rt.forever() {
             let Some(time) = self.wait_for_wish(rt) else {

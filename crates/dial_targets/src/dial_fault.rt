@@ -1,10 +1,10 @@
 //! Why a dial has failed.
-use std::io::ErrorKind;
+use std::io::{self, ErrorKind};
 
 /// Why a dial has failed.
 #[derive(Clone, Copy, Debug, PartialEq, Eq)]
 pub enum DialFault {
-    /// The place has no address.
+    /// The host has no address, or none that is found now.
     NoHost,
     /// No program takes connections there.
     Refused,
@@ -33,6 +33,16 @@ impl DialFault {
             | ErrorKind::NetworkUnreachable
             | ErrorKind::AddrNotAvailable => DialFault::Unreachable,
             _ => DialFault::System,
+        }
+    }
+
+    /// That of a look-up that failed so. A host that the resolver doesn't find, and one that it
+    /// can't ask for now, look the same here.
+    pub(crate) fn of_look_up(error: &io::Error) -> DialFault {
+        if error.raw_os_error().is_some() || error.kind() == ErrorKind::OutOfMemory {
+            DialFault::System
+        } else {
+            DialFault::NoHost
         }
     }
 

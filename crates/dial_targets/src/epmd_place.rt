@@ -5,7 +5,7 @@ use epmd::{AskFault, EpmdFault, ask_port, halves};
 use std::alloc::Global;
 use std::io::ErrorKind;
 use std::net::{Net, TcpListener, TcpStream, ToSocketAddrs};
-use std::time::Duration;
+use std::time::{Clock, Duration};
 
 /// EPMD at the host of a node, and the node's name there.
 #[derive(Debug, Drop)]
@@ -46,15 +46,10 @@ impl EpmdPlace {
     /// Connects to the node, whose port EPMD is asked for first. Each step has this time.
     pub(crate) fn connect<R>(&self, rt: &R, time: Duration) -> Result<TcpStream, DialFault>
     where
-        R: Net<Listener = TcpListener, Stream = TcpStream>,
+        R: Net<Listener = TcpListener, Stream = TcpStream> + Clock,
     {
-        let mut stream = self.connect_to_epmd(rt, time)?;
-        let is_limited = stream.set_read_timeout(Some(time)).is_ok()
-            && stream.set_write_timeout(Some(time)).is_ok();
-        if !is_limited {
-            return Err(DialFault::System);
-        }
-        match ask_port(self.alloc, &mut stream, self.name.as_bytes()) {
+        let stream = self.connect_to_epmd(rt, time)?;
+        match ask_port(rt, self.alloc, &stream, self.name.as_bytes(), time) {
             Ok(port) => self.connect_at(rt, port, time),
             Err(fault) => Err(told_of(fault)),
         }
@@ -101,10 +96,11 @@ pub(crate) fn connect<R>(rt: &R, place: &str, time: Duration) -> Result<TcpStrea
 where
     R: Net<Listener = TcpListener, Stream = TcpStream>,
 {
-    let mut fault = DialFault::NoHost;
-    let Ok(addrs) = place.to_socket_addrs(rt) else {
-        return Err(fault);
+    let addrs = match place.to_socket_addrs(rt) {
+        Ok(addrs) => addrs,
+        Err(error) => return Err(DialFault::of_look_up(&error)),
     };
+    let mut fault = DialFault::NoHost;
     for addr in addrs {
         match TcpStream::connect_timeout(rt, &addr, time) {
             Ok(stream) => return Ok(stream),

@@ -178,7 +178,7 @@ impl Target {
     /// Connects to the place whenever that is wanted, until the target's end.
     pub fn connect_all<R>(&self, rt: &R)
     where
-        R: Net<Listener = TcpListener, Stream = TcpStream> + Wait,
+        R: Net<Listener = TcpListener, Stream = TcpStream> + Wait + Clock,
     {
         let goal = match &self.epmd {
             Some(place) => Goal::Epmd(place),

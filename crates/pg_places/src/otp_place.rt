@@ -176,7 +176,7 @@ impl Registration {
 
     fn register_once<R>(&self, rt: &R) -> Result<Arc<TcpStream>, AskFault>
     where
-        R: Net<Listener = TcpListener, Stream = TcpStream> + Wait,
+        R: Net<Listener = TcpListener, Stream = TcpStream> + Wait + Clock,
     {
         let stream = self.connect(rt)?;
         let Ok(stream) = Arc::new(self.alloc, stream) else {
@@ -188,7 +188,8 @@ impl Registration {
             kind: self.kind,
             name: self.name.as_bytes(),
         };
-        register(self.alloc, &mut &*stream, &alive)?;
+        let time = Duration::from_millis(ANSWER);
+        register(rt, self.alloc, &stream, &alive, time)?;
         stream.set_read_timeout(None)?;
         Ok(stream)
     }
@@ -212,12 +213,8 @@ impl Registration {
     where
         R: Net<Listener = TcpListener, Stream = TcpStream>,
     {
-        let time = Duration::from_millis(ANSWER);
         let address = SocketAddr::V4(SocketAddrV4::new(Ipv4Addr::LOCALHOST, self.epmd));
-        let stream = TcpStream::connect_timeout(rt, &address, Duration::from_millis(CONNECT))?;
-        stream.set_read_timeout(Some(time))?;
-        stream.set_write_timeout(Some(time))?;
-        Ok(stream)
+        TcpStream::connect_timeout(rt, &address, Duration::from_millis(CONNECT))
     }
 
     /// Waits until the connection by which the node is registered has ended.
