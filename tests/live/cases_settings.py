@@ -179,3 +179,13 @@ def open_to_all(field):
     warnings = [line for line in done.stderr.decode().splitlines() if "plain" in line or "0.0.0.0" in line]
     expect("warnings", 2, len(warnings))
     expect_that(done.stdout.decode().splitlines()[-1] == "nodes", "the answer to a line", done.stdout)
+
+
+@case
+def start_that_fails_leaves_no_socket(field):
+    """A node whose other places can't be opened leaves no control socket behind."""
+    port = field.listener().getsockname()[1]
+    for words in (("--http", f"127.0.0.1:{port}"), ("--control-read", os.path.join(field.folder, "none", "read"))):
+        a = field.start("a@h", *words, port=None)
+        expect("its status", 1, a.status())
+        expect_that(not os.path.exists(a.control_path), "no control socket", words)

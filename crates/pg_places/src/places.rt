@@ -70,12 +70,32 @@ pub fn open_places<'a, R: Host + Files<File = File>>(
         Some(place) => Some(listen_at(rt, alloc, of_program(place), queues, log)?),
         None => None,
     };
-    Ok(Places {
+    let mut places = Places {
         arrivals,
         door: open_door(rt, alloc, faces.control, Rights::All, queues)?,
-        read_door: open_door(rt, alloc, faces.control_read, Rights::Reads, queues)?,
-        pages: open_pages(rt, files, alloc, faces.http, queues)?,
-    })
+        read_door: None,
+        pages: None,
+    };
+    let opened = open_others(rt, files, alloc, faces, queues, &mut places);
+    if let Err(error) = opened {
+        places.remove(rt, alloc);
+        return Err(error);
+    }
+    Ok(places)
+}
+
+/// Opens those beside the control socket, which stays where one of them can't be opened.
+fn open_others<'a, R: Host + Files<File = File>>(
+    rt: &R,
+    files: &HostRuntime,
+    alloc: Global,
+    faces: Faces<'a>,
+    queues: &Queues,
+    places: &mut Places<'a>,
+) -> Result<()> {
+    places.read_door = open_door(rt, alloc, faces.control_read, Rights::Reads, queues)?;
+    places.pages = open_pages(rt, files, alloc, faces.http, queues)?;
+    Ok(())
 }
 
 /// Where nodes of this program connect.
@@ -135,13 +155,27 @@ fn open_door<'a, R: Wait + Files<File = File> + Net + Clock>(
         return Ok(None);
     };
     let door = Door::open(rt, alloc, DoorPlace { path, mode, rights })?;
+    if let Err(error) = print_door(rt, alloc, path, rights, queues) {
+        door.remove(rt, alloc);
+        return Err(error);
+    }
+    Ok(Some(door))
+}
+
+fn print_door<R: Wait + Clock>(
+    rt: &R,
+    alloc: Global,
+    path: &str,
+    rights: Rights,
+    queues: &Queues,
+) -> Result<()> {
     let name = match rights {
         Rights::All => "control",
         Rights::Reads => "control-read",
     };
     let line = format!(in alloc; "{name} {path}\n")?;
     queues.streams().output.put(rt, line.as_bytes())?;
-    Ok(Some(door))
+    Ok(())
 }
 
 fn open_pages<R>(
