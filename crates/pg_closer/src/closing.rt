@@ -1,13 +1,14 @@
 //! The thread behind a node: it writes pages, and closes lives that have ended behind theirs.
 use crate::archived::Archived;
+use crate::ended_life::EndedLife;
 use crate::page_queue::PageQueue;
 use crate::recorder::Recorder;
 use crate::reserve::Reserve;
 use anyhow::{Error, Result, anyhow};
-use node_threads::{CloseRule, Node, Pass};
+use node_threads::CloseRule;
 use pg_archive::Life;
 use pg_log::Log;
-use policy_audit::{PAGE_SIZE, Page};
+use policy_audit::{Audit, PAGE_SIZE, Page};
 use std::alloc::Global;
 use std::mem::replace;
 use std::sync::{Condvar, CondvarTimeouts, Mutex, Wait};
@@ -22,14 +23,6 @@ const FEWEST: usize = 64;
 /// The entries of a page.
 const PAGE: u64 = PAGE_SIZE as u64;
 
-/// A life that has ended, with all its passes, and the one behind it, if there is one.
-#[derive(Drop)]
-pub struct EndedLife {
-    pub node: Node,
-    pub passes: Vec<Pass>,
-    pub next: Option<Life>,
-}
-
 struct State {
     /// Pages of the life that is written, and of the one behind it.
     pages: PageQueue,
@@ -43,6 +36,8 @@ struct State {
     life: Option<EndedLife>,
     is_closing: bool,
     has_ended: bool,
+    /// The life that runs won't be closed.
+    is_left: bool,
     /// Why a life wasn't closed.
     fault: Option<CloseRule>,
 }
@@ -58,6 +53,7 @@ impl Drop for State {
             life: _,
             is_closing: _,
             has_ended: _,
+            is_left: _,
             fault: _,
         } = self;
     }
@@ -141,6 +137,7 @@ impl<'a> Closer<'a> {
                 life: None,
                 is_closing: false,
                 has_ended: false,
+                is_left: false,
                 fault: None,
             }),
             moved: Condvar::new(),
@@ -305,14 +302,39 @@ impl<'a> Closer<'a> {
         let EndedLife { node, passes, .. } = life;
         match node.close(passes) {
             Ok(closed) => {
-                if let Some(archive) = &self.archive {
-                    let mut archive = archive.lock(rt);
-                    self.write_pages(rt, alloc, &mut archive, log);
-                    archive.end(rt, alloc, closed.core.audit(), log);
-                }
+                self.write_kept(rt, alloc, closed.core.audit(), log);
                 Ok(())
             }
             Err(fault) => Err(fault.rule),
+        }
+    }
+
+    /// The life that runs won't be closed: a fault ends the program.
+    pub fn leave<R: Wait>(&self, rt: &R) {
+        self.state.lock(rt).is_left = true;
+    }
+
+    /// Writes what such a life kept, behind its pages. An error where entries aren't in the archive.
+    pub fn write_left<R: Wait + Clock>(
+        &self,
+        rt: &R,
+        alloc: Global,
+        audit: &Audit,
+        log: &Log,
+    ) -> Result<()> {
+        if !self.state.lock(rt).is_left {
+            return Ok(());
+        }
+        self.write_kept(rt, alloc, audit, log);
+        self.check_archive(rt)
+    }
+
+    /// Writes what a life kept, behind its pages.
+    fn write_kept<R: Wait + Clock>(&self, rt: &R, alloc: Global, audit: &Audit, log: &Log) {
+        if let Some(archive) = &self.archive {
+            let mut archive = archive.lock(rt);
+            self.write_pages(rt, alloc, &mut archive, log);
+            archive.end(rt, alloc, audit, log);
         }
     }
 

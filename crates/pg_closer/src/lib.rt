@@ -4,11 +4,13 @@
 
 mod archived;
 mod closing;
+mod ended_life;
 mod page_queue;
 mod recorder;
 mod reserve;
 
 pub use archived::Archived;
-pub use closing::{Closer, EndedLife, not_closed};
+pub use closing::{Closer, not_closed};
+pub use ended_life::EndedLife;
 pub use page_queue::PageQueue;
 pub use recorder::{ArchivePlace, Recorder};

@@ -1,8 +1,9 @@
 //! One life after another, until the end of the program.
 use crate::life::{Site, live};
 use crate::turn::{LifeMaker, last};
-use anyhow::{Result, bail};
+use anyhow::{Error, Result, anyhow, bail};
 use node_net::{Host, Lane};
+use node_threads::Node;
 use pg_closer::{Closer, EndedLife, not_closed};
 use pg_hub::Hub;
 use pg_log::{Level, Log, number};
@@ -32,7 +33,13 @@ pub fn live_on<R: Host>(
         if site.hub.signals.is_quitting() {
             return Ok(ended);
         }
-        lanes = begin_anew(rt, site.hub, maker, closer, ended, begun)?;
+        lanes = match begin_anew(rt, site.hub, maker, closer, ended, begun) {
+            Ok(lanes) => lanes,
+            Err(reason) => {
+                closer.leave(rt);
+                return Err(reason);
+            }
+        };
     }
     unreachable!()
 }
@@ -102,7 +109,7 @@ fn check_memory<R: Wait + Clock>(rt: &R, hub: &Hub, closer: &Closer<'_>) -> Resu
 }
 
 /// Closes the last life, whose lanes have come back. An error where that or the life before has failed,
-/// or entries aren't in the archive.
+/// or entries aren't in the archive. A life that has failed isn't closed: what it kept is written.
 pub fn finish<R: Wait + Clock>(
     rt: &R,
     hub: Hub,
@@ -112,11 +119,35 @@ pub fn finish<R: Wait + Clock>(
     let (alloc, seats) = (hub.alloc, hub.seats);
     let log = Arc::try_clone(&hub.log);
     let (node, house) = hub.into_parts();
-    let lanes = ended?;
-    closer.check(rt)?;
     closer.reserve.release(rt);
+    let lanes = match ended {
+        Ok(lanes) => lanes,
+        Err(reason) => {
+            drop(house);
+            return Err(leave(rt, alloc, closer, node, &*log?, reason));
+        }
+    };
+    closer.check(rt)?;
     let life = last(alloc, seats, node, house, lanes)?;
     close_last(rt, alloc, closer, life, &*log?)
+}
+
+/// Writes what the last life kept, which has failed so: the error, with the entries that are lost.
+fn leave<R: Wait + Clock>(
+    rt: &R,
+    alloc: Global,
+    closer: &Closer<'_>,
+    node: Node,
+    log: &Log,
+    reason: Error,
+) -> Error {
+    let shared = node.shared.lock(rt);
+    let written = closer.write_left(rt, alloc, shared.core().audit(), log);
+    drop(shared);
+    match written {
+        Ok(()) => reason,
+        Err(lost) => anyhow!("{reason}; {lost}"),
+    }
 }
 
 fn close_last<R: Wait + Clock>(

@@ -149,9 +149,12 @@ impl LifeMaker {
         let (node, new) = Node::new(hub.alloc, opening, passes_for(hub.seats))?;
         let mut new = new.into_iter();
         let mut passes = passes_of(hub.alloc, hub.seats, lanes)?;
+        // First what may fail: the life that has ended is lost behind the exchange.
+        let of_house = house_passes(hub.alloc, hub.seats, &mut new)?;
+        let lanes = self.lanes.make_all(hub.alloc, &mut new)?;
+        let mut new = of_house.into_iter();
         exchange(rt, hub, &node, &self.opening.cookie, &mut new, &mut passes)?;
         hub.wake(rt);
-        let lanes = self.lanes.make_all(hub.alloc, &mut new)?;
         let ended = EndedLife { node, passes, next };
         Ok((lanes, ended))
     }
@@ -260,6 +263,15 @@ fn copy(alloc: Global, opening: &Opening) -> Result<Opening> {
         entries: opening.entries,
         links: opening.links,
     })
+}
+
+/// The passes of a new house, which stand before those of the lanes.
+fn house_passes(alloc: Global, seats: u32, passes: &mut vec::IntoIter<Pass>) -> Result<Vec<Pass>> {
+    let mut taken = Vec::new(alloc);
+    for _ in 0..seats.saturating_add(1) {
+        taken.push(next_pass(passes)?)?;
+    }
+    Ok(taken)
 }
 
 fn passes_of(alloc: Global, seats: u32, lanes: Vec<Lane>) -> Result<Vec<Pass>> {
