@@ -118,24 +118,29 @@ impl Targets {
 
     /// All, in the order in which they were added.
     pub fn all<R: Wait>(&self, rt: &R, alloc: Global) -> Result<Vec<Arc<Target>>, OutOfMemory> {
-        Ok(self.from(rt, alloc, 0)?.0)
-    }
-
-    /// Those that were added from this number on, and the number of the next one.
-    pub fn from<R: Wait>(
-        &self,
-        rt: &R,
-        alloc: Global,
-        first: u64,
-    ) -> Result<(Vec<Arc<Target>>, u64), AllocError> {
         let state = self.state.lock(rt);
         let mut targets = Vec::new(alloc);
         for numbered in state.targets.iter() {
+            targets.push(Arc::try_clone(&numbered.target)?)?;
+        }
+        Ok(targets)
+    }
+
+    /// The first of those that were added from this number on, if there is one, and the number
+    /// behind its own.
+    pub fn next_from<R: Wait>(
+        &self,
+        rt: &R,
+        first: u64,
+    ) -> Result<Option<(Arc<Target>, u64)>, AllocError> {
+        let state = self.state.lock(rt);
+        for numbered in state.targets.iter() {
             if numbered.number >= first {
-                targets.push(Arc::try_clone(&numbered.target)?)?;
+                let target = Arc::try_clone(&numbered.target)?;
+                return Ok(Some((target, numbered.number.saturating_add(1))));
             }
         }
-        Ok((targets, state.next))
+        Ok(None)
     }
 
     /// Nobody connects for the last one that was given out so.

@@ -2,6 +2,7 @@
 use crate::arrivals::Arrivals;
 use crate::backoff::Backoff;
 use crate::home::Home;
+use crate::lane::Lane;
 use crate::lanes::Lanes;
 use crate::serving::{Opener, Served, serve_stream};
 use dial_targets::PeerKind;
@@ -66,10 +67,24 @@ fn take_in<R: Threads + Wait + Clock + Sync>(
     stream: TcpStream,
     kind: PeerKind,
 ) -> bool {
-    let Some(lane) = home.lanes.take_for_peer(home.rt) else {
+    let Some(lane) = lane_for_peer(home) else {
         return false;
     };
     let (lane, served) = serve_stream(home, lane, stream, Opener::Peer, kind);
     home.lanes.give_back(home.rt, lane);
     served == Served::CameUp
+}
+
+/// A lane, once there is one. Who waits for it says that there is none, and who has the last one.
+fn lane_for_peer<R: Wait>(home: &Home<'_, R>) -> Option<Lane> {
+    let Home {
+        rt,
+        node,
+        lanes,
+        ..
+    } = *home;
+    lanes.look_for_peer(rt, node);
+    let lane = lanes.take_for_peer(rt);
+    lanes.look_for_peer(rt, node);
+    lane
 }

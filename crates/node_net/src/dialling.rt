@@ -20,7 +20,7 @@ const LOOK: u64 = 1_000;
 /// nodes of one name, which end each other's link to a peer, dial it no more often than that.
 const EARLY: u64 = 60;
 
-/// Starts a thread that keeps a link to a peer: whether one could be made.
+/// Starts a thread that keeps a link to a peer, for which a lane is kept: whether it could be made.
 pub fn start_dialling<'s, E: 's, R: Host + 's>(
     scope: &'s Scope<'s, E>,
     rt: &'s R,
@@ -29,9 +29,14 @@ pub fn start_dialling<'s, E: 's, R: Host + 's>(
     lanes: &'s Lanes<'s>,
     target: Arc<Target>,
 ) -> bool {
-    scope
+    lanes.keep_one_more(rt);
+    let is_made = scope
         .spawn(move || keep_dialling(rt, alloc, node, lanes, &target))
-        .is_ok()
+        .is_ok();
+    if !is_made {
+        lanes.keep_one_less(rt);
+    }
+    is_made
 }
 
 /// Dials a peer whenever no link to it is up, until the stop, or the end of the target: then no
@@ -52,7 +57,8 @@ fn keep_dialling<'a, R: Host>(
     let mut tries = Tries::new();
     for _ in rt.forever() {
         // A dial that the node refuses is an entry, too.
-        if wait_while_up(rt, node, lanes, target) || !dial_once(&home, target, &mut tries) {
+        let is_over = wait_while_up(&home, target, &mut tries);
+        if is_over || !dial_once(&home, target, &mut tries) {
             lanes.keep_one_less(rt);
             return;
         }
@@ -102,7 +108,7 @@ fn note<R: Wait + Clock>(home: &Home<'_, R>, target: &Target, dialled: Dialled, 
     };
     target.rest(rt, fault, next);
     if fault.is_some() {
-        lanes.count_failed_dial();
+        lanes.counts().failed_dial();
         node.wake(rt);
     }
 }
@@ -111,9 +117,15 @@ fn is_up<R: Wait>(rt: &R, node: &Node, target: &Target) -> bool {
     node.shared.lock(rt).core().is_peer_up(target.peer())
 }
 
-/// Waits while a link to the peer is up that it has opened itself; no lane is kept meanwhile.
-/// Whether the stop has come, or the end of the target.
-fn wait_while_up<R: Wait + Clock>(rt: &R, node: &Node, lanes: &Lanes<'_>, target: &Target) -> bool {
+/// Waits while a link to the peer is up that it has opened itself; no lane is kept meanwhile, and
+/// pauses begin anew behind it. Whether the stop has come, or the end of the target.
+fn wait_while_up<R: Wait + Clock>(home: &Home<'_, R>, target: &Target, tries: &mut Tries) -> bool {
+    let Home {
+        rt,
+        node,
+        lanes,
+        ..
+    } = *home;
     if lanes.is_draining(rt) {
         lanes.wait_for_stop(rt);
     }
@@ -124,6 +136,7 @@ fn wait_while_up<R: Wait + Clock>(rt: &R, node: &Node, lanes: &Lanes<'_>, target
         return false;
     }
     target.come_up(rt);
+    tries.reset();
     lanes.keep_one_less(rt);
     let is_stopping = look_until_down(rt, node, lanes, target);
     lanes.keep_one_more(rt);
@@ -160,7 +173,8 @@ fn dial<R: Host>(home: &Home<'_, R>, target: &Target) -> Dialled {
         Some(Err(fault)) => return Dialled::Failed(fault),
         None => return Dialled::Stopped,
     };
-    let Some(lane) = lanes.take_for_dial(rt) else {
+    lanes.look_for_dial(rt, node);
+    let Some(lane) = lanes.take_for_dial(rt, target) else {
         return Dialled::Stopped;
     };
     let begun = Begun::now(rt, node);
@@ -231,6 +245,6 @@ fn creation_in(entry: &Entry, wanted: &NodeName) -> Option<u32> {
 /// Says that links to the peer end early, and wakes who waits for the node, so that it is looked at.
 fn tell_unsteady<R: Wait>(rt: &R, node: &Node, lanes: &Lanes<'_>, target: &Target) {
     target.note_unsteady();
-    lanes.count_early_end();
+    lanes.counts().early_end();
     node.wake(rt);
 }

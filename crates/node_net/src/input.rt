@@ -111,7 +111,7 @@ fn look_for_stock<R: Wait + Clock>(at: &HostedLink<'_, R>, piece: &[u8]) {
     if let Some(flags) = name_flags(piece)
         && is_stock(flags)
     {
-        at.lanes.count_stock();
+        at.lanes.counts().stock_node();
         at.node.wake(at.rt);
     }
 }
@@ -137,7 +137,7 @@ fn look_for_reflection<R: Wait>(
     match guard.finds(rt, lanes, piece) {
         Ok(false) => Ok(()),
         Ok(true) => {
-            lanes.count_reflection();
+            lanes.counts().reflection();
             Err(io::Error::from(ErrorKind::PermissionDenied))
         }
         Err(_) => Err(io::Error::from(ErrorKind::OutOfMemory)),

@@ -2,13 +2,13 @@
 ghost use Rattle.std.specs.Prelude.{◌≡◌, IfOk};
 
 use crate::lane::Lane;
-use crate::met::Met;
+use crate::met::{Counts, Met};
 use dial_targets::{Limits, PeerKind, Stops, Target};
 use link_notes::{Edges, Ending, Notes};
+use node_threads::Node;
 use std::alloc::Global;
 use std::io::{self, ErrorKind};
 use std::net::{Shutdown, TcpStream};
-use std::sync::atomic::{AtomicU64, Ordering};
 use std::sync::{Arc, Condvar, CondvarTimeouts, Mutex, MutexGuard, Wait};
 use std::time::{Clock, Duration};
 
@@ -60,12 +60,7 @@ pub struct Lanes<'a> {
     stopped: Condvar,
     limits: Limits,
     notes: &'a Notes,
-    reflections: AtomicU64,
-    fillings: AtomicU64,
-    early_ends: AtomicU64,
-    failed_dials: AtomicU64,
-    stock_nodes: AtomicU64,
-    native_nodes: AtomicU64,
+    counts: Counts,
 }
 
 impl Drop for Lanes<'_> {
@@ -76,12 +71,7 @@ impl Drop for Lanes<'_> {
             stopped: _,
             limits: _,
             notes: _,
-            reflections: _,
-            fillings: _,
-            early_ends: _,
-            failed_dials: _,
-            stock_nodes: _,
-            native_nodes: _,
+            counts: _,
         } = self;
     }
 }
@@ -110,12 +100,7 @@ impl<'a> Lanes<'a> {
             stopped: Condvar::new(),
             limits,
             notes,
-            reflections: AtomicU64::new(0),
-            fillings: AtomicU64::new(0),
-            early_ends: AtomicU64::new(0),
-            failed_dials: AtomicU64::new(0),
-            stock_nodes: AtomicU64::new(0),
-            native_nodes: AtomicU64::new(0),
+            counts: Counts::new(),
         }
     }
 
@@ -127,12 +112,7 @@ impl<'a> Lanes<'a> {
             stopped: _,
             limits: _,
             notes: _,
-            reflections: _,
-            fillings: _,
-            early_ends: _,
-            failed_dials: _,
-            stock_nodes: _,
-            native_nodes: _,
+            counts: _,
         } = self;
         let State { free, .. } = state.into_inner();
         free
@@ -169,15 +149,7 @@ impl<'a> Lanes<'a> {
 
     /// What was met up to now.
     pub fn met(&self) -> Met {
-        Met {
-            reflections: self.reflections.load(Ordering::SeqCst),
-            fillings: self.fillings.load(Ordering::SeqCst),
-            early_ends: self.early_ends.load(Ordering::SeqCst),
-            failed_dials: self.failed_dials.load(Ordering::SeqCst),
-            stock_nodes: self.stock_nodes.load(Ordering::SeqCst),
-            native_nodes: self.native_nodes.load(Ordering::SeqCst),
-            refused_atoms: self.notes.edges.refused_atoms(),
-        }
+        self.counts.met(self.notes.edges.refused_atoms())
     }
 
     /// What its links with stock nodes share with those of other lives.
@@ -190,24 +162,8 @@ impl<'a> Lanes<'a> {
         self.notes.edges.note(rt, link, kind);
     }
 
-    pub(crate) fn count_stock(&self) {
-        self.stock_nodes.fetch_add(1, Ordering::SeqCst);
-    }
-
-    pub(crate) fn count_native(&self) {
-        self.native_nodes.fetch_add(1, Ordering::SeqCst);
-    }
-
-    pub(crate) fn count_reflection(&self) {
-        self.reflections.fetch_add(1, Ordering::SeqCst);
-    }
-
-    pub(crate) fn count_early_end(&self) {
-        self.early_ends.fetch_add(1, Ordering::SeqCst);
-    }
-
-    pub(crate) fn count_failed_dial(&self) {
-        self.failed_dials.fetch_add(1, Ordering::SeqCst);
+    pub(crate) fn counts(&self) -> &Counts {
+        &self.counts
     }
 
     /// No link is served from now on but those that are by now.
@@ -226,9 +182,10 @@ impl<'a> Lanes<'a> {
         drop(state);
     }
 
-    /// Those who dial look whether their targets have ended.
+    /// Those who dial look whether their targets have ended, also where they wait for a lane.
     pub fn wake_dials<R: Wait>(&self, rt: &R) {
         drop(self.state.lock(rt));
+        self.freed.notify_all();
         self.stopped.notify_all();
     }
 
@@ -269,36 +226,58 @@ impl<'a> Lanes<'a> {
 
     /// A lane for a connection that a peer has opened, once there is one; none after the stop.
     pub(crate) fn take_for_peer<R: Wait>(&self, rt: &R) -> Option<Lane> {
-        let mut state = self.state.lock(rt);
-        self.look_whether_full(&mut state);
+        let state = self.state.lock(rt);
         let mut state = self.freed.wait_while(rt, state, |state| {
             !state.is_stopping && (state.is_draining || state.free.len() <= state.kept())
         });
-        let lane = take_free(&mut state);
-        self.look_whether_full(&mut state);
-        lane
+        take_free(&mut state)
     }
 
-    /// Counts it once where no lane is left for a further peer.
-    fn look_whether_full(&self, state: &mut State) {
-        if state.free.len() <= state.kept() && !state.is_full && !state.is_stopping {
-            state.is_full = true;
-            self.fillings.fetch_add(1, Ordering::SeqCst);
-        }
-    }
-
-    /// The lane for a dial, once there is one; none after the stop.
-    pub(crate) fn take_for_dial<R: Wait>(&self, rt: &R) -> Option<Lane> {
-        let mut state = self.state.lock(rt);
-        if state.free.is_empty() {
-            self.look_whether_full(&mut state);
-        }
+    /// The lane for a dial, once there is one; none after the stop, and after the target's end.
+    pub(crate) fn take_for_dial<R: Wait>(&self, rt: &R, target: &Target) -> Option<Lane> {
+        let state = self.state.lock(rt);
         let mut state = self.freed.wait_while(rt, state, |state| {
-            !state.is_stopping && (state.is_draining || state.free.is_empty())
+            !state.is_stopping
+                && !target.has_ended()
+                && (state.is_draining || state.free.is_empty())
         });
+        if target.has_ended() {
+            return None;
+        }
         let lane = take_free(&mut state)?;
         state.dials = state.dials.saturating_sub(1);
         Some(lane)
+    }
+
+    /// Counts it, once until a lane is free again, where none is left for a further peer.
+    pub(crate) fn look_for_peer<R: Wait>(&self, rt: &R, node: &Node) {
+        let state = self.state.lock(rt);
+        let is_full = state.free.len() <= state.kept();
+        self.count_full(rt, node, state, is_full);
+    }
+
+    /// The same where none is left for a dial.
+    pub(crate) fn look_for_dial<R: Wait>(&self, rt: &R, node: &Node) {
+        let state = self.state.lock(rt);
+        let is_full = state.free.is_empty();
+        self.count_full(rt, node, state, is_full);
+    }
+
+    /// Wakes who waits for the node behind the count, since no entry comes of it.
+    fn count_full<R: Wait>(
+        &self,
+        rt: &R,
+        node: &Node,
+        mut state: MutexGuard<'_, State>,
+        is_full: bool,
+    ) {
+        if !is_full || state.is_full || state.is_stopping {
+            return;
+        }
+        state.is_full = true;
+        drop(state);
+        self.counts.filling();
+        node.wake(rt);
     }
 
     /// Takes a lane back. There is room for it, since it was taken from here.
@@ -325,7 +304,7 @@ impl<'a> Lanes<'a> {
 
     /// A lane is kept for that dial again, or for a further one: while no link to its peer is up,
     /// no connection takes it that a peer has opened. For all dials together at most 32 are kept.
-    pub fn keep_one_more<R: Wait>(&self, rt: &R) {
+    pub(crate) fn keep_one_more<R: Wait>(&self, rt: &R) {
         let mut state = self.state.lock(rt);
         state.dials = state.dials.saturating_add(1);
     }

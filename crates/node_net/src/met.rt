@@ -1,4 +1,5 @@
 //! What an operator should know of the links of a node.
+use std::sync::atomic::{AtomicU64, Ordering};
 
 /// What an operator should know of the links of a node: how often it was met.
 #[derive(Clone, Copy, Debug, PartialEq, Eq)]
@@ -29,4 +30,77 @@ impl Met {
         native_nodes: 0,
         refused_atoms: 0,
     };
+}
+
+/// How often it was met up to now, by all threads that serve links.
+pub(crate) struct Counts {
+    reflections: AtomicU64,
+    fillings: AtomicU64,
+    early_ends: AtomicU64,
+    failed_dials: AtomicU64,
+    stock_nodes: AtomicU64,
+    native_nodes: AtomicU64,
+}
+
+impl Drop for Counts {
+    fn drop(self) {
+        let Counts {
+            reflections: _,
+            fillings: _,
+            early_ends: _,
+            failed_dials: _,
+            stock_nodes: _,
+            native_nodes: _,
+        } = self;
+    }
+}
+
+impl Counts {
+    pub(crate) fn new() -> Counts {
+        Counts {
+            reflections: AtomicU64::new(0),
+            fillings: AtomicU64::new(0),
+            early_ends: AtomicU64::new(0),
+            failed_dials: AtomicU64::new(0),
+            stock_nodes: AtomicU64::new(0),
+            native_nodes: AtomicU64::new(0),
+        }
+    }
+
+    /// With the rows that weren't told to stock nodes, which are counted elsewhere.
+    pub(crate) fn met(&self, refused_atoms: u64) -> Met {
+        Met {
+            reflections: self.reflections.load(Ordering::SeqCst),
+            fillings: self.fillings.load(Ordering::SeqCst),
+            early_ends: self.early_ends.load(Ordering::SeqCst),
+            failed_dials: self.failed_dials.load(Ordering::SeqCst),
+            stock_nodes: self.stock_nodes.load(Ordering::SeqCst),
+            native_nodes: self.native_nodes.load(Ordering::SeqCst),
+            refused_atoms,
+        }
+    }
+
+    pub(crate) fn reflection(&self) {
+        self.reflections.fetch_add(1, Ordering::SeqCst);
+    }
+
+    pub(crate) fn filling(&self) {
+        self.fillings.fetch_add(1, Ordering::SeqCst);
+    }
+
+    pub(crate) fn early_end(&self) {
+        self.early_ends.fetch_add(1, Ordering::SeqCst);
+    }
+
+    pub(crate) fn failed_dial(&self) {
+        self.failed_dials.fetch_add(1, Ordering::SeqCst);
+    }
+
+    pub(crate) fn stock_node(&self) {
+        self.stock_nodes.fetch_add(1, Ordering::SeqCst);
+    }
+
+    pub(crate) fn native_node(&self) {
+        self.native_nodes.fetch_add(1, Ordering::SeqCst);
+    }
 }

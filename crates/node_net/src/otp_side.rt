@@ -47,7 +47,7 @@ pub(crate) fn end_by<R: Wait + Clock>(at: &HostedLink<'_, R>, fault: LinkFault) 
     let kind = match fault {
         LinkFault::OutOfMemory => ErrorKind::OutOfMemory,
         LinkFault::NotStock => {
-            at.lanes.count_native();
+            at.lanes.counts().native_node();
             at.node.wake(at.rt);
             ErrorKind::PermissionDenied
         }

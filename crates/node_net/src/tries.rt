@@ -52,6 +52,11 @@ impl Tries {
         }
     }
 
+    /// A link to the peer was up that it has opened. What is known of early ends stays.
+    pub(crate) fn reset(&mut self) {
+        self.pauses.reset();
+    }
+
     /// Counts a dial: whether it is the second one to the same life of the peer that has ended early. A peer that has begun anew is
     /// dialled at once. One that hangs up again and again may have another peer of this node's name, and is left in peace for longer.
     pub(crate) fn count(&mut self, dialled: Dialled) -> bool {

@@ -5,7 +5,9 @@
 mod keeper;
 mod life;
 mod lives;
+mod threads;
 mod turn;
+mod warnings;
 
 pub use keeper::keep_on;
 pub use life::Site;
