@@ -6,6 +6,7 @@ import time
 from cases_long import lives_of
 from field import case
 from node import asked, await_members, await_nodes, member, new_pid, nodes, size, start
+from peer import connect
 from waiting import expect, expect_that, until
 
 
@@ -45,6 +46,23 @@ def undialled_before_it_is_up(field):
     field.node("a@h", port=port)
     time.sleep(3)
     expect("who is up", [], nodes(b))
+
+
+@case
+def undialled_while_it_waits_for_a_lane(field):
+    """A dial that waits for a lane ends at `undial`, though none is free: its connection is closed, and nothing of it is an entry."""
+    b = field.node("b@h", "--setuptime", "60000")
+    for _ in range(64):
+        field.keep(connect(b.port))
+    until("a full node", lambda: b.log("warn full "))
+    listener = field.listener()
+    asked(b, f"dial a@h=127.0.0.1:{listener.getsockname()[1]}")
+    link, _ = listener.accept()
+    field.keep(link).settimeout(10)
+    before = size(b)
+    asked(b, "undial a@h")
+    expect("what comes before its end", b"", link.recv(1))
+    expect("the size of the audit", before, size(b))
 
 
 @case

@@ -12,7 +12,7 @@ import time
 
 from cases_keeping import moves
 from field import case
-from node import asked, await_members, member, new_pid, start
+from node import asked, await_members, limit_space, member, new_pid, start
 from talk import Control
 from waiting import LIMIT, expect, expect_that, seconds_since, until
 
@@ -194,10 +194,7 @@ def no_room_for_a_thread(field):
     """A client for which no thread can be made is told `fault full`, and served once one can."""
     a = field.node("a@h", port=None)
     new_pid(a)
-    with open(f"/proc/{a.process.pid}/statm", encoding="ascii") as file:
-        space = int(file.read().split()[0]) * resource.getpagesize()
-    before = resource.prlimit(a.process.pid, resource.RLIMIT_AS)
-    resource.prlimit(a.process.pid, resource.RLIMIT_AS, (space + 500_000, before[1]))
+    before = limit_space(a.process.pid, 500_000)
     expect("an answer without a thread", "fault full", field.control(a).next_answer("an answer"))
     resource.prlimit(a.process.pid, resource.RLIMIT_AS, before)
     new_pid(field.control(a))

@@ -2,13 +2,13 @@
 
 import contextlib
 import os
-import resource
 import subprocess
 import threading
 import time
 
+from cases_long import lives_of
 from field import case
-from node import asked, await_members, await_nodes, member, members, new_pid, plain_lines
+from node import asked, await_members, await_nodes, limit_space, member, members, new_pid, plain_lines
 from talk import Control
 from waiting import LIMIT, expect, expect_that, seconds_since, until
 
@@ -263,7 +263,7 @@ def memory_at_its_end(field):
     for _ in range(1000):
         asked(busy, f"leave pg g {pid}")
         asked(busy, f"join pg g {pid}")
-    limit_memory(a.process.pid)
+    limit_space(a.process.pid, 0)
     want_memory(busy, pid)
     leaving.close()
     await_members(b, [], limit=4)
@@ -288,11 +288,32 @@ def one_arena():
         del os.environ["MALLOC_ARENA_MAX"]
 
 
-def limit_memory(process):
-    """The process gets no more memory from the system than it has."""
-    with open(f"/proc/{process}/statm", encoding="ascii") as sizes:
-        have = int(sizes.read().split()[0]) * resource.getpagesize()
-    resource.prlimit(process, resource.RLIMIT_AS, (have, resource.RLIM_INFINITY))
+@case
+def archive_of_a_node_without_memory(field):
+    """What a node kept that ends for want of memory goes to its archive."""
+    path = os.path.join(field.folder, "audit")
+    with one_arena():
+        a = field.node("a@h", "--audit", path, port=None)
+    control = field.control(a)
+    pid = member(control)
+    limit_space(a.process.pid, 0)
+    answered = fill_memory(control, pid)
+    expect("the status", 1, a.status())
+    expect_one("its last line", a.errors()[-1:], "error: out of memory")
+    (life,) = lives_of(path)
+    expect_that(len(life) >= answered, f"at least {answered} entries in the archive", (len(life), a.errors()[-1:]))
+
+
+def fill_memory(control, pid):
+    """Joins groups of long names until that isn't answered as before: how often it was."""
+    for number in range(900):
+        try:
+            answer = control.ask(f"join pg {number:0255} {pid}")
+        except (AssertionError, OSError):
+            return number
+        if answer != "ok":
+            return number
+    raise AssertionError("expected an end of memory within 900 calls, came none")
 
 
 def want_memory(control, pid):

@@ -2,13 +2,14 @@
 name, and behind a turn."""
 
 import os
+import resource
 import socket
 import threading
 import time
 
 from cases_long import fill
 from field import case
-from node import asked, await_members, await_nodes, member, start
+from node import asked, await_members, await_nodes, limit_space, member, start
 from peer import Peer, connect, good_peer
 from waiting import LIMIT, expect, expect_that, until
 
@@ -63,7 +64,7 @@ def mesh_of_64(field):
 
 @case
 def full_node(field):
-    """A node with 64 links says so once; a further peer waits, and comes up when one has gone."""
+    """A node with 64 links says so once a minute at most; a further peer waits, and comes up when one has gone."""
     a = field.node("a@h")
     peers = [good_peer(field, a, f"peer{number}@h") for number in range(64)]
     until("a word that the node is full", lambda: said(a, FULL), limit=10)
@@ -75,6 +76,25 @@ def full_node(field):
     peers[0].close()
     late.stream.settimeout(LIMIT)
     expect("the status of a peer that has waited", "ok", late.receive_status())
+    # (it has the last lane now)
+    time.sleep(1)
+    expect("how often it is said in a minute", 1, len(said(a, FULL)))
+
+
+@case
+def dialled_once_a_thread_can_be_made(field):
+    """A peer for which no thread can be made for a moment is dialled once one can; the log says it once."""
+    a, b = field.node("a@h"), field.node("b@h")
+    # (all that it begins with have begun: 64 of them wait for peers)
+    until("its threads", lambda: b.memory()[1], lambda count: count >= 75)
+    time.sleep(0.2)
+    before = limit_space(b.process.pid, 500_000)
+    asked(b, f"dial a@h=127.0.0.1:{a.port}")
+    until("a word that there is no thread", lambda: said(b, "warn no_thread "))
+    time.sleep(2)
+    resource.prlimit(b.process.pid, resource.RLIMIT_AS, before)
+    await_nodes(b, ["a@h"], limit=10)
+    expect("how often it was said", 1, len(said(b, "warn no_thread ")))
 
 
 @case

@@ -6,9 +6,9 @@ import socket
 import subprocess
 import time
 
-from cases_life import Silent, limit_memory, one_arena, use_up
+from cases_life import Silent, one_arena, use_up
 from field import case
-from node import asked, await_members, await_nodes, member, new_pid, start
+from node import asked, await_members, await_nodes, limit_space, member, new_pid, start
 from talk import Control
 from waiting import LIMIT, expect, expect_that, seconds_since, until
 
@@ -50,7 +50,7 @@ def line_without_memory(field):
     write(a, b"start pg\n")
     expect("the first answer", b"ok\n", a.process.stdout.readline())
     until("all threads of the node", lambda: threads(a), lambda count: count >= 7)
-    limit_memory(a.process.pid)
+    limit_space(a.process.pid, 0)
     write(a, b"x" * LONGEST + b"\nspawn\n")
     expect("the answer to a long line", b"fault out of memory\n", a.process.stdout.readline())
     answer = a.process.stdout.readline()
@@ -79,7 +79,7 @@ def client_line_without_memory(field):
     other, control = field.control(a), field.control(a)
     pid = member(other)
     new_pid(control)
-    limit_memory(a.process.pid)
+    limit_space(a.process.pid, 0)
     expect("the answer to a long line", "fault out of memory", control.ask("x" * LONGEST))
     expect_that(control.ask("nodes") == "nodes", "an answer", "another")
     asked(other, f"leave pg g {pid}")

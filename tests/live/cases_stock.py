@@ -1,5 +1,7 @@
 """Links and places for stock nodes of Erlang/OTP, as far as that needs none: the other end is written by hand."""
 
+import struct
+import threading
 import time
 
 from field import case
@@ -34,6 +36,68 @@ def quit_beside_a_silent_epmd(field):
     node.quit()
     expect_that(seconds_since(began) < AT_ONCE, f"an end within {AT_ONCE} s", f"{seconds_since(began):.1f} s")
     expect("faults in the log", [], node.log("warn not_registered"))
+
+
+@case
+def dripping_epmd(field):
+    """An EPMD that says a byte now and then holds a dial no longer than `--setuptime`."""
+    epmd = field.listener()
+    dripping = threading.Thread(target=drip, args=(epmd,), daemon=True)
+    dripping.start()
+    words = ["--otp-dial", "s@127.0.0.1", f"--epmd={epmd.getsockname()[1]}", "--setuptime", "1000"]
+    node = field.start("w@127.0.0.1", *words, port=None).ready()
+    until("the end of a dial", lambda: node.ask("dials"), lambda came: came.endswith(" no_epmd"), limit=8)
+
+
+def drip(listener):
+    """Answers that a name is there, and then says a byte every 0.3 seconds, to the first who asks."""
+    link, _ = listener.accept()
+    with link:
+        try:
+            link.sendall(b"w")
+            for _ in range(100):
+                link.sendall(b"\0")
+                time.sleep(0.3)
+        except OSError:
+            pass
+
+
+@case
+def found_by_epmd(field):
+    """A node is registered at EPMD, whose connection stays, and dials a stock node at the port that EPMD says."""
+    epmd, other = field.listener(), field.listener()
+    words = ["--otp-listen", "127.0.0.1:0", "--otp-dial", "s@127.0.0.1", f"--epmd={epmd.getsockname()[1]}"]
+    node = field.start("w@127.0.0.1", *words, port=None).ready()
+    answers = {b"x": b"v\0" + struct.pack(">I", 7),
+               b"z": b"w\0" + struct.pack(">HBBHHH", other.getsockname()[1], 72, 0, 6, 5, 1) + b"s" + bytes(2)}
+    asked_for = {answer_as_epmd(field, epmd, answers) for _ in answers}
+    expect("what EPMD was asked", set(answers), asked_for)
+    field.keep(other.accept()[0])
+    until("a word that it is registered", lambda: node.log("info registered name=w "))
+
+
+def answer_as_epmd(field, epmd, answers):
+    """Answers the next that EPMD is asked: what that is."""
+    link = field.keep(epmd.accept()[0])
+    kind = link.recv(1_024)[2:3]
+    link.sendall(answers[kind])
+    if kind == b"z":
+        link.close()
+    return kind
+
+
+@case
+def misled_stock_nodes(field):
+    """Stock nodes that connect where nodes of this program do are one line a minute, however often they come."""
+    a = field.node("a@h")
+    for number in range(3):
+        peer = field.keep(Peer(connect(a.port), f"s{number}@127.0.0.1", hidden=True))
+        peer.flags |= MANDATORY
+        peer.send(peer.name_frame())
+        until("it is heard", lambda: a.ask("size"), lambda came, number=number: int(came.split()[1]) > number)
+        time.sleep(0.3)
+    until("a warning", lambda: a.log("warn stock_node "))
+    expect("how many there are", 1, len(a.log("warn stock_node ")))
 
 
 @case

@@ -4,9 +4,9 @@ import signal
 import time
 
 from field import case
-from node import await_members, member, size, start
+from node import await_members, await_nodes, member, size, start
 from peer import good_peer
-from waiting import expect, expect_that, seconds_since
+from waiting import expect, expect_that, seconds_since, until
 
 
 @case
@@ -89,3 +89,22 @@ def dial_to_nobody(field):
     expect("the size of the audit", before, size(a))
     field.node("b@h", port=port)
     a.told("! up b@h .*")
+
+
+@case
+def pauses_begin_anew(field):
+    """A peer that was up by a link of its own is dialled again at once, and then after short pauses, though dials had failed before."""
+    b = field.node("b@h", "--dial", f"a@h=127.0.0.1:{field.free_port()}")
+    until("three dials", lambda: times_dialled(b), lambda times: times >= 3)
+    a = field.node("a@h", dial=[b])
+    await_nodes(b, ["a@h"])
+    # (until the pause is over in which it came up)
+    time.sleep(3)
+    before = times_dialled(b)
+    a.kill()
+    until("three further dials", lambda: times_dialled(b), lambda times: times >= before + 3, limit=4)
+
+
+def times_dialled(node):
+    """How often the node has dialled its one peer."""
+    return int(node.ask("dials").split()[3])

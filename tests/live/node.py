@@ -2,6 +2,7 @@
 
 import os
 import re
+import resource
 import subprocess
 
 from talk import Control, Talk
@@ -93,6 +94,15 @@ class Node(Talk):
         with open(f"/proc/{self.process.pid}/status", encoding="ascii") as status:
             fields = dict(line.split(":", 1) for line in status if ":" in line)
         return int(fields["VmRSS"].split()[0]), int(fields["Threads"])
+
+
+def limit_space(process, more):
+    """The process gets so many bytes of address space more than it has, and no further ones: its limits before."""
+    with open(f"/proc/{process}/statm", encoding="ascii") as sizes:
+        have = int(sizes.read().split()[0]) * resource.getpagesize()
+    before = resource.prlimit(process, resource.RLIMIT_AS)
+    resource.prlimit(process, resource.RLIMIT_AS, (have + more, before[1]))
+    return before
 
 
 def plain_lines(path):
