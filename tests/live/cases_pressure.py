@@ -88,8 +88,8 @@ def client_line_without_memory(field):
 
 @case
 def reads_without_memory(field):
-    """A read that finds no memory for its answer is answered so: neither the client's connection
-    nor anything of others ends by it."""
+    """A read, or a monitor, that finds no memory for its answer is answered so: neither the client's
+    connection nor anything of others ends by it."""
     reading = os.path.join(field.folder, "reading")
     with one_arena():
         a = field.node("a@h", "--control-read", reading)
@@ -102,8 +102,8 @@ def reads_without_memory(field):
     for number in range(GROUPS):
         expect("the answer to a join", "ok", owner.next_answer("an answer"))
     limit_memory(a.process.pid)
-    for _ in range(4):
-        expect("the answer to a read", "fault out of memory", client.ask("groups pg"))
+    for line in ["groups pg", "monitor_scope pg"] * 4:
+        expect(f"the answer to {line}", "fault out of memory", client.ask(line))
     group = "g" * 250 + "0000"
     await_members(owner, [pid], group)
     asked(client, "nodes", "nodes b@h")

@@ -29,7 +29,7 @@ pub struct Shared {
     counts: Vec<u32>,
     /// The writers of all links are to hang up. No contract rests on it.
     stuck: bool,
-    /// How often in a row memory was wanting for an event. No contract rests on it.
+    /// How often in a row memory was wanting for an event, those of monitors aside. No contract rests on it.
     wants: u32,
     /// The number of the last entry that is news, or 0. No contract rests on it.
     last_news: u32,
@@ -107,7 +107,8 @@ impl Shared {
         self.core.forget()
     }
 
-    /// Whether memory was wanting for an event, and again for the next one, after the node had let go what it can.
+    /// Whether memory was wanting for an event, and again for the next one, after the node had let go what it can. Who only
+    /// watches can do without an answer: events of monitors don't count.
     pub fn wants_memory(&self) -> bool {
         self.wants >= LASTING
     }
@@ -119,13 +120,15 @@ impl Shared {
         self.core.let_go();
     }
 
-    /// Notes that memory was wanting for an event, and lets go what the node can do without.
-    fn note_want(&mut self) -> CallFault
+    /// Notes that memory was wanting for an event, which may count, and lets go what the node can do without.
+    fn note_want(&mut self, counts: bool) -> CallFault
         ensures fault { result ≡ faults.Core core_faults.OutOfMemory }
         ensures same { self.new ≡ self.old }
     {
         self.let_go();
-        self.wants = LASTING.min(self.wants.saturating_add(1));
+        if counts {
+            self.wants = LASTING.min(self.wants.saturating_add(1));
+        }
         CallFault::Core(CoreFault::OutOfMemory)
     }
 
@@ -257,13 +260,14 @@ impl Shared {
             drop(event);
             return Err(CallFault::Core(CoreFault::Refused(Rule::EntriesFull)));
         }
+        let counts = !is_watching(&event);
         let Ok(copy) = room_and_copy(self.alloc, &mut pass.calls, &event) else {
             drop(event);
-            return Err(self.note_want());
+            return Err(self.note_want(counts));
         };
         let Ok((number, verdict)) = self.advance(pass.seat, event) else {
             drop(copy);
-            return Err(self.note_want());
+            return Err(self.note_want(counts));
         };
         let call = Call {
             number,
@@ -324,6 +328,14 @@ fn is_quiet(event: &Event) -> bool {
             | Event::MonitorScope(_)
             | Event::Demonitor(_)
             | Event::Updates(_)
+    )
+}
+
+/// Whether an event is one of monitors.
+fn is_watching(event: &Event) -> bool {
+    matches!(
+        event,
+        Event::Monitor(..) | Event::MonitorScope(_) | Event::Demonitor(_) | Event::Updates(_)
     )
 }
 
