@@ -16,7 +16,7 @@
 //!
 //! A link of version 2 brings the rows of a Sync, a Join or a Leave in parts. They are kept with the
 //! link, and count once the last has come. On a link of version 1 a message is one part.
-ghost use Rattle.std.specs.Prelude.{◌≡◌, ◌==◌, ◌&&◌, List, ℕ, true, cond, Some, None, MatchResult};
+ghost use Rattle.std.specs.Prelude.{◌≡◌, ◌==◌, ◌&&◌, not, List, ℕ, true, Some, None, MatchResult};
 ghost use Rattle.std.specs.List.{list_all};
 ghost use Rattle.dist_types.specs.Listing.{same};
 ghost use Rattle.link_frames.specs.declared.part.Message2.TheVariants as messages;
@@ -27,6 +27,7 @@ ghost use Rattle.policy_audit.specs.Hearing.{frame_taken};
 ghost use Rattle.node_core.specs.FramesHere.{IsUpLink, IsSoundMessage};
 ghost use Rattle.node_core.specs.Step.{Call, Answers};
 ghost use Rattle.node_core.specs.Links.{are_of_peer, takes_parts};
+ghost use Rattle.node_core.specs.ScopeFacts.{is_number};
 ghost use Rattle.node_core.specs.Messages.{scope_in, says_in, refusal, brings_further};
 
 use crate::changes::cut_off;
@@ -276,7 +277,7 @@ fn refusal(link: &Link, running: &Running, message: &Message2) -> Option<Rule>
     else {
         return None;
     };
-    if brings_further(*kind) && !running.heard.contains(&link.number()) {
+    if is_unheard(link, running, *kind) {
         return Some(Rule::NotHeard);
     }
     if !link.is_next(*kind, scope, *number) {
@@ -288,13 +289,13 @@ fn refusal(link: &Link, running: &Running, message: &Message2) -> Option<Rule>
     None
 }
 
-/// Whether rows of this kind go on with others, which only a link that is heard has.
-fn brings_further(kind: PartKind) -> bool
-    ensures { result ≡ brings_further kind }
+/// Whether rows of this kind go on with others, which the link hasn't: it isn't heard.
+fn is_unheard(link: &Link, running: &Running, kind: PartKind) -> bool
+    ensures { result ≡ (brings_further kind && not (is_number link.now.number running.now.heard.items)) }
 {
     match kind {
         PartKind::Sync => false,
-        PartKind::Join | PartKind::Leave => true,
+        PartKind::Join | PartKind::Leave => !running.heard.contains(&link.number()),
     }
 }
 
