@@ -156,6 +156,8 @@ def options_that_do_not_fit(field):
     served."""
     long = os.path.join(field.folder, "x" * 104)
     for words, fault in ((("--dial", "b@h=127.0.0.1:1", "--dial", "b@h=127.0.0.1:2"), "--dial: this peer is given twice: b@h=127.0.0.1:2"),
+                         (("--dial", "b@h=127.0.0.1:1", "--otp-dial", "b@h=127.0.0.1:2"),
+                          "--otp-dial: this peer is given twice: b@h=127.0.0.1:2"),
                          (("--control-mode", "0660"), "--control-mode: there is no --control"),
                          (("--control-read-mode", "0660"), "--control-read-mode: there is no --control-read"),
                          (("--control", long + ".s", "--control-read", long + ".s"), "--control-read: the path of --control"),

@@ -3,10 +3,10 @@ use crate::connection::Desk;
 use crate::door::Door;
 use crate::refusing::{refuse, refuse_here};
 use pg_asked::{Asked, Stream};
-use pg_log::Taking;
+use pg_log::{Level, Taking, number};
 use pg_session::{Rights, Seen};
 use pg_streams::ReadLines;
-use std::io::BufReader;
+use std::io::{self, BufReader, ErrorKind};
 use std::net::Shutdown;
 use std::os::unix::net::UnixStream;
 use std::sync::{Arc, Wait};
@@ -167,7 +167,8 @@ fn is_answered<R: Threads + Wait + Clock + Sync, N: Asked + Sync>(
 /// Tells news until the connection or the program ends, and hangs up.
 fn tell<R: Wait + Clock, N: Asked>(rt: &R, desk: &Desk<'_, N>, seen: Seen, stream: &UnixStream) {
     let mut writer = stream;
-    desk.tell_all(rt, seen, &mut writer).ok();
+    let told = desk.tell_all(rt, seen, &mut writer);
+    log_end(rt, desk, &told);
     stream.shutdown(Shutdown::Both).ok();
 }
 
@@ -179,7 +180,17 @@ fn answer<R: Wait + Clock, N: Asked>(
     stream: &UnixStream,
 ) {
     let mut writer = stream;
-    desk.answer_all(rt, &mut ReadLines { reader }, &mut writer)
-        .ok();
+    let answered = desk.answer_all(rt, &mut ReadLines { reader }, &mut writer);
+    log_end(rt, desk, &answered);
     desk.end(rt);
+}
+
+/// Says it where a connection ends because nobody has read from it for the time of a write.
+fn log_end<R: Wait + Clock, N: Asked>(rt: &R, desk: &Desk<'_, N>, ended: &io::Result<()>) {
+    if let Err(error) = ended
+        && error.kind() == ErrorKind::WouldBlock
+    {
+        let fields = [number("seat", (desk.seat as u64).saturating_add(1))];
+        desk.node.log().tell(rt, Level::Warn, "behind", &fields);
+    }
 }

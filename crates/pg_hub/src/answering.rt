@@ -5,8 +5,8 @@ use crate::reporting::Reporting;
 use dist_types::OutOfMemory;
 use node_threads::Shared;
 use pg_asked::Asked;
-use pg_session::{Lack, Next, Rights, Seen, Session};
-use pg_text::put_word;
+use pg_session::{Lack, Next, Seen, Session};
+use pg_text::{first_word, put_word};
 use std::sync::Wait;
 use std::time::Clock;
 
@@ -15,6 +15,20 @@ const UNREAD: &[u8] = b"memory\n";
 
 /// What a line is answered for whose answer there is no memory.
 const UNANSWERED: &str = "fault out of memory\n";
+
+/// The commands of calls by which a client changes more than its monitors.
+const CHANGES: [&str; 10] = [
+    "allow",
+    "cookie",
+    "cookie_for",
+    "disconnect",
+    "exit",
+    "join",
+    "leave",
+    "spawn",
+    "start",
+    "stop",
+];
 
 /// What has become of a line. But for an answer nothing is added.
 #[derive(Clone, Copy)]
@@ -43,12 +57,16 @@ impl Hub {
             match self.try_answer(rt, seat, line, out) {
                 Tried::Answered(next) => return Ok(next),
                 Tried::Lacks(Lack::Room) => {}
-                // The node has let go what it can, and would begin anew for one more such call.
-                Tried::Lacks(Lack::Memory) if !self.has_to_be_made(seat, line) => {
-                    return self.give_no_answer(rt, seat, out);
+                // A call that found no memory has had the node let go what it can.
+                Tried::Lacks(Lack::Memory) if !has_to_be_made(seat, line) => {
+                    return self.give_no_answer(rt, out);
                 }
-                Tried::Lacks(Lack::Memory) if has_let_go => self.want_memory(rt),
-                Tried::Unanswered if has_let_go => return self.give_no_answer(rt, seat, out),
+                Tried::Unanswered if has_let_go && !has_to_be_made(seat, line) => {
+                    return self.give_no_answer(rt, out);
+                }
+                Tried::Lacks(Lack::Memory) | Tried::Unanswered if has_let_go => {
+                    self.want_memory(rt);
+                }
                 Tried::Lacks(Lack::Memory) | Tried::Unanswered => {
                     self.node.shared.lock(rt).let_go();
                     has_let_go = true;
@@ -64,22 +82,11 @@ impl Hub {
         unreachable!()
     }
 
-    /// Whether the next life has to make the call of a line. A client that may only read can begin
-    /// monitors, and isn't to end this life by that.
-    fn has_to_be_made(&self, seat: usize, line: &[u8]) -> bool {
-        seat == OPERATOR || !Rights::Reads.allow(self.alloc, line).unwrap_or(false)
-    }
-
-    /// Adds that there is no memory for an answer. Where there is none for that either, or the
-    /// operator has asked, the next life is to begin.
-    fn give_no_answer<R: Wait>(
-        &self,
-        rt: &R,
-        seat: usize,
-        out: &mut Vec<u8>,
-    ) -> Result<Next, OutOfMemory> {
+    /// Adds that there is no memory for an answer. Where there is none for that either, the next
+    /// life is to begin.
+    fn give_no_answer<R: Wait>(&self, rt: &R, out: &mut Vec<u8>) -> Result<Next, OutOfMemory> {
         let added = put_word(UNANSWERED, out);
-        if added.is_err() || seat == OPERATOR {
+        if added.is_err() {
             self.want_memory(rt);
         }
         added?;
@@ -187,4 +194,11 @@ impl Hub {
             self.notices.told.notify_all();
         }
     }
+}
+
+/// Whether the next life has to make the call of a line, be there memory to read it or not. By what a
+/// client only reads or watches it ends no life.
+fn has_to_be_made(seat: usize, line: &[u8]) -> bool {
+    let (word, _) = first_word(line);
+    seat == OPERATOR || CHANGES.iter().any(|command| command.as_bytes() == word)
 }

@@ -4,7 +4,7 @@ use crate::faces::{Faces, read_faces};
 use crate::fault::{Fault, alone, refused};
 use crate::stock::{OtpOptions, add_stock, read_otp};
 use crate::usual::{CLIENTS, ENTRIES, FORMAT, LEVEL, LINKS, SETUP, TICK};
-use crate::words::{name, place, target};
+use crate::words::{add_target, name, place, target};
 use clap::ArgMatches;
 use dial_targets::{Limits, Target, Targets};
 use dist_types::{Cookie, NodeName};
@@ -171,18 +171,9 @@ fn add_targets(
     let own = matches.get_str("NAME");
     for word in matches.get_strs("dial").unwrap_or(&[]) {
         let target = target("--dial", own, word, Target::parse(alloc, word))?;
-        if is_among(targets.as_slice(), &target) {
-            return Err(refused("--dial", "this peer is given twice", word));
-        }
-        targets.push(target)?;
+        add_target(targets, "--dial", word, target)?;
     }
     add_stock(alloc, matches, targets)
-}
-
-/// Whether one of them is of the same peer.
-fn is_among(targets: &[Target], target: &Target) -> bool {
-    let peer = target.peer().as_bytes();
-    targets.iter().any(|other| other.peer().as_bytes() == peer)
 }
 
 fn read_words<'a>(matches: &ArgMatches<'a>) -> Result<Words<'a>, Fault> {

@@ -1,7 +1,7 @@
 //! How stock nodes of Erlang/OTP are linked.
 use crate::fault::{Fault, misused};
 use crate::usual::EPMD;
-use crate::words::{place, target};
+use crate::words::{add_target, place, target};
 use anyhow::anyhow;
 use clap::ArgMatches;
 use dial_targets::{EpmdUse, PeerKind, Target};
@@ -67,7 +67,8 @@ pub fn add_stock(
     let own = matches.get_str("NAME");
     for word in matches.get_strs("otp-dial").unwrap_or(&[]) {
         let parsed = Target::parse_otp(alloc, word, epmd);
-        targets.push(target("--otp-dial", own, word, parsed)?)?;
+        let target = target("--otp-dial", own, word, parsed)?;
+        add_target(targets, "--otp-dial", word, target)?;
     }
     Ok(())
 }

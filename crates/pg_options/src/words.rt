@@ -36,3 +36,23 @@ pub fn target(
         Err(fault) => Err(refused(option, fault, word)),
     }
 }
+
+/// Adds a peer to dial that was read of this word, which is none of those before it.
+pub fn add_target(
+    targets: &mut Vec<Target>,
+    option: &str,
+    word: &str,
+    target: Target,
+) -> Result<(), Fault> {
+    if is_among(targets, &target) {
+        return Err(refused(option, "this peer is given twice", word));
+    }
+    targets.push(target)?;
+    Ok(())
+}
+
+/// Whether one of them is of the same peer.
+fn is_among(targets: &[Target], target: &Target) -> bool {
+    let peer = target.peer().as_bytes();
+    targets.iter().any(|other| other.peer().as_bytes() == peer)
+}
