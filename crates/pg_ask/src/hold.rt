@@ -62,7 +62,9 @@ impl Hold {
         let mut said = self.try_join(talk)?;
         for _ in 0..TRIES {
             // In between the node may begin anew, of which the process is none then, and the scope stop.
-            if talk.line.as_slice() != b"fault not yours" && !talk.line.ends_with(b" NoScope") {
+            if talk.line.as_slice() != b"fault not yours".as_slice()
+                && !talk.line.ends_with(b" NoScope")
+            {
                 break;
             }
             said = self.try_join(talk)?;
