@@ -101,7 +101,7 @@ def reads_without_memory(field):
         owner.send(f"join pg {'g' * 250}{number:04} {pid}")
     for number in range(GROUPS):
         expect("the answer to a join", "ok", owner.next_answer("an answer"))
-    limit_memory(a.process.pid)
+    limit_space(a.process.pid, 0)
     for line in ["groups pg", "monitor_scope pg"] * 4:
         expect(f"the answer to {line}", "fault out of memory", client.ask(line))
     group = "g" * 250 + "0000"
