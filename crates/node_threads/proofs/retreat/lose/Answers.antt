@@ -14,4 +14,4 @@ pub returns-in_default : goal.returns-in_default
 returns-in_default g c =
     let called = rw c.loop-step.invariant at c.call.follows.holds-at-none in
     gives_up c.args.work.now.link c.args.pass.now c.call.follows.lender-at-none c.loop-step.retreat
-    (answer_now c.call.result) c.next.result called c.next.ensures.step c.in_default.not-Again
+    (answer_now c.call.result) c.next-step.result called c.next-step.ensures.step c.in_default.not-Again
