@@ -1,10 +1,10 @@
 -- A refused entry leaves all as it was.
 use Rattle.policy_audit.proofs
-use proofs.Words.{Accepted, ap, append-nil, arith, Entry, Event, false, frame_of}
-use proofs.Words.{groups_in, History, is_accepted, IsAsOpen, IsChange, IsNext, IsUntouched}
-use proofs.Words.{just, List, listed, monitor, None, option_map_or}
-use proofs.Words.{refl, Refused, Rule, sym, Target, updates_since, Verdict}
-use proofs.Words.{with_entry, ℕ, [], ◌≡◌}
+use proofs.Words.{Accepted, ap, append-nil, arith, audit_of, audited, Bool, cond, Entry, Event}
+use proofs.Words.{false, frame_of, groups_in, History, is_accepted, is_entered, IsAsOpen, IsChange}
+use proofs.Words.{IsNext, IsUntouched, just, List, listed, monitor, None, option_map_or, past}
+use proofs.Words.{refl, Refused, Rule, sym, Target, true, updates, updates_since, Verdict}
+use proofs.Words.{with_entry, ℕ, [], ◌∷◌, ◌≡◌}
 use proofs.Accepted.{lie}
 use proofs.Walked.{but}
 use proofs.Effects.{rows_left}
@@ -24,8 +24,23 @@ module _ (h : History) (e : Entry) (r : Rule) where
       ((no_change h (kk ev) (λ t g p. sym (rows_left h e ev (Refused r) refl t g p))).groups s)
 
   nothing_told : (ev : Event) → IsChange h (kk ev) e.change → (seat n : ℕ) (t : Target)
-      → updates_since seat n t (kk ev).entries ≡ updates_since seat n t h.entries
-  nothing_told ev c seat n t = grind (arith, none_moved ev c t.scope, append-nil)
+      (es : List Entry) → updates_since seat n t (fr ev ∷ es) ≡ updates_since seat n t es
+  nothing_told ev c seat n t es = grind (arith, none_moved ev c t.scope, append-nil)
+
+  -- the audit has one entry more, or the same ones
+  audit_after : (P : List Entry → Type 0) (ev : Event) → P (fr ev ∷ audited h.entries)
+      → P (audited h.entries) → P (audited (kk ev).entries)
+  audit_after P ev more same = by (is_entered (fr ev))
+    where
+      by : (b : Bool) → P (cond b (fr ev ∷ audited h.entries) (audited h.entries))
+      by true = more
+      by false = same
+
+  none_to_tell : (ev : Event) → IsChange h (kk ev) e.change → (seat n : ℕ) (es : List Entry)
+      → updates (past h.opening (fr ev ∷ es)) seat n ≡ updates (past h.opening es) seat n
+  none_to_tell ev c seat n es =
+      ap (λ f. option_map_or f (monitor (past h.opening es) seat n) [])
+      (λ i t. nothing_told ev c seat n t es i)
 
   refused_leaves : (ev : Event) → IsChange h (kk ev) e.change → IsUntouched h (kk ev)
   refused_leaves ev c = record {
@@ -46,8 +61,13 @@ module _ (h : History) (e : Entry) (r : Rule) where
     own = λ s g p. refl;
     listed = λ s g p. rows_left h e ev (Refused r) refl s g p;
     monitors = λ seat n. refl;
-    updates = λ seat n. ap (λ f. option_map_or f (monitor h seat n) [])
-        (λ i t. nothing_told ev c seat n t i);
+    updates = λ seat n. none_to_tell ev c seat n h.entries;
+    audited_monitors = λ seat n.
+        audit_after (λ es. monitor (past h.opening es) seat n ≡ monitor (audit_of h) seat n) ev
+        refl refl;
+    audited_updates = λ seat n.
+        audit_after (λ es. updates (past h.opening es) seat n ≡ updates (audit_of h) seat n) ev
+        (none_to_tell ev c seat n (audited h.entries)) refl;
   }
 
 pub entry_leaves : (h : History) (e : Entry) → IsNext h e → is_accepted e.verdict ≡ false

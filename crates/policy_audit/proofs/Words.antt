@@ -72,12 +72,12 @@ pub use specs.Effects.{leaves_rows, may_change, may_change_with}
 pub use specs.Hearing.{begun, frame_taken, heard, hears, kept_after}
 pub use specs.Hearing.{link_version, message_taken, rows_kept, rows_of, Said, said_at, stated_in}
 pub use specs.Hearing.{Stopped, Talk, talk, talk_of, tells, told}
-pub use specs.History.{audited, creation, entered, events, first_of, History, is_accepted}
+pub use specs.History.{audit_of, audited, creation, entered, events, first_of, History, is_accepted}
 pub use specs.History.{is_entered, is_restart, just, lose, loss, Moment, past, present}
 pub use specs.Links.{ends, frame_ends, gives_up, is_dial_to, is_dialling, is_open, is_opened_by}
 pub use specs.Links.{is_unfinished_dial, is_up, links, named_by, share_peer}
 pub use specs.Listed.{is_from, listed, listed_by}
-pub use specs.Monitors.{monitor, Target, updates_since}
+pub use specs.Monitors.{monitor, Target, updates, updates_since}
 pub use specs.OutFrame.{OutFrame}
 pub use specs.Owed.{asks, digest_for, discovers, drops, frame_owes, if_told, if_visible, is_kept}
 pub use specs.Owed.{is_slow, max_waiting, may_tell, message_owes, owed, own_challenge}

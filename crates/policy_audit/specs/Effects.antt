@@ -9,7 +9,7 @@ use Rattle.policy_audit.specs.declared.opening.Opening.{Opening}
 use Rattle.policy_audit.specs.declared.event.Event.{Event}
 use Rattle.policy_audit.specs.declared.event.Event.TheVariants as event
 use Rattle.policy_audit.specs.declared.entry.Entry.{Entry}
-use Rattle.policy_audit.specs.History.{History, is_accepted, creation}
+use Rattle.policy_audit.specs.History.{audit_of, History, is_accepted, creation}
 use Rattle.policy_audit.specs.Admission.{cookie, allow_list}
 use Rattle.policy_audit.specs.Own.{running_scopes, spawned, living, lives, own}
 use Rattle.policy_audit.specs.Sides.{present_link, opened, taken, given, peer_of, is_peer, AwaitMessage, awaits, is_whole}
@@ -104,8 +104,9 @@ pub record IsMessage (h : History) (e : Entry) (l : ℕ) (n : List ℕ) (m : Mes
   pub peer : peer_of l h.entries ≡ Some n
   pub says : said_at h.opening l h.entries body ≡ Some m
 
--- all is in k as in h: creation, cookies, allow list, scopes, processes, rows, monitors with what they have still to tell, which
--- links are up, and what was said of each
+-- all is in k as in h: creation, cookies, allow list, scopes, processes, rows, monitors with what
+-- they have still to tell, also as the policy reads these, off the audit alone, which links are up,
+-- and what was said of each
 pub record IsUntouched (h k : History) : Type 0 where
   pub opening : k.opening ≡ h.opening
   pub creation : creation k ≡ creation h
@@ -123,6 +124,10 @@ pub record IsUntouched (h k : History) : Type 0 where
   pub told : (l : ℕ) (s : List ℕ) → told k.opening l s k.entries ≡ told h.opening l s h.entries
   pub own : (s g : List ℕ) (p : Pid) → own k s g p ≡ own h s g p
   pub listed : (s g : List ℕ) (p : Pid) → listed k s g p ≡ listed h s g p
+  pub audited_monitors : (seat n : ℕ)
+      → monitor (audit_of k) seat n ≡ monitor (audit_of h) seat n
+  pub audited_updates : (seat n : ℕ)
+      → updates (audit_of k) seat n ≡ updates (audit_of h) seat n
   pub monitors : (seat n : ℕ) → monitor k seat n ≡ monitor h seat n
   pub updates : (seat n : ℕ) → updates k seat n ≡ updates h seat n
 
