@@ -1,5 +1,6 @@
 //! The acceptor's first state.
-ghost use Rattle.std.specs.Prelude.{◌≡◌, ◌&&◌, not, IfOk, IfErr, IsSomeAnd};
+ghost use Rattle.std.specs.Prelude.{◌≡◌, ◌&&◌, true, not, bytes_eq, IfOk, IfErr, IsSomeAnd, IsTrue};
+ghost use Rattle.dist_types.specs.Text.{is_node_name};
 ghost use Rattle.std.specs.Ordering.{is_gt};
 ghost use Rattle.dist_types.specs.Order.{text_cmp};
 ghost use Rattle.handshake_frames.specs.Reading.{name_frame};
@@ -111,8 +112,8 @@ fn peer_named<L: OtherLinks>(
     let frame = decode_name(body)?;
     unless(frame.flags.handshake23(), StateRule::NoHandshake23)?;
     unless(!frame.flags.name_me(), StateRule::DynamicName)?;
+    unless(!is_own(admission, frame.name), StateRule::OwnName)?;
     let name = NodeName::parse(alloc, frame.name)?;
-    unless(name != *admission.own(), StateRule::OwnName)?;
     unless(allows(admission, &name), StateRule::NotAllowed)?;
     let standing = Standing::of(links, &name);
     unless(
@@ -121,6 +122,14 @@ fn peer_named<L: OtherLinks>(
     )?;
     let peer = Peer::new(admission, name, frame.flags, frame.creation, frame.version);
     Ok((peer, standing))
+}
+
+/// Whether the name is the node's own. Who says it is owed nothing, so that is found without memory.
+fn is_own(admission: &Admission, name: &[u8]) -> bool
+    ensures own { result ≡ bytes_eq name.now admission.now.own }
+    ensures name { IsTrue result → is_node_name name.now ≡ true }
+{
+    name == admission.own().as_bytes()
 }
 
 fn allows(admission: &Admission, name: &NodeName) -> bool

@@ -9,7 +9,8 @@ ghost use Rattle.link_states.specs.Frames.{own_name, own_challenge, reply_owed, 
 ghost use Rattle.link_states.specs.Meeting.{MayDial};
 ghost use Rattle.link_states.specs.Peer.{link_version};
 
-/// Each frame of one end breaks no rule at the other, where both have the same cookie, and both take the same version from them.
+/// The frames of one end but for the status break no rule at the other, where both have the same cookie, the acceptor allows the
+/// dialler and no own dial of it goes on in place of the other; and both take the same version from them.
 pub fn ends_agree()
     ensures name { (a b : AdmissionRules) (pending : Pending) → MayDial a b → outranks b pending a.own ≡ false →
         PassesAll (name_checks b pending (name_frame (own_name a))) }
