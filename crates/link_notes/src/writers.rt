@@ -4,13 +4,13 @@ ghost use Rattle.std.specs.Prelude.{◌≡◌};
 ghost use Rattle.link_notes.specs.Behind.{most_behind, frames_behind};
 
 use dial_targets::Limits;
-use node_core::NodeCore;
+use node_core::{MAX_LINKS, NodeCore};
 use std::sync::atomic::{AtomicBool, Ordering};
 use std::sync::{Mutex, Wait};
 use std::time::Duration;
 
 /// The most writers: as many as a node keeps links.
-const PLACES: usize = 64;
+const PLACES: usize = MAX_LINKS;
 
 /// The writer of a link.
 #[derive(Clone, Copy, Debug)]

@@ -136,8 +136,8 @@ module _ (h : History) (l : ℕ) (body : List ℕ) (up : is_up l h.entries ≡ t
   calm r nothing = grind arith
 
 silent : (a b c : Bool) (r : Rule)
-    → cond a (Some Rule.NotHeard) (cond b (Some Rule.PartOrder) (cond c (Some Rule.ForeignPid) None))
-    ≡ Some r
+    → cond a (Some Rule.NotHeard)
+    (cond b (Some Rule.PartOrder) (cond c (Some Rule.ForeignPid) None)) ≡ Some r
     → refusal_owes r ≡ []
 silent true b c r q = ap refusal_owes (sym (some_is q))
 silent false true c r q = ap refusal_owes (sym (some_is q))

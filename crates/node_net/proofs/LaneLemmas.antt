@@ -199,7 +199,8 @@ module _ (lane lane' : Pair) (e : Event) (told : Option ℕ) (opens : Opens e to
 
   -- it has drawn for its call
   pub opened_next : length lane.reader.calls < length lane'.reader.calls
-      → (lane'.challenge, words_of lane'.left) ≡ next_u32 (words_of lane.left) → OpensNext lane lane'
+      → (lane'.challenge, words_of lane'.left) ≡ next_u32 (words_of lane.left)
+      → OpensNext lane lane'
   opened_next many drawn = elim opens.at_most_one [
     | inl none ↦ absurd (omega (arith, many, counted, ap (λ (cs : List Call). length cs) none))
     | inr one ↦ (

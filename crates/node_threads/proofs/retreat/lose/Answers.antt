@@ -13,5 +13,6 @@ returns-in-Stuck g c =
 pub returns-in_default : goal.returns-in_default
 returns-in_default g c =
     let called = rw c.loop-step.invariant at c.call.follows.holds-at-none in
-    gives_up c.args.work.now.link c.args.pass.now c.call.follows.lender-at-none c.loop-step.retreat
-    (answer_now c.call.result) c.next-step.result called c.next-step.ensures.step c.in_default.not-Again
+    gives_up c.args.work.now.link c.args.pass.now c.call.follows.lender-at-none
+    c.loop-step.retreat (answer_now c.call.result) c.next-step.result called
+    c.next-step.ensures.step c.in_default.not-Again
