@@ -4,7 +4,8 @@ use Rattle.pg_ledger.specs
 use Rattle.std.proofs.Common.{ap, append_assoc, arith, Bool, cond, drop, false, length, List}
 use Rattle.std.proofs.Common.{max, refl, reverse, subst, sym, true, zero, suc}
 use Rattle.std.proofs.Common.{ℕ, [], ◌++◌, ◌<◌, ◌^◌, ◌==◌, ◌∙◌, ◌∷◌, ◌≡◌, ◌≤◌}
-use Rattle.std.proofs.lemmas.List.{append-nil, length-append, length-reverse, reverse-append, reverse-reverse}
+use Rattle.std.proofs.lemmas.List.{append-nil, length-append, length-reverse, reverse-append}
+use Rattle.std.proofs.lemmas.List.{reverse-reverse}
 use Rattle.policy_audit.specs.declared.opening.Opening.{Opening}
 use Rattle.policy_audit.specs.declared.entry.Entry.{Entry}
 use Rattle.policy_audit.specs.History.{audited, creation, entered, History, past}
@@ -61,7 +62,8 @@ module _ (t : Told) (life : ℕ) (h : History) (node : Recorded) (behind : IsBeh
   pub looks_at : later_than (max (cond (life == creation k) t nothing).entries node.forgotten)
       (audited k.entries) ≡ reverse since
   looks_at =
-      let at : max (cond (life == creation k) t nothing).entries node.forgotten ≡ length (reverse before) =
+      let at : max (cond (life == creation k) t nothing).entries node.forgotten
+      ≡ length (reverse before) =
       omega (arith, seen_is, many, behind.kept.kept, length-reverse before) in
       ap (λ n. drop n (reverse (audited k.entries))) at
       ∙ ap (λ es. drop (length (reverse before)) (reverse es)) behind.kept.earlier.audit

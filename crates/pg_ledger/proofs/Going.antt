@@ -7,10 +7,12 @@ use Rattle.std.proofs.lemmas.List.{append-nil, length-append, length-reverse, re
 use Rattle.std.specs.Prelude.{Err, Ok, OnErr, Result}
 use Rattle.policy_audit.specs.declared.opening.Opening.{Opening}
 use Rattle.policy_audit.specs.declared.entry.Entry.{Entry}
-use Rattle.policy_audit.specs.History.{audited, entered, History, is_accepted, is_entered, just, lose, past}
+use Rattle.policy_audit.specs.History.{audited, entered, History, is_accepted, is_entered, just}
+use Rattle.policy_audit.specs.History.{lose, past}
 use Rattle.policy_audit.specs.Owed.{slow_links, with_entry}
 use Rattle.policy_audit.specs.Policy.{history, IsLegal, IsLegalIn}
-use Rattle.policy_audit.proofs.Losses.{history_opening, legal_room, made_entered, made_legal, next_entered}
+use Rattle.policy_audit.proofs.Losses.{history_opening, legal_room, made_entered, made_legal}
+use Rattle.policy_audit.proofs.Losses.{next_entered}
 use specs.Telling.{NotesEntry, Told, told_of}
 use specs.Following.{NotesAll, NotesBut}
 
@@ -23,8 +25,9 @@ losses_silent o es (l ∷ ls) = losses_silent o es ls
 pub told_with : (h : History) (e : Entry) → told_of (with_entry h e) ≡ told_of (just h e)
 told_with h e = by (is_accepted e.verdict)
   where
-    by : (b : Bool) → told_of (cond b (past h.opening (lose (slow_links (just h e)) (e ∷ h.entries))) (just h e))
-        ≡ told_of (just h e)
+    by : (b : Bool)
+        → told_of (cond b (past h.opening (lose (slow_links (just h e)) (e ∷ h.entries)))
+        (just h e)) ≡ told_of (just h e)
     by true = losses_silent h.opening (e ∷ h.entries) (slow_links (just h e))
     by false = refl
 

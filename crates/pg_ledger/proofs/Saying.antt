@@ -1,6 +1,7 @@
 -- What one entry more makes of what is told.
 use Rattle.pg_ledger.specs
-use Rattle.std.proofs.Common.{ap, append_assoc, arith, Bool, false, get_or, length, List, refl, subst}
+use Rattle.std.proofs.Common.{ap, append_assoc, arith, Bool, false, get_or, length, List, refl}
+use Rattle.std.proofs.Common.{subst}
 use Rattle.std.proofs.Common.{sym, take, true, ℕ, [], ◌++◌, ◌+◌, ◌<◌, ◌^◌, ◌∙◌, ◌∷◌, ◌≡◌, ◌≤◌}
 use Rattle.std.specs.Prelude.{◌||◌, not}
 use Rattle.std.proofs.lemmas.Bool.{false≢true}
@@ -16,7 +17,8 @@ use Rattle.policy_audit.specs.Admission.{allow_list, names_allowed}
 use Rattle.policy_audit.specs.History.{entered, events, first_of, History, is_accepted, is_entered}
 use Rattle.policy_audit.specs.History.{is_restart, just}
 use Rattle.policy_audit.specs.Own.{running_scopes, scopes_started, starts}
-use Rattle.policy_audit.proofs.ScopesNow.{one_rising, rising, rising_is, rising_stands, running_rises}
+use Rattle.policy_audit.proofs.ScopesNow.{one_rising, rising, rising_is, rising_stands}
+use Rattle.policy_audit.proofs.ScopesNow.{running_rises}
 use Rattle.policy_audit.proofs.ScopesNow.{running_started, running_stopped}
 use specs.Telling.{is_refused, NotesEntry, NotesEvent, NotesNames, Told, told_of}
 
@@ -75,7 +77,8 @@ is_silent e = true
 
 -- it leaves all that is told as it is
 pub silent : (e : Event) (es : List Event) → is_silent e ≡ true
-    → (scopes_by (e ∷ es) ≡ scopes_by es) × (names_by (e ∷ es) ≡ names_by es) × (is_restart e ≡ false)
+    → (scopes_by (e ∷ es) ≡ scopes_by es) × (names_by (e ∷ es) ≡ names_by es)
+    × (is_restart e ≡ false)
 silent event.Restart es refuses = absurd (false≢true refuses)
 silent (event.Allow ns) es refuses = absurd (false≢true refuses)
 silent (event.StartScope s) es refuses = absurd (false≢true refuses)
@@ -146,8 +149,8 @@ allow_noted ns t t' notes h e is accepts told =
     ∙ ap (λ (x : Told). record x { allowed = ascending text_cmp (ns ++ x.allowed) }) told
     ∙ equal_told
     (record (told_of h) { allowed = ascending text_cmp (ns ++ ascending text_cmp (allow_list h)) })
-    (noted h e accepts) (sym (ap scopes_by more)) (names_more ns (allow_list h) ∙ sym (ap names_by more))
-    (sym (none_refused h e accepts)) refl
+    (noted h e accepts) (sym (ap scopes_by more))
+    (names_more ns (allow_list h) ∙ sym (ap names_by more)) (sym (none_refused h e accepts)) refl
 
 pub start_noted : (s : List ℕ) (t u t' : Told) → t ≡ u
     → (Rises text_cmp u.scopes → t' ≡ record u { scopes = placed text_cmp s u.scopes })

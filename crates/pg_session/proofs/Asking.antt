@@ -3,6 +3,7 @@ use Rattle.pg_session.specs
 use Rattle.std.proofs.Common.{Bool, false, inr, IsTrue, List, None, Option, refl, Some, subst, sym}
 use Rattle.std.proofs.Common.{true, ℕ, ◌++◌, ◌↔◌, ◌≡◌}
 use Rattle.std.proofs.lemmas.Bool.{false≢true}
+use specs.declared.caller.Lack.{Lack}
 use specs.declared.request.Request.{Request}
 use Rattle.node_threads.specs.Calls.{Record}
 use Rattle.node_threads.specs.Room.{Room}
@@ -39,7 +40,8 @@ pub makes_as : (asked said : Option Request) → (p p' : Seat) → asked ≡ sai
     → Makes asked p p'
 makes_as asked said p p' is makes = subst (λ a. Makes a p p') (sym is) makes
 
-pub answers_as : (asked said : Option Request) → (p p' : Seat) → (out out' : List ℕ) → asked ≡ said
-    → Answers said p out p' out' → Answers asked p out p' out'
-answers_as asked said p p' out out' is answers = subst (λ a. Answers a p out p' out') (sym is)
-    answers
+pub answers_as : (asked said : Option Request) → (lack : Option Lack) → (p p' : Seat)
+    → (out out' : List ℕ) → asked ≡ said → Answers said lack p out p' out'
+    → Answers asked lack p out p' out'
+answers_as asked said lack p p' out out' is answers =
+    subst (λ a. Answers a lack p out p' out') (sym is) answers

@@ -1,7 +1,8 @@
 -- What a call adds to the calls of a connection.
 use Rattle.pg_session.specs
 use Rattle.std.proofs.Common.{ap, arith, Bool, cond, Err, false, IfSome, inl, inr, List, None, Ok}
-use Rattle.std.proofs.Common.{OnErr, OnOk, Option, option_to_list, refl, Result, Some, subst, sym, true, ℕ}
+use Rattle.std.proofs.Common.{OnErr, OnOk, Option, option_to_list, refl, Result, Some, subst, sym}
+use Rattle.std.proofs.Common.{true, ℕ}
 use Rattle.std.proofs.Common.{[], ◌&&◌, ◌++◌, ◌||◌, ◌∙◌, ◌∷◌, ◌≡◌, ◌⊎◌}
 use Rattle.std.specs.List.{All, list_all}
 use Rattle.std.proofs.lemmas.List.Elements.{All-append, All-cons, All-nil, All-weaker}
@@ -11,7 +12,7 @@ use Rattle.dist_types.specs.declared.pid.Pid.{Pid}
 use Rattle.dist_types.specs.Listing.{same_pid}
 use Rattle.dist_types.proofs.Orders.{same_pid_decides}
 use Rattle.policy_audit.specs.declared.event.Event.{Event}
-use Rattle.policy_audit.specs.declared.event.Event.TheVariants.{Exit}
+use Rattle.policy_audit.specs.declared.event.Event.TheVariants.{Demonitor, Exit}
 use Rattle.policy_audit.specs.declared.reply.Reply.{Reply}
 use Rattle.node_core.specs.declared.fault.CoreFault.TheVariants.{OutOfMemory, Refused}
 use Rattle.node_threads.specs.declared.fault.CallFault.{CallFault}
@@ -23,12 +24,14 @@ use Rattle.node_threads.proofs.Answered.{accepted, gains_more, gains_none, refus
 use Rattle.node_threads.proofs.Answered.{unheard}
 use Rattle.pg_text.specs.Asked.{moved_pids}
 use specs.declared.caller.Outcome.{Outcome}
-use specs.Asked.{is_call, is_demonitor, is_end, is_fetch, is_made}
+use specs.Asked.{ends, is_call, is_end, is_fetch, is_made}
 use specs.Kinds.{stake_by, watches_after}
 use specs.Processes.{exited_by, has, made_in, moves_only, OwnAfter, spawned}
 use specs.Answers.{Answers}
-use specs.Calls.{AreConnections, call_line, GoesOn, GoesOnBy, IsCalled, IsSeat, may_call, Seat}
-use specs.Outcomes.{CameFrom, IsOutcome, Kept}
+use specs.Calls.{AreConnections, call_line, GoesOn, GoesOnBy, IsCalled, IsSeat, LeavesMonitor}
+use specs.Calls.{may_call, Seat}
+use specs.Outcomes.{CameFrom, IsOutcome, Kept, lack_of}
+use specs.declared.caller.Lack.{Lack}
 use Rattle.policy_audit.specs.declared.reply.Reply.TheVariants as replies
 use specs.declared.caller.Outcome.TheVariants as outcomes
 use specs.declared.request.Request.TheVariants as requests
@@ -212,17 +215,28 @@ module _ (test : Event → Bool) where
   }
   by_call p p' e (inr same) passes = by_none p p' same
 
+pub ends_its_own : (n : ℕ) → ends n (Demonitor n) ≡ true
+ends_its_own n = grind arith
+
 -- who ends a monitor ends something
-pub ends_something : (p p' : Record) → GoesOnBy is_demonitor p p' → GoesOnBy is_end p p'
-ends_something p p' by = record {
+pub ends_something : (n : ℕ) (p p' : Record) → GoesOnBy (ends n) p p' → GoesOnBy is_end p p'
+ends_something n p p' by = record {
   more = by.more;
   gains = by.gains;
-  only = All-weaker (Passes is_demonitor) (Passes is_end) (λ c. ends c.event) by.more by.only;
+  only = All-weaker (Passes (ends n)) (Passes is_end) (λ c. is_one c.event) by.more by.only;
 }
   where
-    ends : (e : Event) → is_demonitor e ≡ true → is_end e ≡ true
-    ends (Exit p) is = refl
-    ends e is = is
+    is_one : (e : Event) → ends n e ≡ true → is_end e ≡ true
+    is_one (Exit p) is = refl
+    is_one (Demonitor k) is = refl
+    is_one e is = cc
+
+-- and so does who leaves a monitor, if there was one
+pub leaves_something : (was : Bool) (seat seat' : Seat) → LeavesMonitor was seat seat'
+    → GoesOnBy is_end seat.pass seat'.pass
+leaves_something true seat seat' (w, ws, goes) = ends_something w.number seat.pass seat'.pass goes
+leaves_something false seat seat' (none, same) = by_none is_end seat.pass seat'.pass
+    (ap (λ (s : Seat). s.pass) same)
 
 -- ---- what a connection has
 
@@ -275,28 +289,28 @@ kept_seat (outcomes.Monitor n) None own own' all came keeps were q is =
     were q (subst (λ ps. has ps q ≡ true) keeps is)
 
 -- what the answer of a call makes of a seat that has the processes which it moves
-pub answers_call : {T E : Type 0} (seat seat' : Seat) (e : Event) (out out' : List ℕ) (o : Outcome)
-    (exits : Option Pid) (answered : Result T E) → exits ≡ exited_by e
+pub answers_call : (seat seat' : Seat) (e : Event) (out out' : List ℕ) (o : Outcome)
+    (lack : Option Lack) (exits : Option Pid) → exits ≡ exited_by e
     → moves_only seat.own e ≡ true
-    → seat'.watches ≡ watches_after o (stake_by e) seat.watches
-    → OnOk answered ((answer : Result Reply CallFault) × Called seat.pass e answer seat'.pass
-    × IsOutcome answer o × (out' ≡ out ++ call_line answer)) → Kept o exits seat.own seat'.own
-    → OnOk answered (Answers (Some (requests.Call e)) seat out seat' out')
-answers_call seat seat' e out out' o exits answered is moves watches answers keeps =
-    on_ok answered
-    (λ x. inl (
-      moves,
-      (
-        x.0,
-        o,
-        x.1,
-        x.2,
-        subst (λ p. OwnAfter x.0 p seat.own seat'.own) is
-            (kept_after x.0 o exits seat.own seat'.own x.2 keeps),
-        watches,
-        x.3,
-      ),
-    )) answers
+    → seat'.watches ≡ watches_after o (stake_by e) seat.watches → lack ≡ lack_of o
+    → (answer : Result Reply CallFault) × Called seat.pass e answer seat'.pass
+    × IsOutcome answer o × (out' ≡ out ++ call_line answer)
+    → Kept o exits seat.own seat'.own
+    → Answers (Some (requests.Call e)) lack seat out seat' out'
+answers_call seat seat' e out out' o lack exits is moves watches lacks x keeps = inl (
+  moves,
+  (
+    x.0,
+    o,
+    x.1,
+    x.2,
+    lacks,
+    subst (λ p. OwnAfter x.0 p seat.own seat'.own) is
+        (kept_after x.0 o exits seat.own seat'.own x.2 keeps),
+    watches,
+    x.3,
+  ),
+)
 
 -- it is a seat then
 pub makes_seat : (seat seat' : Seat) (e : Event) (o : Outcome) (exits : Option Pid) → IsSeat seat

@@ -1,7 +1,8 @@
 -- What is noted at once for many monitors, step by step.
 use Rattle.pg_session.specs
 use Rattle.std.proofs.Common.{ap, Bool, cond, Err, false, IfOk, inl, inr, is_some, List, map, max}
-use Rattle.std.proofs.Common.{None, Ok, Option, refl, Result, Some, sym, true, ℕ, [], ◌&&◌, ◌∙◌, ◌∷◌, ◌≡◌, ◌⊎◌}
+use Rattle.std.proofs.Common.{None, Ok, Option, refl, Result, Some, sym, true, ℕ, [], ◌&&◌, ◌∙◌}
+use Rattle.std.proofs.Common.{◌∷◌, ◌≡◌, ◌⊎◌}
 use Rattle.std.specs.BTreeMap.{BTreeMap, get, Updates, WritesThrough}
 use Rattle.std.specs.List.{All, AllByRecursion, list_any}
 use Rattle.std.specs.Option.{option_and_then, option_map}

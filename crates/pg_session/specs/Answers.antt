@@ -11,6 +11,7 @@ use Rattle.node_threads.specs.Calls.{Record}
 use Rattle.node_threads.specs.Room.{Room, IsSound}
 use Rattle.node_threads.specs.Applied.{Fits}
 use Rattle.pg_text.specs.Answers.{spaced, step_line, size_line, found_line}
+use Rattle.pg_session.specs.declared.caller.Lack.{Lack}
 use Rattle.pg_session.specs.declared.request.Request.{Request}
 use Rattle.pg_session.specs.declared.request.Request.TheVariants as request
 use Rattle.pg_session.specs.Processes.{moves_only}
@@ -48,16 +49,25 @@ IsRead r pass line = ((room : Room) × IsSound room × Fits room pass × Reads r
 abbrev pub AnswersRead : Request → Record → List ℕ → List ℕ → Type 0
 AnswersRead r pass out out' = (line : List ℕ) × IsRead r pass line × (out' ≡ out ++ line)
 
--- what a request is answered: a call as the policy says, unless it speaks for processes that the connection doesn't have; all else makes no call
-abbrev pub Answers : Option Request → Seat → List ℕ → Seat → List ℕ → Type 0
-Answers None seat out seat' out' = (seat' ≡ seat) × (reason : List ℕ) × (out' ≡ out ++ codes "fault " ++ reason)
-Answers (Some (request.Call e)) seat out seat' out' = ((moves_only seat.own e ≡ true) × AnswersCall seat e out seat' out') ⊎ ((moves_only seat.own e ≡ false) × (seat' ≡ seat) × (out' ≡ out ++ strange_line))
-Answers (Some request.Help) seat out seat' out' = (seat' ≡ seat) × (text : List ℕ) × (out' ≡ out ++ text)
-Answers (Some (request.Report report)) seat out seat' out' = (seat' ≡ seat) × (text : List ℕ) × (out' ≡ out ++ text)
-Answers (Some (request.Change change)) seat out seat' out' = (seat' ≡ seat) × (text : List ℕ) × (out' ≡ out ++ text)
-Answers (Some request.Quit) seat out seat' out' = (seat' ≡ seat) × (out' ≡ out ++ codes "ok\n")
-Answers (Some request.Drain) seat out seat' out' = (seat' ≡ seat) × (out' ≡ out ++ codes "ok\n")
-Answers (Some r) seat out seat' out' = (seat' ≡ seat) × AnswersRead r seat.pass out out'
+-- what a request that makes no call is answered, over this pass
+abbrev pub Says : Option Request → Record → List ℕ → List ℕ → Type 0
+Says None pass out out' = (reason : List ℕ) × (out' ≡ out ++ codes "fault " ++ reason)
+Says (Some request.Help) pass out out' = (text : List ℕ) × (out' ≡ out ++ text)
+Says (Some (request.Report report)) pass out out' = (text : List ℕ) × (out' ≡ out ++ text)
+Says (Some (request.Change change)) pass out out' = (text : List ℕ) × (out' ≡ out ++ text)
+Says (Some request.Quit) pass out out' = out' ≡ out ++ codes "ok\n"
+Says (Some request.Drain) pass out out' = out' ≡ out ++ codes "ok\n"
+Says (Some r) pass out out' = AnswersRead r pass out out'
+
+-- what a request is answered, and what was wanting for its call: a call as the policy says, unless
+-- it speaks for processes that the connection doesn't have; all else makes no call
+abbrev pub Answers : Option Request → Option Lack → Seat → List ℕ → Seat → List ℕ → Type 0
+Answers (Some (request.Call e)) lack seat out seat' out' =
+    ((moves_only seat.own e ≡ true) × AnswersCall seat e lack out seat' out')
+    ⊎ ((moves_only seat.own e ≡ false) × (lack ≡ None) × (seat' ≡ seat)
+    × (out' ≡ out ++ strange_line))
+Answers asked lack seat out seat' out' =
+    (lack ≡ None) × (seat' ≡ seat) × Says asked seat.pass out out'
 
 -- at most one call, of the event that the line says
 abbrev pub Makes : Option Request → Seat → Seat → Type 0

@@ -1,5 +1,5 @@
 -- What a line asks of a node.
-use Rattle.std.specs.Prelude.{◌≡◌, ℕ, Bool, true, false, ◌||◌, cond, List, [], ◌∷◌, Option, Some, None, codes}
+use Rattle.std.specs.Prelude.{◌≡◌, ℕ, ◌==◌, Bool, true, false, ◌||◌, cond, List, [], ◌∷◌, Option, Some, None, codes}
 use Rattle.std.specs.Option.{option_and_then}
 use Rattle.std.specs.Str.{bytes_eq}
 use Rattle.policy_audit.specs.declared.event.Event.{Event}
@@ -43,6 +43,11 @@ is_fetch e = false
 abbrev pub is_demonitor : Event → Bool
 is_demonitor (event.Demonitor k) = true
 is_demonitor e = false
+
+-- a call that ends the monitor of this number
+abbrev pub ends : ℕ → Event → Bool
+ends k (event.Demonitor n) = n == k
+ends k e = false
 
 -- a call that ends a process or a monitor
 abbrev pub is_end : Event → Bool

@@ -1,5 +1,6 @@
 -- The calls of a connection.
-use Rattle.std.specs.Prelude.{◌≡◌, ℕ, Bool, true, ◌&&◌, List, ◌++◌, codes, Result, Ok, Err}
+use Rattle.std.specs.Prelude.{◌≡◌, ℕ, Bool, true, false, ◌&&◌, List, [], ◌∷◌, ◌++◌, codes, Option}
+use Rattle.std.specs.Prelude.{Result, Ok, Err}
 use Rattle.std.specs.List.{All}
 use Rattle.dist_types.specs.declared.pid.Pid.{Pid}
 use Rattle.policy_audit.specs.declared.event.Event.{Event}
@@ -10,13 +11,14 @@ use Rattle.node_threads.specs.declared.pass.Call.{Call}
 use Rattle.node_threads.specs.Calls.{Record, Gains}
 use Rattle.node_threads.specs.Applied.{Called}
 use Rattle.pg_text.specs.Answers.{step_line}
+use Rattle.pg_session.specs.declared.caller.Lack.{Lack}
 use Rattle.pg_session.specs.declared.caller.Outcome.{Outcome}
 use Rattle.pg_session.specs.declared.news.Seen.{Seen}
 use Rattle.pg_session.specs.declared.watch.Watch.{Watch}
-use Rattle.pg_session.specs.Asked.{is_made}
+use Rattle.pg_session.specs.Asked.{ends, is_made}
 use Rattle.pg_session.specs.Kinds.{stake_by, watches_after}
 use Rattle.pg_session.specs.Notices.{Known}
-use Rattle.pg_session.specs.Outcomes.{IsOutcome}
+use Rattle.pg_session.specs.Outcomes.{IsOutcome, lack_of}
 use Rattle.pg_session.specs.Processes.{has, spawned, exited_by, moves_only, OwnAfter}
 
 -- whether a connection that has spawned these may call this
@@ -57,6 +59,13 @@ pub record Seat : Type 0 where
 abbrev pub IsSeat : Seat → Type 0
 IsSeat seat = (p : Pid) → has seat.own p ≡ true → has (spawned seat.pass.calls) p ≡ true
 
+-- whether there was a monitor: then the last one has gone, and all further calls are to end it;
+-- if not, all is as it was
+abbrev pub LeavesMonitor : Bool → Seat → Seat → Type 0
+LeavesMonitor true seat seat' = (w : Watch) × (seat.watches ≡ seat'.watches ++ w ∷ [])
+    × GoesOnBy (ends w.number) seat.pass seat'.pass
+LeavesMonitor false seat seat' = (seat.watches ≡ []) × (seat' ≡ seat)
+
 -- the line for a pass that the node doesn't know
 abbrev pub stranger_line : List ℕ
 stranger_line = codes "fault the pass isn't of this node\n"
@@ -67,11 +76,11 @@ call_line (Ok reply) = step_line (Ok reply)
 call_line (Err (Core fault)) = step_line (Err fault)
 call_line (Err StrangePass) = stranger_line
 
--- one call of the event, whose answer was added to these bytes; processes and monitors come and go
--- as it says
-abbrev pub AnswersCall : Seat → Event → List ℕ → Seat → List ℕ → Type 0
-AnswersCall seat e out seat' out' = (answer : Result Reply CallFault) × (came : Outcome)
-    × Called seat.pass e answer seat'.pass × IsOutcome answer came
+-- one call of the event, whose answer was added to these bytes, and for which this was wanting, if
+-- anything; processes and monitors come and go as it says
+abbrev pub AnswersCall : Seat → Event → Option Lack → List ℕ → Seat → List ℕ → Type 0
+AnswersCall seat e lack out seat' out' = (answer : Result Reply CallFault) × (came : Outcome)
+    × Called seat.pass e answer seat'.pass × IsOutcome answer came × (lack ≡ lack_of came)
     × OwnAfter answer (exited_by e) seat.own seat'.own
     × (seat'.watches ≡ watches_after came (stake_by e) seat.watches)
     × (out' ≡ out ++ call_line answer)

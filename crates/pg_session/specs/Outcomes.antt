@@ -23,6 +23,11 @@ lack_by (Core OutOfMemory) = Some lack.Memory
 lack_by (Core (Refused rules.EntriesFull)) = Some lack.Room
 lack_by (Core (Refused rule)) = None
 
+-- what was wanting for a call that has come to this
+abbrev pub lack_of : Outcome → Option Lack
+lack_of (outcome.Refused lack) = lack
+lack_of o = None
+
 -- what has become of a monitor whose updates were asked for, where this was the answer
 abbrev pub fetched_by : Result Reply CallFault → Fetched
 fetched_by (Ok (reply.Updates us)) = fetched.Told

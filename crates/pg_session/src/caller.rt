@@ -9,7 +9,7 @@ ghost use Rattle.node_threads.specs.declared.fault.CallFault.TheVariants.{Core};
 ghost use Rattle.node_threads.specs.Applied.{Called, Fits, answer_now};
 ghost use Rattle.pg_session.specs.Processes.{spawned};
 ghost use Rattle.pg_session.specs.Calls.{IsCalled, AreConnections, call_line, stranger_line, may_call};
-ghost use Rattle.pg_session.specs.Outcomes.{IsOutcome, CameFrom, fetched_by, lack_by};
+ghost use Rattle.pg_session.specs.Outcomes.{IsOutcome, CameFrom, fetched_by, lack_by, lack_of};
 ghost use Rattle.pg_session.specs.Notices.{change, notice_line, fetched, Known, Tells};
 
 use dist_types::{OutOfMemory, Pid, TryClone};
@@ -57,7 +57,9 @@ pub enum Outcome {
 
 impl Outcome {
     /// What was wanting for the call.
-    pub fn lack(&self) -> Option<Lack> {
+    pub fn lack(&self) -> Option<Lack>
+        ensures { result ≡ lack_of self.now }
+    {
         match self {
             Outcome::Refused(lack) => *lack,
             _ => None,

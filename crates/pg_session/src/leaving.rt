@@ -1,6 +1,6 @@
 //! The end of what a connection had.
 ghost use Rattle.std.specs.Prelude.{◌≡◌, ◌⊎◌, true};
-ghost use Rattle.pg_session.specs.Asked.{is_demonitor, is_end};
+ghost use Rattle.pg_session.specs.Asked.{ends, is_end};
 ghost use Rattle.pg_session.specs.Processes.{spawned};
 ghost use Rattle.pg_session.specs.Calls.{GoesOnBy, IsCalled, may_call};
 ghost use Rattle.policy_audit.specs.declared.event.Event.TheVariants as events;
@@ -40,7 +40,7 @@ fn try_exit<R: Wait>(caller: &mut Caller, rt: &R, alloc: Global, node: &Node, pi
 
 /// Ends a monitor, unless memory is wanting for long.
 pub fn end_watch<R: Wait>(caller: &mut Caller, rt: &R, node: &Node, number: u32)
-    ensures { GoesOnBy is_demonitor caller.old caller.new }
+    ensures { GoesOnBy (ends number) caller.old caller.new }
 {
     for _ in 0..TRIES {
         if caller.end(rt, node, Event::Demonitor(number)) {

@@ -26,5 +26,5 @@ pub use laws::untouched_tells_nothing;
 pub use news::{LostLinks, Seen};
 pub use rights::Rights;
 pub use roster::Roster;
-pub use session::{Next, Session};
+pub use session::{Answered, Next, Session};
 pub use surroundings::{Change, Report, Surroundings};

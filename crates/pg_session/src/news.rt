@@ -1,5 +1,5 @@
 //! What a connection is told unasked: the peers that come and go, and that the node has begun anew.
-ghost use Rattle.std.specs.Prelude.{◌≡◌, ◌<◌, ◌≤◌, [], None, Some, false, length, position, OnOk, OnErr};
+ghost use Rattle.std.specs.Prelude.{◌≡◌, ◌<◌, ◌≤◌, ◌-◌, ◌==◌, [], None, Some, false, true, length, nat_lt, position, IfOk, OnOk, OnErr};
 ghost use Rattle.std.specs.List.{list_any};
 ghost use Rattle.policy_audit.specs.History.{creation, entered};
 ghost use Rattle.pg_session.specs.Notices.{Known, TellsNews, is_named, has_gone};
@@ -77,22 +77,30 @@ impl Seen {
     }
 
     /// How many entries there are since, news or not.
-    pub fn behind(&self, shared: &Shared) -> usize {
+    pub fn behind(&self, shared: &Shared) -> usize
+        ensures { result ≡ entered shared.now.history.entries - self.now.entries }
+    {
         shared.core().audit().len().saturating_sub(self.entries)
     }
 
     /// Whether there are more entries since than so many.
-    pub fn lags(&self, shared: &Shared, most: usize) -> bool {
+    pub fn lags(&self, shared: &Shared, most: usize) -> bool
+        ensures { result ≡ nat_lt most (entered shared.now.history.entries - self.now.entries) }
+    {
         self.behind(shared) > most
     }
 
     /// Whether the node is still in that life.
-    pub fn is_of(&self, shared: &Shared) -> bool {
+    pub fn is_of(&self, shared: &Shared) -> bool
+        ensures { result ≡ (creation shared.now.history == self.now.creation) }
+    {
         shared.core().creation() == self.creation
     }
 
-    /// Whether there is news since, which a connection with monitors may have to be told.
-    pub fn is_behind(&self, shared: &Shared) -> bool {
+    /// Whether there is news since, which a connection with monitors may have to be told: in another life there always is.
+    pub fn is_behind(&self, shared: &Shared) -> bool
+        ensures { (creation shared.now.history == self.now.creation) ≡ false → result ≡ true }
+    {
         !self.is_of(shared) || shared.last_news() as usize > self.entries
     }
 }
@@ -126,14 +134,10 @@ impl News {
 
     /// Takes the place of this one, as if it had been told the same.
     pub fn start(&mut self, alloc: Global, as_told: &News) -> Result<(), OutOfMemory>
-        ensures ok { OnOk result (self.new.anew ≡ None) }
+        ensures ok { OnOk result (self.new ≡ record { peers = as_told.now.peers; anew = None }) }
         ensures same { OnErr result (self.new ≡ self.old) }
     {
-        let mut peers = Vec::with_capacity(alloc, as_told.peers.len())?;
-        for peer in &as_told.peers {
-            peers.push(peer.try_clone(alloc)?)?;
-        }
-        self.peers = peers;
+        self.peers = copies(alloc, as_told.peers.as_slice())?;
         self.restarted = None;
         Ok(())
     }
@@ -333,4 +337,14 @@ impl News {
         self.peers.clear();
         Ok(())
     }
+}
+
+fn copies(alloc: Global, peers: &[Peer]) -> Result<Vec<Peer>, OutOfMemory>
+    ensures { IfOk result (λ copies. copies.items ≡ peers.now) }
+{
+    let mut copies = Vec::with_capacity(alloc, peers.len())?;
+    for peer in peers {
+        copies.push(peer.try_clone(alloc)?)?;
+    }
+    Ok(copies)
 }

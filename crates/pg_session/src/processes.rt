@@ -1,5 +1,6 @@
 //! The processes of a connection.
 ghost use Rattle.std.specs.Prelude.{◌≡◌, [], true, false, cond, IfSome, IfNone, OnOk, OnErr};
+ghost use Rattle.dist_types.specs.Difference.{is_empty};
 ghost use Rattle.std.specs.List.{list_all, list_any};
 ghost use Rattle.dist_types.specs.declared.pid.Pid.{Pid};
 ghost use Rattle.dist_types.specs.Listing.{same_pid};
@@ -38,7 +39,9 @@ impl Processes {
         }
     }
 
-    pub fn is_empty(&self) -> bool {
+    pub fn is_empty(&self) -> bool
+        ensures { result ≡ is_empty self.now }
+    {
         self.live.is_empty()
     }
 

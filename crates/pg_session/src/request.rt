@@ -21,6 +21,11 @@ const QUIT: &str = "quit";
 
 const DRAIN: &str = "drain";
 
+/// Commands of a script alone.
+const OF_SCRIPTS: [&str; 7] = [
+    "frame", "lost", "opened", "restart", "seat", "take", "updates",
+];
+
 /// What a line asks for.
 #[derive(Drop)]
 pub enum Request {
@@ -126,20 +131,25 @@ fn reason(alloc: Global, line: &[u8]) -> Result<Vec<u8>, OutOfMemory> {
             put_word("a word too many: ", &mut text)?;
             put_bytes(rest.unwrap_or(&[]), &mut text)?;
         }
-        Some((reason, part)) => {
+        Some((reason, part)) if !is_of_scripts(name) => {
             put_word(format!(in alloc; "{reason}")?.as_str(), &mut text)?;
             if !part.is_empty() {
                 put_word(": ", &mut text)?;
                 put_word(part, &mut text)?;
             }
         }
-        None => {
+        _ => {
             put_word("no such command: ", &mut text)?;
             put_bytes(name, &mut text)?;
         }
     }
     put_word("\n", &mut text)?;
     Ok(text)
+}
+
+/// Whether this is a command of the console that no connection may say, whatever stands behind it.
+fn is_of_scripts(name: &[u8]) -> bool {
+    OF_SCRIPTS.iter().any(|command| command.as_bytes() == name)
 }
 
 /// Whether this is a command of the program that the console lacks. None of them takes a word.

@@ -1,5 +1,7 @@
 //! Who is up, for connections that are still to come.
-ghost use Rattle.std.specs.Prelude.{◌≡◌, OnOk};
+ghost use Rattle.std.specs.Prelude.{◌≡◌, false, OnOk};
+ghost use Rattle.std.specs.List.{list_any};
+ghost use Rattle.pg_session.specs.Notices.{has_gone};
 ghost use Rattle.pg_session.specs.Seen.{seen_of};
 
 use crate::news::{LostLinks, News, Seen};
@@ -31,7 +33,9 @@ impl Roster {
     }
 
     /// What a connection knows that has been told all.
-    pub fn news(&self) -> &News {
+    pub fn news(&self) -> &News
+        ensures { result.now ≡ self.now.news }
+    {
         &self.news
     }
 
@@ -44,14 +48,17 @@ impl Roster {
 
     /// How many entries of this life it had seen when a peer had last come or gone, or a scope had
     /// stopped: whoever has been told of as many has been told of that. 0 where nothing has.
-    pub fn last_notice(&self) -> usize {
+    pub fn last_notice(&self) -> usize
+        ensures { result ≡ self.now.last_notice }
+    {
         self.last_notice
     }
 
     /// Follows the node up to now, in a new life from its beginning. Where memory is wanting it does so
     /// later.
     pub fn follow(&mut self, alloc: Global, core: &NodeCore) -> Result<(), OutOfMemory>
-        ensures { OnOk result (self.new.seen ≡ seen_of core.now.history) }
+        ensures seen { OnOk result (self.new.seen ≡ seen_of core.now.history) }
+        ensures up { OnOk result (list_any (has_gone core.now.history) self.new.news.peers ≡ false) }
     {
         if self.seen.creation() != core.creation() {
             self.news = News::new(alloc);

@@ -1,14 +1,15 @@
 //! The seat of one connection: what it asks, and what it has of the node.
-ghost use Rattle.std.specs.Prelude.{◌≡◌, ◌⊎◌, [], false, true, length, IfOk, OnOk, OnErr, Some, None};
+ghost use Rattle.std.specs.Prelude.{◌≡◌, ◌⊎◌, [], false, true, not, length, IfOk, OnOk, OnErr, IsTrue, Some, None};
+ghost use Rattle.std.specs.List.{list_any};
+ghost use Rattle.dist_types.specs.Difference.{is_empty};
 ghost use Rattle.policy_audit.specs.History.{creation};
 ghost use Rattle.pg_text.specs.Lines.{is_quiet};
-ghost use Rattle.pg_session.specs.Asked.{is_call, is_demonitor, is_end, asked_by};
-ghost use Rattle.pg_session.specs.Asked.{next_after, next_behind, IsAsked};
+ghost use Rattle.pg_session.specs.Asked.{is_call, is_end, asked_by, next_after, next_behind, IsAsked};
 ghost use Rattle.pg_session.specs.Answers.{Answers, Makes};
 ghost use Rattle.dist_types.specs.declared.pid.Pid.{Pid};
 ghost use Rattle.pg_session.specs.Processes.{has};
-ghost use Rattle.pg_session.specs.Calls.{Seat, GoesOnBy};
-ghost use Rattle.pg_session.specs.Notices.{TellsNews};
+ghost use Rattle.pg_session.specs.Calls.{Seat, GoesOnBy, LeavesMonitor};
+ghost use Rattle.pg_session.specs.Notices.{TellsNews, has_gone};
 ghost use Rattle.pg_session.specs.Seen.{seen_of};
 ghost use Rattle.pg_session.specs.declared.request.Request.TheVariants as requests;
 
@@ -44,8 +45,6 @@ pub struct Session {
     is_open: bool,
     /// How many rows its processes have at most. No contract rests on it.
     rows: usize,
-    /// What was wanting for the call of the last line. No contract rests on it.
-    lack: Option<Lack>,
 }
 
 impl Drop for Session {
@@ -58,7 +57,6 @@ impl Drop for Session {
             seen: _,
             is_open: _,
             rows: _,
-            lack: _,
         } = self;
     }
 }
@@ -95,6 +93,31 @@ pub enum Next {
     Drain,
 }
 
+/// What is to be done behind an answer. Behind a line that makes no call nothing is wanting.
+#[derive(Clone, Copy, Debug, PartialEq, Eq)]
+pub struct Answered {
+    pub next: Next,
+    /// What was wanting for the call of the line, if that made no entry for want of it.
+    pub lack: Option<Lack>,
+}
+
+impl Answered {
+    const LINE: Answered = Answered {
+        next: Next::Line,
+        lack: None,
+    };
+
+    const QUIT: Answered = Answered {
+        next: Next::Quit,
+        lack: None,
+    };
+
+    const DRAIN: Answered = Answered {
+        next: Next::Drain,
+        lack: None,
+    };
+}
+
 impl Session {
     /// A seat that nobody has.
     pub fn new(alloc: Global, caller: Caller) -> Session
@@ -115,7 +138,6 @@ impl Session {
             seen: Seen::NOTHING,
             is_open: false,
             rows: 0,
-            lack: None,
         }
     }
 
@@ -127,7 +149,9 @@ impl Session {
     }
 
     /// Whether the connection has processes that live.
-    pub fn has_processes(&self) -> bool {
+    pub fn has_processes(&self) -> bool
+        ensures { result ≡ not (is_empty self.now.own) }
+    {
         !self.processes.is_empty()
     }
 
@@ -144,7 +168,9 @@ impl Session {
     }
 
     /// How many monitors it has.
-    pub fn monitors(&self) -> usize {
+    pub fn monitors(&self) -> usize
+        ensures { result ≡ length self.now.watches }
+    {
         self.watches.len()
     }
 
@@ -160,11 +186,6 @@ impl Session {
         self.caller.let_go();
     }
 
-    /// What was wanting for the call that the last line asked for, if the call made no entry for want of that.
-    pub fn lack(&self) -> Option<Lack> {
-        self.lack
-    }
-
     /// Gives the seat to a connection, which is told what happens from now on.
     pub fn open(
         &mut self,
@@ -174,6 +195,8 @@ impl Session {
     ) -> Result<Seen, OutOfMemory>
         ensures ok { OnOk result (self.new ≡ record self.old { taken = true; known = self.new.known; seen = self.new.seen }) }
         ensures done { OnOk result (self.new.known.anew ≡ None) }
+        ensures known { OnOk result (self.new.known.peers ≡ roster.new.news.peers) }
+        ensures up { OnOk result (list_any (has_gone core.now.history) self.new.known.peers ≡ false) }
         ensures looked { OnOk result (self.new.seen ≡ seen_of core.now.history) }
         ensures seen { IfOk result (λ seen. seen ≡ self.new.seen) }
         ensures same { OnErr result (self.new ≡ self.old) }
@@ -185,8 +208,7 @@ impl Session {
         Ok(self.seen)
     }
 
-    /// Takes the right to call the next life, and gives back that to call the last one. Processes, monitors and peers of the last
-    /// life are gone with it, which the connection is told next.
+    /// Takes the right to call the next life, and gives back the last one's: what that had is gone.
     pub fn begin_anew(&mut self, caller: Caller, core: &NodeCore) -> Caller
         ensures next { self.new ≡ record {
           pass = caller;
@@ -216,7 +238,6 @@ impl Session {
             seen: _,
             is_open: _,
             rows: _,
-            lack: _,
         } = self;
         caller
     }
@@ -231,8 +252,7 @@ impl Session {
         self.news.put_restart(out)
     }
 
-    /// Adds the answer to a line: one line, unless the line is quiet. For want of memory there is none, and then the call may have
-    /// been made.
+    /// Adds the answer, a line, unless the line is quiet. At an error the call may have been made.
     #[tactic(auto, using(crate::proofs::Asking::makes_none, crate::proofs::Asking::makes_as, crate::proofs::Asking::answers_as))]
     pub fn answer<R: Wait, E: Surroundings>(
         &mut self,
@@ -242,24 +262,25 @@ impl Session {
         surroundings: &E,
         line: &[u8],
         out: &mut Vec<u8>,
-    ) -> Result<Next, OutOfMemory>
-        ensures quiet { is_quiet line.now ≡ true → (self.new ≡ self.old) × (out.new ≡ out.old) }
-        ensures ok { OnOk result (is_quiet line.now ≡ false → Answers (asked_by line.now) self.old out.old.items self.new out.new.items) }
-        ensures next { IfOk result (λ next. next ≡ next_behind line.now) }
+    ) -> Result<Answered, OutOfMemory>
+        ensures quiet { is_quiet line.now ≡ true → (self.new ≡ self.old) × (out.new ≡ out.old)
+            × IfOk result (λ answered. answered.lack ≡ None) }
+        ensures ok { IfOk result (λ answered. is_quiet line.now ≡ false
+            → Answers (asked_by line.now) answered.lack self.old out.old.items self.new out.new.items) }
+        ensures next { IfOk result (λ answered. answered.next ≡ next_behind line.now) }
         ensures once { Makes (asked_by line.now) self.old self.new }
         ensures taken { self.new.taken ≡ self.old.taken }
         ensures known { self.new.known ≡ self.old.known }
         ensures seen { self.new.seen ≡ self.old.seen }
     {
-        self.lack = None;
         if is_quiet(line) {
-            return Ok(Next::Line);
+            return Ok(Answered::LINE);
         }
         match read_request(alloc, line) {
             Ok(request) => self.follow(rt, alloc, node, surroundings, request, out),
             Err(LineFault::Script) => {
                 put_fault(alloc, line, out)?;
-                Ok(Next::Line)
+                Ok(Answered::LINE)
             }
             Err(LineFault::Memory) => Err(OutOfMemory),
         }
@@ -273,17 +294,21 @@ impl Session {
         surroundings: &E,
         request: Request,
         out: &mut Vec<u8>,
-    ) -> Result<Next, OutOfMemory>
+    ) -> Result<Answered, OutOfMemory>
         requires { IsAsked request }
-        ensures ok { OnOk result (Answers (Some request) self.old out.old.items self.new out.new.items) }
-        ensures next { IfOk result (λ next. next ≡ next_after (Some request)) }
+        ensures ok { IfOk result (λ answered. Answers (Some request) answered.lack self.old out.old.items self.new out.new.items) }
+        ensures next { IfOk result (λ answered. answered.next ≡ next_after (Some request)) }
         ensures once { Makes (Some request) self.old self.new }
         ensures taken { self.new.taken ≡ self.old.taken }
         ensures known { self.new.known ≡ self.old.known }
         ensures seen { self.new.seen ≡ self.old.seen }
     {
         match request {
-            Request::Call(event) => self.call(rt, alloc, node, event, out)?,
+            Request::Call(event) => {
+                let lack = self.call(rt, alloc, node, event, out)?;
+                let next = Next::Line;
+                return Ok(Answered { next, lack });
+            }
             Request::Query(event) => put_query(rt, alloc, node, &self.caller, event, out)?,
             Request::Size => put_size(rt, node, &self.caller, out)?,
             Request::Audit(number) => put_found(rt, node, &self.caller, number, out)?,
@@ -293,17 +318,17 @@ impl Session {
             Request::Help => put_word(HELP, out)?,
             Request::Quit => {
                 put_word("ok\n", out)?;
-                return Ok(Next::Quit);
+                return Ok(Answered::QUIT);
             }
             Request::Drain => {
                 put_word("ok\n", out)?;
-                return Ok(Next::Drain);
+                return Ok(Answered::DRAIN);
             }
         }
-        Ok(Next::Line)
+        Ok(Answered::LINE)
     }
 
-    /// Adds the answer to a call for processes that the connection has, if for any, and keeps what it has by it.
+    /// Answers a call for own processes, if for any, and keeps what comes of it. Tells what it lacked.
     fn call<R: Wait>(
         &mut self,
         rt: &R,
@@ -311,9 +336,9 @@ impl Session {
         node: &Node,
         event: Event,
         out: &mut Vec<u8>,
-    ) -> Result<(), OutOfMemory>
+    ) -> Result<Option<Lack>, OutOfMemory>
         requires { is_call event ≡ true }
-        ensures ok { OnOk result (Answers (Some (requests.Call event)) self.old out.old.items self.new out.new.items) }
+        ensures ok { IfOk result (λ lack. Answers (Some (requests.Call event)) lack self.old out.old.items self.new out.new.items) }
         ensures once { Makes (Some (requests.Call event)) self.old self.new }
         ensures taken { self.new.taken ≡ self.old.taken }
         ensures known { self.new.known ≡ self.old.known }
@@ -322,7 +347,8 @@ impl Session {
         let kind = Kind::of(&event);
         if !self.processes.has_all(kind.pids()) {
             drop(event);
-            return put_word("fault not yours\n", out);
+            put_word("fault not yours\n", out)?;
+            return Ok(None);
         }
         let prepared = prepare(alloc, &mut self.processes, &mut self.watches, kind);
         let Ok(stake) = prepared else {
@@ -332,19 +358,17 @@ impl Session {
         let rows = MoreOrFewer::of(rows_of(&self.processes, self.rows), &event);
         let mut outcome = Outcome::Refused(None);
         let answered = self.caller.call(rt, alloc, node, event, &mut outcome, out);
-        self.lack = outcome.lack();
+        let lack = outcome.lack();
         self.rows = rows.behind(&outcome);
         keep(&mut self.processes, &mut self.watches, outcome, stake)?;
-        answered
+        answered?;
+        Ok(lack)
     }
 
-    /// Ends a monitor of the connection: whether there was one.
+    /// Ends the last monitor of the connection: whether there was one.
     pub fn leave_monitor<R: Wait>(&mut self, rt: &R, node: &Node) -> bool
-        ensures goes { GoesOnBy is_demonitor self.old.pass self.new.pass }
-        ensures rest { self.new ≡ record self.old {
-          pass = self.new.pass;
-          watches = self.new.watches;
-        } }
+        ensures one { LeavesMonitor result self.old self.new }
+        ensures rest { self.new ≡ record self.old { pass = self.new.pass; watches = self.new.watches } }
     {
         let Some(watch) = self.watches.pop() else {
             return false;
@@ -357,15 +381,16 @@ impl Session {
     pub fn leave_one<R: Wait>(&mut self, rt: &R, alloc: Global, node: &Node) -> bool
         ensures goes { GoesOnBy is_end self.old.pass self.new.pass }
         ensures fewer { (p : Pid) → has self.new.own p ≡ true → has self.old.own p ≡ true }
-        ensures free { result ≡ false → (self.old.own ≡ []) × (self.new ≡ record self.old { taken = false }) }
+        ensures monitor { self.old.own ≡ [] → IsTrue result → LeavesMonitor true self.old self.new }
+        ensures free { result ≡ false → (self.old.own ≡ []) × (self.old.watches ≡ [])
+            × (self.new ≡ record self.old { taken = false }) }
         ensures taken { result ≡ true → self.new.taken ≡ self.old.taken }
     {
         if let Some(pid) = self.processes.take() {
             end_process(&mut self.caller, rt, alloc, node, &pid);
             return true;
         }
-        if let Some(watch) = self.watches.pop() {
-            end_watch(&mut self.caller, rt, node, watch.number);
+        if self.leave_monitor(rt, node) {
             return true;
         }
         self.is_open = false;

@@ -1,7 +1,8 @@
 -- A life that is told what the last one was told holds what that did.
 use Rattle.pg_settings.specs
 use Rattle.std.proofs.Common.{ap, append-nil, arith, Bool, cond, false, flat_map, List, map, nat_lt}
-use Rattle.std.proofs.Common.{None, Option, refl, reverse, Some, true, ℕ, [], ◌++◌, ◌∙◌, ◌∷◌, ◌≡◌, ◌≤◌}
+use Rattle.std.proofs.Common.{None, Option, refl, reverse, Some, true, ℕ, [], ◌++◌, ◌∙◌, ◌∷◌, ◌≡◌}
+use Rattle.std.proofs.Common.{◌≤◌}
 use Rattle.std.proofs.lemmas.List.{reverse-append}
 use Rattle.std.specs.List.{list_any}
 use Rattle.std.specs.Map.{lookup}
@@ -101,8 +102,8 @@ last_scope s (t ∷ ts) =
 -- ---- names
 
 -- of what allows none no name is allowed
-pub allows_none : {C : Type 0} (g : C → Event) → ((c : C) → names_allowed (g c) ≡ []) → (cs : List C)
-    → flat_map names_allowed (reverse (map g cs)) ≡ []
+pub allows_none : {C : Type 0} (g : C → Event) → ((c : C) → names_allowed (g c) ≡ [])
+    → (cs : List C) → flat_map names_allowed (reverse (map g cs)) ≡ []
 allows_none g none [] = refl
 allows_none g none (c ∷ cs) =
     ap (flat_map names_allowed) (reverse-append (g c ∷ []) (map g cs))

@@ -8,8 +8,8 @@ use Rattle.policy_audit.specs.declared.event.Event.{Event}
 use Rattle.policy_audit.specs.declared.event.Event.TheVariants as event
 use specs.Settings.{all_told, cookies_told, is_setting, names_told, own_told, scopes_told}
 
-each_setting : {A : Type 0} (say : A → Event) → ((x : A) → is_setting (say x) ≡ true) → (xs : List A)
-    → list_all is_setting (map say xs) ≡ true
+each_setting : {A : Type 0} (say : A → Event) → ((x : A) → is_setting (say x) ≡ true)
+    → (xs : List A) → list_all is_setting (map say xs) ≡ true
 each_setting say is [] = refl
 each_setting say is (x ∷ xs) = grind (arith, is x, each_setting say is xs)
 

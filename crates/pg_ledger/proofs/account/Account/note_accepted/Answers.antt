@@ -12,8 +12,8 @@ pub returns-in_ok-note_allowed-in-Allow-clause-ok :
     goal.returns-in_ok-note_allowed-in-Allow-clause-ok
 returns-in_ok-note_allowed-in-Allow-clause-ok c = λ h e is accepts told.
     allow_noted c.as_slice.result.now c.args.self.now c.note_allowed.new.self
-    c.in_ok-note_allowed-in-Allow.ensures.ok h e (grind (arith, is, c.in-Allow.is, c.as_slice.ensures))
-    accepts told
+    c.in_ok-note_allowed-in-Allow.ensures.ok h e
+    (grind (arith, is, c.in-Allow.is, c.as_slice.ensures)) accepts told
 
 pub returns-in_ok-insert-in-StartScope-clause-ok :
     goal.returns-in_ok-insert-in-StartScope-clause-ok

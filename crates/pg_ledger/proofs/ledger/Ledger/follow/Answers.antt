@@ -16,8 +16,15 @@ returns-clause-told g c = λ h behind.
     let u = c.begin.new.self.account in
     let is : u ≡ cond (life == creation node.history) t nothing =
     grind (arith, c.begin.ensures.account, c.creation.ensures) in
-    let are : c.after.result ≡ later_than (max u.entries node.forgotten) (audited node.history.entries) =
-    grind (arith, c.after.ensures.rest, c.entries-seen.ensures, c.audit.ensures.entries, c.audit.ensures.forgotten) in
+    let are : c.after.result
+    ≡ later_than (max u.entries node.forgotten) (audited node.history.entries) =
+    grind (
+      arith,
+      c.after.ensures.rest,
+      c.entries-seen.ensures,
+      c.audit.ensures.entries,
+      c.audit.ensures.forgotten,
+    ) in
     c.end_slow.ensures.account
     ∙ comes_up t life h node behind c.audit.ensures.legal c.audit.ensures.fits u
     c.look_at_all.new.self.account c.after.result is are c.in_ok-look_at_all.ensures.told

@@ -10,8 +10,11 @@ pub loop-entry-init : goal.loop-entry-init
 loop-entry-init g c =
     let are : c.args.entries ≡ c.into_iter-entry-iterator.result =
     grind (arith, c.into_iter-entry-iterator.ensures) in
-    let t = c.args.self.now.account in
-    (subst (λ (es : List Entry). NotesBut es c.args.entries t t) are (notes_none c.args.entries t), refl)
+    let t = c.args.self.now.account in (
+      subst (λ (es : List Entry). NotesBut es c.args.entries t t) are
+          (notes_none c.args.entries t),
+      refl,
+    )
 
 pub loop-entry-preserved : goal.loop-entry-preserved
 loop-entry-preserved g c = (

@@ -1,5 +1,7 @@
 use Rattle.pg_session.proofs
-use Rattle.std.proofs.Common.{ap, map, subst, [], ◌∙◌, ◌≡◌}
+use Rattle.std.proofs.Common.{ap, false, map, subst, [], ◌∙◌, ◌≡◌}
+use Rattle.std.specs.List.{list_any}
+use Rattle.pg_session.specs.Notices.{has_gone}
 use Rattle.pg_session.specs.Seen.{seen_of, unseen}
 use Rattle.pg_session.specs.Watched.{Awaits}
 use Rattle.pg_session.specs.Watching.{as_begun, noted}
@@ -33,6 +35,9 @@ returns-clause-looked g c =
           c.deref.ensures.value c.of_many-watched.ensures))
           ∙ ap (λ es. map (noted es) before) all;
       seen = c.of-seen.ensures ∙ ap seen_of kept.history;
+      up =
+          subst (λ h. list_any (has_gone h) c.put_peers-told.new.self.peers ≡ false) kept.history
+          c.in_ok-told.ensures.up;
     })
 
 pub returns-in_err-put_stops-clause-monitors : goal.returns-in_err-put_stops-clause-monitors

@@ -57,13 +57,15 @@ returns-clause-monitors g c =
         had = looked.had;
         watches = looked.watches;
         seen = looked.seen;
+        up = looked.up;
       };
       all = told.0;
       asked =
-          asked_alike c.self-2.inside.caller c.tell_all.new.caller c.self.inside.caller _ _ told.0 _ _
-          pass watches entries told.1;
+          asked_alike c.self-2.inside.caller c.tell_all.new.caller c.self.inside.caller _ _
+          told.0 _ _ pass watches entries told.1;
       left = told.2;
       seen = ap (λ (s : Seat). s.seen) c.self-2.view_is;
+      known = ap (λ (s : Seat). s.known) c.self-2.view_is;
     })
 
 pub returns-clause-asks : goal.returns-clause-asks
@@ -114,6 +116,7 @@ returns-in_err-tell_all-clause-memory g c =
           had = looked.had;
           watches = looked.watches;
           seen = looked.seen;
+          up = looked.up;
         },
         ap (λ (s : Seat). s.seen) c.self-2.view_is,
       );
