@@ -2,6 +2,7 @@
 #![tactic(auto)]
 
 mod archive;
+mod asking;
 mod cookies;
 mod options;
 mod pair;
@@ -15,7 +16,7 @@ use clap::ArgMatches;
 use command_line::{OUT_OF_MEMORY, failed, held_streams, matched, told, words};
 use named_files::ShownPath;
 use options::{command, opening};
-use pair::pair;
+use pair::{PairEnd, pair};
 use pg_script::{KeepFault, RunFault, play_keeping};
 use pg_text::{diagnose, without_feed};
 use policy_audit::Opening;
@@ -80,10 +81,10 @@ fn meet<
         + Clock
         + Sync,
 >(rt: &R) -> ExitCode {
-    match pair(rt, rt.alloc(), &mut io::writer(rt)) {
-        Ok(true) => ExitCode::SUCCESS,
-        Ok(false) => ExitCode::from(1),
-        Err(error) => told(rt, 1, &error),
+    match pair(rt, &mut io::writer(rt)) {
+        PairEnd::Done => ExitCode::SUCCESS,
+        PairEnd::Late => ExitCode::from(1),
+        PairEnd::Failed(error) => told(rt, 1, &error),
     }
 }
 
@@ -183,8 +184,8 @@ fn play_again<R: AllocGlobal + Print + Eprint + Files<File = File>>(
     matches: &ArgMatches<'_>,
 ) -> ExitCode {
     let mut player = Player::new(rt.alloc());
-    if let Err(error) = player.cookies.add_shown(rt.alloc(), matches) {
-        return told(rt, 2, &error);
+    if let Err(fault) = player.cookies.add_shown(rt.alloc(), matches) {
+        return told(rt, fault.status(), &fault);
     }
     match replay(rt, matches, &mut player) {
         Ok(()) => ExitCode::SUCCESS,

@@ -45,7 +45,8 @@ Status: 0 at the end of the script; 1 at a line that can't be read, at a fault o
 /// What an archive is and needs, behind the help of the parser.
 const ARCHIVES: &str = "\
 An archive has no cookies, so they are given: that of the node itself, and for each peer that was given one of its own. Where one
-name is given several, they are taken in turn, anew with each life, and the last of them from then on.
+name is given several, they are taken in turn, anew with each life or, with --through-lives, through all of them, and the last from
+then on.
 
 Example:
   printf 'start pg\\nspawn\\n' | pg_console run --archive entries b@h password && pg_console replay --cookie b@h=password entries
@@ -130,6 +131,7 @@ fn replay_command<'a>(alloc: Global) -> Result<Command<'a>, Error> {
         archives(alloc),
         options(alloc, "cookie", "NAME=TEXT", shown),
         options(alloc, "cookie-for", "NAME=FILE", "The same, in a file"),
+        through_lives(alloc),
     ]?;
     Ok(
         Command::new(alloc, "replay")
@@ -195,6 +197,13 @@ fn hidden<'a>(alloc: Global) -> Arg<'a> {
     Arg::new(alloc, "hidden")
         .long("hidden")
         .help("Makes each link a hidden one")
+        .action(ArgAction::SetTrue)
+}
+
+fn through_lives<'a>(alloc: Global) -> Arg<'a> {
+    Arg::new(alloc, "through-lives")
+        .long("through-lives")
+        .help("Takes the secrets of a name in turn through all lives, and not anew with each")
         .action(ArgAction::SetTrue)
 }
 

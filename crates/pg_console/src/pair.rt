@@ -1,31 +1,36 @@
 //! Two nodes in one process, linked over the loopback: each has a process in one group, and lists
 //! that of the other.
+use crate::asking::{ask, watch};
 use crate::sockets::{connected, second_of};
 use anyhow::{Error, Result, bail};
-use dist_types::{Cookie, NodeName, OutOfMemory, TextFault};
+use cookie_digest::ChallengeSource;
+use dist_types::{Cookie, NodeName, TextFault};
 use node_threads::{Connection, Node, OpenGate, Pair, Pass, serve_link};
-use pg_text::{Command, LineFault, parse, put_each, put_word};
-use policy_audit::{Event, Members, Opening, Reply};
+use policy_audit::{Event, Opening, Reply};
+use rand_chacha::ChaCha20Rng;
+use rand_core::SeedableRng;
 use std::alloc::Global;
 use std::io::Write;
 use std::net::{Net, Shutdown, TcpListener, TcpStream};
 use std::sync::Wait;
 use std::thread;
 use std::thread::Threads;
-use std::time::{Clock, Duration};
+use std::time::Clock;
 
-/// How often each node is asked for the members.
-const TRIES: u32 = 10_000;
+/// What the challenges are drawn with. They are the same in each run: nobody else speaks on this
+/// link.
+const KEY: [u8; 32] = [0; 32];
 
-/// The milliseconds between two questions.
-const PAUSE: u64 = 1;
-
-/// What opens the link at the end that dials. The challenges are the same in each run: nobody else
-/// speaks on this link.
-const DIAL: &str = "dial b@h 7";
-
-/// What opens it at the other end.
-const OPENED: &str = "opened 9";
+/// How the two nodes parted.
+#[derive(Drop)]
+pub enum PairEnd {
+    /// Each node has listed both processes, and is closed.
+    Done,
+    /// A node didn't list both processes in time.
+    Late,
+    /// A fault of a socket, a thread, a node, memory or the writer.
+    Failed(Error),
+}
 
 /// A node with a process in the group, the pass that asks it, and those that serve its link.
 struct Member {
@@ -91,8 +96,26 @@ struct Wire {
 
 /// Links the nodes a@h and b@h over 127.0.0.1, until each lists the process of the other, and parts
 /// and closes them. It writes a line for whom each node has seen and one for each that is closed,
-/// or the line `late`: whether each has listed both processes in time.
-pub fn pair<R, W>(rt: &R, alloc: Global, writer: &mut W) -> Result<bool>
+/// or the line `late`.
+pub fn pair<R, W>(rt: &R, writer: &mut W) -> PairEnd
+where
+    R: AllocGlobal
+        + Net<Listener = TcpListener, Stream = TcpStream>
+        + Threads
+        + Wait
+        + Clock
+        + Sync,
+    W: Write,
+{
+    match meet(rt, rt.alloc(), writer) {
+        Ok(true) => PairEnd::Done,
+        Ok(false) => PairEnd::Late,
+        Err(error) => PairEnd::Failed(error),
+    }
+}
+
+/// Whether each node has listed both processes in time.
+fn meet<R, W>(rt: &R, alloc: Global, writer: &mut W) -> Result<bool>
 where
     R: Net<Listener = TcpListener, Stream = TcpStream> + Threads + Wait + Clock + Sync,
     W: Write,
@@ -162,10 +185,24 @@ fn link_both<R>(rt: &R, alloc: Global, both: &mut Both) -> Result<Wire>
 where
     R: Net<Listener = TcpListener, Stream = TcpStream> + Wait + Sync,
 {
+    let (near, far) = challenges();
+    let dial = dial(alloc, near)?;
     let (out, back, hook) = connected(rt)?;
-    let near = link(rt, alloc, &mut both.near, DIAL, out)?;
-    let far = link(rt, alloc, &mut both.far, OPENED, back)?;
+    let near = link(rt, &mut both.near, dial, out)?;
+    let far = link(rt, &mut both.far, Event::Opened(far), back)?;
     Ok(Wire { near, far, hook })
+}
+
+/// Those of the end that dials, and of the other one.
+fn challenges() -> (u32, u32) {
+    let mut source = ChallengeSource::new(ChaCha20Rng::from_seed(KEY));
+    let near = source.draw();
+    (near, source.draw())
+}
+
+fn dial(alloc: Global, challenge: u32) -> Result<Event, TextFault> {
+    let peer = NodeName::parse(alloc, b"b@h")?;
+    Ok(Event::Dial(peer, challenge))
 }
 
 fn start_both<R: Wait + Sync>(rt: &R, alloc: Global) -> Result<Both> {
@@ -218,38 +255,15 @@ fn join_group<R: Wait + Sync>(
     Ok(())
 }
 
-/// What the node answers to a line of a script.
-fn ask<'a, R: Wait + Sync>(
-    rt: &R,
-    alloc: Global,
-    node: &Node,
-    pass: &'a mut Pass,
-    line: &str,
-) -> Result<&'a Reply> {
-    let event = event_of(alloc, line)?;
-    Ok(pass.call(node, rt, event)?)
-}
-
-fn event_of(alloc: Global, line: &str) -> Result<Event> {
-    match parse(alloc, line.as_bytes()) {
-        Ok(Command::Step(event)) => Ok(event),
-        Ok(Command::Seat(_) | Command::Size | Command::Audit(_)) | Err(LineFault::Script) => {
-            bail!("no event: {line}")
-        }
-        Err(LineFault::Memory) => Err(Error::from(OutOfMemory)),
-    }
-}
-
-/// An end of the link that the line opens over this socket.
+/// An end of the link that the event opens over this socket.
 fn link<R: Wait + Sync>(
     rt: &R,
-    alloc: Global,
     member: &mut Member,
-    line: &str,
+    event: Event,
     input: TcpStream,
 ) -> Result<Connection<TcpStream, TcpStream>> {
+    let link = open_link(rt, member, event)?;
     let output = second_of(&input)?;
-    let link = open_link(rt, alloc, member, line)?;
     Ok(Connection {
         link,
         input,
@@ -257,14 +271,9 @@ fn link<R: Wait + Sync>(
     })
 }
 
-/// The number of the link that the line opens.
-fn open_link<R: Wait + Sync>(
-    rt: &R,
-    alloc: Global,
-    member: &mut Member,
-    line: &str,
-) -> Result<u32> {
-    match ask(rt, alloc, &member.node, &mut member.pair.reader, line)? {
+/// The number of the link that the event opens.
+fn open_link<R: Wait + Sync>(rt: &R, member: &mut Member, event: Event) -> Result<u32> {
+    match member.pair.reader.call(&member.node, rt, event)? {
         Reply::Link(link) => Ok(*link),
         _ => bail!("no link"),
     }
@@ -291,72 +300,6 @@ fn serve_both<R: Threads + Wait + Sync>(
         move || serve(rt, alloc, near),
         move || serve(rt, alloc, far),
     )
-}
-
-/// Asks each node until it lists two processes, which it adds, and parts them: whether both came in
-/// time.
-fn watch<R: Wait + Clock + Sync>(
-    rt: &R,
-    alloc: Global,
-    first: (&Node, &mut Pass),
-    second: (&Node, &mut Pass),
-    text: &mut Vec<u8>,
-) -> Result<bool> {
-    let (a, caller) = first;
-    let (b, other) = second;
-    let at_a = both_at(rt, alloc, a, caller, "a@h sees", text)?;
-    let at_b = both_at(rt, alloc, b, other, "b@h sees", text)?;
-    if at_a {
-        ask(rt, alloc, a, caller, "disconnect b@h")?;
-    }
-    Ok(at_a && at_b)
-}
-
-/// Adds the members of the group, once there are two: whether that came in time.
-fn both_at<R: Wait + Clock + Sync>(
-    rt: &R,
-    alloc: Global,
-    node: &Node,
-    caller: &mut Pass,
-    head: &str,
-    text: &mut Vec<u8>,
-) -> Result<bool> {
-    for _ in 0..TRIES {
-        if two_at(rt, alloc, node, caller, head, text)? {
-            return Ok(true);
-        }
-        thread::sleep(rt, Duration::from_millis(PAUSE));
-    }
-    Ok(false)
-}
-
-/// Adds the members of the group, if there are two.
-fn two_at<R: Wait + Sync>(
-    rt: &R,
-    alloc: Global,
-    node: &Node,
-    caller: &mut Pass,
-    head: &str,
-    text: &mut Vec<u8>,
-) -> Result<bool> {
-    match ask(rt, alloc, node, caller, "members pg g")? {
-        Reply::Pids(pids) if pids.as_slice().len() == 2 => {
-            put_seen(alloc, head, pids, text)?;
-            Ok(true)
-        }
-        _ => Ok(false),
-    }
-}
-
-fn put_seen(
-    alloc: Global,
-    head: &str,
-    pids: &Members,
-    text: &mut Vec<u8>,
-) -> Result<(), OutOfMemory> {
-    put_word(head, text)?;
-    put_each(alloc, pids.as_slice(), text)?;
-    put_word("\n", text)
 }
 
 /// Writes whom each node has seen, or that one didn't see both in time: whether both did.

@@ -1,7 +1,8 @@
 //! A node as the lines of a script see it.
-ghost use Rattle.std.specs.Prelude.{◌≡◌, ◌++◌, ◌⊎◌, ℕ, Bool, true, false, IfOk, IfErr, IfSome, OnOk, Err};
+ghost use Rattle.std.specs.Prelude.{◌≡◌, ◌++◌, ◌+◌, ◌⊎◌, ℕ, Bool, true, false, IfOk, IfErr, IfSome, OnOk, Err};
 ghost use Rattle.policy_audit.specs.History.{audited};
-ghost use Rattle.policy_audit.specs.Pages.{IsPageBehind};
+ghost use Rattle.std.specs.Option.{IfNone};
+ghost use Rattle.policy_audit.specs.Pages.{IsPageBehind, page_size};
 ghost use Rattle.pg_script.specs.Playing.{opened_with, forgotten_to, MayOpen};
 ghost use Rattle.pg_script.specs.Transcript.{answer_to, left_by, line_text, line_left, is_fault};
 ghost use Rattle.pg_text.specs.declared.command.LineFault.TheVariants as faults;
@@ -97,7 +98,9 @@ impl Console {
     pub fn forget(&mut self, keep: u32) -> Option<Page>
         ensures left { (handed : ℕ) × (self.new ≡ forgotten_to keep handed self.old) }
         ensures page { IfSome result (λ page.
-            IsPageBehind self.old.forgotten (audited self.old.history.entries) page) }
+            IsPageBehind self.old.forgotten (audited self.old.history.entries) page
+            × (self.new.forgotten ≡ self.old.forgotten + page_size)) }
+        ensures none { IfNone result (self.new ≡ self.old) }
     {
         let audit = self.core.audit();
         let handed = audit.forgotten() as usize + PAGE_SIZE;

@@ -1,7 +1,7 @@
 //! The run of a whole script.
 ghost use Rattle.std.specs.Prelude.{◌≡◌, ◌≢◌, ◌⊎◌, ◌<◌, ◌≤◌, ◌↔◌, ℕ, Bool, true, false, OnOk, OnErr, IfOk, IfErr, Some, IfSome, Err, length, take};
 ghost use Rattle.std.specs.Io.KnownBytes.{Appends, Keeps, IsAtEnd};
-ghost use Rattle.std.specs.Io.BufRead.{take_through, drop_through};
+ghost use Rattle.std.specs.Io.BufRead.{take_through, drop_through, strip_last};
 ghost use Rattle.std.specs.IoError.{error_kind};
 ghost use Rattle.std.specs.declared.io.ErrorKind.TheVariants as kinds;
 ghost use Rattle.pg_text.specs.Answers.{fault_line};
@@ -66,6 +66,8 @@ pub fn play<R: BufRead, W: Write>(
     ensures untouched { result ≡ Err faults.BadOpening → (reader.new ≡ reader.old) × (writer.new ≡ writer.old) }
     ensures text { MayOpen opening → IfSome (R.remaining reader.old) (λ script.
         RunsAs opening script (W.contents writer.old) (W.contents writer.new) result) }
+    ensures last { (k : ℕ) → result ≡ Err (faults.Script k)
+        → is_fault (strip_last 10 line.new.items) ≡ true }
 {
     match Console::open(alloc, opening) {
         Ok(mut console) => play_lines(alloc, &mut console, reader, line, writer),
@@ -85,6 +87,8 @@ fn play_lines<R: BufRead, W: Write>(
     ensures good { IfErr result (λ fault. fault ≢ faults.BadOpening) }
     ensures text { (o : Opening) → console.old ≡ opened_with o → IfSome (R.remaining reader.old) (λ script.
         RunsAs o script (W.contents writer.old) (W.contents writer.new) result) }
+    ensures last { (k : ℕ) → result ≡ Err (faults.Script k)
+        → is_fault (strip_last 10 line.new.items) ≡ true }
 {
     let mut out = Vec::new(alloc);
     for turn in 0..TURNS {
