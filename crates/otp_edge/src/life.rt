@@ -1,6 +1,6 @@
 //! What the edges of all links share for the life of a node.
-ghost use Rattle.std.specs.Prelude.{◌≡◌, ◌≤◌, ◌<◌, ◌^◌, ◌+◌, [], vec_len, true, false};
-ghost use Rattle.std.specs.Prelude.{IfOk, IfSome, IsNone};
+ghost use Rattle.std.specs.Prelude.{◌≡◌, ◌≤◌, ◌<◌, ◌^◌, ◌+◌, ◌-◌, [], vec_len, true, false};
+ghost use Rattle.std.specs.Prelude.{cond, min, IfOk, IfSome, IsNone, OnErr};
 ghost use Rattle.otp_edge.specs.Grouped.{IsOneTooMany, Keeps, MayBeTold};
 
 use crate::group::begins_marked;
@@ -32,6 +32,7 @@ impl Life {
     pub fn new(alloc: Global) -> Life
         ensures atoms { result.atoms.items ≡ [] }
         ensures processes { result.processes ≡ 0 }
+        ensures refused { result.refused ≡ 0 }
     {
         Life {
             atoms: Vec::new(alloc),
@@ -55,6 +56,7 @@ impl Life {
         ensures none { IsNone result → self.new.processes ≡ self.old.processes }
         ensures spent { IsNone result → 2 ^ 63 ≤ self.old.processes + 1 }
         ensures atoms { self.new.atoms ≡ self.old.atoms }
+        ensures refused { self.new.refused ≡ self.old.refused }
     {
         if self.processes >= FIRST_PROCESS - 1 {
             return None;
@@ -71,6 +73,9 @@ impl Life {
         ensures refused { IfOk result (λ may. may ≡ false →
             IsOneTooMany self.new.atoms.items group.now) }
         ensures keeps { Keeps self.old.atoms.items self.new.atoms.items }
+        ensures counts { IfOk result (λ may. self.new.refused
+            ≡ cond may self.old.refused (min (self.old.refused + 1) (2 ^ 64 - 1))) }
+        ensures uncounted { OnErr result (self.new.refused ≡ self.old.refused) }
         ensures processes { self.new.processes ≡ self.old.processes }
     {
         if begins_marked(group.as_bytes()) {

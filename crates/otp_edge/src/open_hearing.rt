@@ -59,6 +59,8 @@ impl OpenScope {
             result }
         ensures owed { result.owed.items ≡ cond (heard_said peer.now said
             (seen_of self.old.seen)).is_new ready.watch.items [] }
+        ensures reference { self.new.reference ≡ cond (heard_said peer.now said
+            (seen_of self.old.seen)).is_new reference self.old.reference }
         ensures seen { seen_of self.new.seen ≡ seen_said peer.now said (seen_of self.old.seen) }
         ensures scope { self.new.scope ≡ self.old.scope }
         ensures own { self.new.own ≡ self.old.own }
