@@ -3,7 +3,7 @@ ghost use Rattle.std.specs.Prelude.{◌≡◌, ◌+◌, ◌-◌, ◌≤◌, ◌<
 ghost use Rattle.std.specs.Io.KnownBytes.{Keeps};
 ghost use Rattle.archive_files.specs.Taking.{IsLeft};
 ghost use Rattle.archive_files.specs.Turning.{IsTooLong, and_file};
-ghost use Rattle.archive_files.specs.Waiting.{HasGone, IsCounted, IsMoved, IsWeighed, named_by, text_of_entry, text_of_life, part_of, piece_of, rest_of};
+ghost use Rattle.archive_files.specs.Waiting.{HasGone, IsCounted, IsMoved, IsWeighed, entries_among, named_by, text_of_entry, text_of_life, part_of, piece_of, rest_of};
 
 use crate::line::Mark;
 use crate::lines::Lines;
@@ -245,11 +245,11 @@ impl<S: Store + Drop> Archive<S> {
         Ok(())
     }
 
-    /// How many lines aren't whole in a file.
-    pub fn waiting(&self) -> usize
-        ensures { result ≡ length self.now.lines.lines }
+    /// How many entries' lines aren't whole in a file.
+    pub fn waiting_entries(&self) -> usize
+        ensures { result ≡ entries_among self.now.lines.lines }
     {
-        self.lines.len()
+        self.lines.entries()
     }
 
     /// How many entries' lines are whole in files.

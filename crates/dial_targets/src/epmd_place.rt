@@ -91,7 +91,8 @@ fn told_of(fault: AskFault) -> DialFault {
     }
 }
 
-/// Connects to the first address of HOST:PORT that answers. Else it is told what the last one said.
+/// Connects to the first address of HOST:PORT that answers. Else it is told what the first one said,
+/// since resolvers put addresses last to which no way leads.
 pub(crate) fn connect<R>(rt: &R, place: &str, time: Duration) -> Result<TcpStream, DialFault>
 where
     R: Net<Listener = TcpListener, Stream = TcpStream>,
@@ -100,14 +101,14 @@ where
         Ok(addrs) => addrs,
         Err(error) => return Err(DialFault::of_look_up(&error)),
     };
-    let mut fault = DialFault::NoHost;
+    let mut first = None;
     for addr in addrs {
         match TcpStream::connect_timeout(rt, &addr, time) {
             Ok(stream) => return Ok(stream),
-            Err(error) => fault = DialFault::of(error.kind()),
+            Err(error) => first = first.or(Some(DialFault::of(error.kind()))),
         }
     }
-    Err(fault)
+    Err(first.unwrap_or(DialFault::NoHost))
 }
 
 /// A part of a node's name, which is of ASCII.

@@ -4,8 +4,8 @@ use crate::dial_fault::DialFault;
 use crate::epmd_place::EpmdPlace;
 use crate::peer_kind::PeerKind;
 use dist_types::{NodeName, OutOfMemory, TextFault};
-use std::alloc::Global;
-use std::net::{Net, TcpListener, TcpStream};
+use std::alloc::{AllocError, Global};
+use std::net::{Net, SocketAddr, TcpListener, TcpStream};
 use std::sync::atomic::{AtomicBool, Ordering};
 use std::sync::{Mutex, Wait};
 use std::time::{Clock, Duration, Instant};
@@ -26,6 +26,12 @@ pub enum TargetFault {
 
 impl From<OutOfMemory> for TargetFault {
     fn from(_error: OutOfMemory) -> TargetFault {
+        TargetFault::OutOfMemory
+    }
+}
+
+impl From<AllocError> for TargetFault {
+    fn from(_error: AllocError) -> TargetFault {
         TargetFault::OutOfMemory
     }
 }
@@ -123,7 +129,7 @@ impl Target {
         if !can_be_dialled(place) {
             return Err(TargetFault::NoPlace);
         }
-        let place = copied(alloc, place)?;
+        let place = String::from_str(alloc, place)?;
         Ok(Target::new(peer, place))
     }
 
@@ -137,7 +143,7 @@ impl Target {
         if !can_be_dialled(place) {
             return Err(TargetFault::NoStockNode);
         }
-        let place = copied(alloc, place)?;
+        let place = String::from_str(alloc, place)?;
         Ok(Target::of(peer, epmd.kind, place, None))
     }
 
@@ -255,10 +261,14 @@ fn can_be_dialled(word: &str) -> bool {
     matches!(port_of(word), Some(port) if port > 0)
 }
 
-/// The port of a place.
+/// The port of a place. An address that has colons stands in brackets, as its last part may be taken
+/// for a port.
 fn port_of(word: &str) -> Option<u16> {
+    if let Ok(address) = SocketAddr::parse_ascii(word.as_bytes()) {
+        return Some(address.port());
+    }
     let (host, port) = word.rsplit_once(':')?;
-    if host.is_empty() || !is_printable(host) {
+    if host.is_empty() || host.contains(':') || !is_printable(host) {
         return None;
     }
     port.parse().ok()
@@ -275,10 +285,4 @@ fn named(alloc: Global, name: &str) -> Result<NodeName, TargetFault> {
         Ok(peer) => Ok(peer),
         Err(fault) => Err(TargetFault::Name(fault)),
     }
-}
-
-fn copied(alloc: Global, text: &str) -> Result<String, OutOfMemory> {
-    let mut copy = String::new(alloc);
-    copy.push_str(text)?;
-    Ok(copy)
 }

@@ -119,7 +119,7 @@ pub fn read_errand<R: Input>(
     let words = matches.get_strs("COMMAND").unwrap_or(&[]);
     let patience = matches.get_one::<u32>("timeout").unwrap_or(PATIENCE);
     Ok(Errand {
-        control: copy(alloc, matches.get_str("CONTROL").unwrap_or(""))?,
+        control: String::from_str(alloc, matches.get_str("CONTROL").unwrap_or(""))?,
         deed: read_deed(rt, alloc, words)?,
         patience: Duration::from_millis(u64::from(patience)),
         show: Show {
@@ -134,13 +134,17 @@ fn read_deed<R: Input>(rt: &R, alloc: Global, words: &[&str]) -> Result<Deed, Fa
         let line = read_line(rt, alloc)?;
         return Ok(Deed::Ask(line_of(alloc, &[line.as_str()])?));
     }
-    if words.first() != Some(&"hold") {
+    let first = words.first().copied().unwrap_or("");
+    if first.starts_with("hold ") {
+        return Err(Fault::of(anyhow!("COMMAND: hold, SCOPE and GROUP are words of their own")));
+    }
+    if first != "hold" {
         return Ok(Deed::Ask(line_of(alloc, words)?));
     }
     match words {
         [_, scope, group] if is_word(scope) && is_word(group) => Ok(Deed::Hold {
-            scope: copy(alloc, scope)?,
-            group: copy(alloc, group)?,
+            scope: String::from_str(alloc, scope)?,
+            group: String::from_str(alloc, group)?,
         }),
         _ => Err(Fault::of(anyhow!("COMMAND: no SCOPE GROUP behind hold"))),
     }
@@ -165,10 +169,4 @@ fn line_of(alloc: Global, words: &[&str]) -> Result<String, Fault> {
     }
     line.push('\n')?;
     Ok(line)
-}
-
-fn copy(alloc: Global, text: &str) -> Result<String, Fault> {
-    let mut copied = String::new(alloc);
-    copied.push_str(text)?;
-    Ok(copied)
 }

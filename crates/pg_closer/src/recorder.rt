@@ -165,13 +165,14 @@ impl<'a> Recorder<'a> {
 
     /// An error where entries are lost, one among them of which the file has a part.
     pub fn check(&self) -> Result<()> {
-        let waiting = self.archive.waiting() as u64;
+        let waiting = self.archive.waiting_entries() as u64;
         let lost = self.archive.lost().saturating_add(waiting);
-        if lost > 0 {
-            let path = ShownPath(self.path);
-            bail!("--audit: {path}: {lost} entries are not in the file");
+        let path = ShownPath(self.path);
+        match lost {
+            0 => Ok(()),
+            1 => bail!("--audit: {path}: 1 entry is not in the file"),
+            _ => bail!("--audit: {path}: {lost} entries are not in the file"),
         }
-        Ok(())
     }
 }
 

@@ -15,6 +15,9 @@ const IN_A_ROW: u32 = 16;
 /// How many bytes of room a connection keeps for its next line and its next answer: others need the memory, too.
 const KEPT: usize = 65_536;
 
+/// The line that ends the program at once.
+const QUIT: &str = "quit";
+
 /// What both threads of a connection share.
 #[derive(Drop)]
 pub struct Desk<'a, N> {
@@ -75,15 +78,24 @@ impl<'a, N: Asked> Desk<'a, N> {
                     pg_streams::Next::End => return Ok(()),
                 };
                 if self.node.is_draining() {
-                    return Ok(());
+                    self.hear(rt, asked);
+                } else {
+                    self.answer_one(rt, asked, out, writer)?;
                 }
-                self.answer_one(rt, asked, out, writer)?;
                 trim(line);
                 trim(out);
             }
             self.node.let_go_first(rt);
         }
         unreachable!()
+    }
+
+    /// Hears a line while the node drains, when none is answered: `quit` ends it at once, as a signal does.
+    fn hear<R: Wait>(&self, rt: &R, line: Option<&[u8]>) {
+        let is_quit = matches!(line, Some(line) if line == QUIT.as_bytes());
+        if is_quit && matches!(self.rights, Rights::All) {
+            self.node.quit(rt);
+        }
     }
 
     /// Answers a line, which may end the program, or one that was lost.

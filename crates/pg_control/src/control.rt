@@ -4,7 +4,7 @@ use crate::door::Door;
 use crate::refusing::{refuse, refuse_here};
 use pg_asked::{Asked, Stream};
 use pg_log::{Level, Taking, number};
-use pg_session::{Rights, Seen};
+use pg_session::Seen;
 use pg_streams::ReadLines;
 use std::io::{self, BufReader, ErrorKind};
 use std::net::Shutdown;
@@ -55,7 +55,7 @@ fn take_all<'s, E: 's, R: Threads + Wait + Clock + Sync + 's, N: Asked + Sync + 
             return;
         }
         if let Some((stream, _)) = taking.taken(rt, node.log(), accepted) {
-            take_in(scope, rt, node, door.rights, stream);
+            take_in(scope, rt, node, door, stream);
         }
     }
 }
@@ -65,12 +65,12 @@ fn take_in<'s, E: 's, R: Threads + Wait + Clock + Sync + 's, N: Asked + Sync + '
     scope: &'s Scope<'s, E>,
     rt: &'s R,
     node: &'s N,
-    rights: Rights,
+    door: &Door<'_>,
     stream: UnixStream,
 ) {
     match Arc::new(node.alloc(), stream) {
         Ok(stream) => {
-            if !is_served(scope, rt, node, rights, &stream) {
+            if !is_served(scope, rt, node, door, &stream) {
                 refuse(scope, rt, &node.clients().hearers, stream);
             }
         }
@@ -83,30 +83,22 @@ fn is_served<'s, E: 's, R: Threads + Wait + Clock + Sync + 's, N: Asked + Sync +
     scope: &'s Scope<'s, E>,
     rt: &'s R,
     node: &'s N,
-    rights: Rights,
+    door: &Door<'_>,
     stream: &Stream,
 ) -> bool {
     let patience = Duration::from_millis(PATIENCE);
     if stream.set_write_timeout(Some(patience)).is_err() {
         return false;
     }
-    let Some((seat, seen)) = node.enter(rt, seats_left(rights)) else {
+    let Some((seat, seen)) = node.enter(rt, door.seats_left) else {
         return false;
     };
-    let desk = Desk::new(node, seat, rights);
+    let desk = Desk::new(node, seat, door.rights);
     let is_started = start_serving(scope, rt, desk, seen, stream);
     if !is_started {
         give_up(rt, node, seat);
     }
     is_started
-}
-
-/// How many free seats are left to others: who may only read doesn't keep out who may do more.
-fn seats_left(rights: Rights) -> usize {
-    match rights {
-        Rights::All => 0,
-        Rights::Reads => 1,
-    }
 }
 
 /// Starts the thread of a connection, if whoever ends the program can have its stream: whether it could be made.

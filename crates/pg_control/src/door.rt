@@ -24,12 +24,13 @@ const REST: u64 = 20;
 /// The most bytes of a path: those of a socket, less `.new`, which stands behind it at first.
 const LONGEST: usize = 103;
 
-/// Where a control socket is to be, with which mode, and what may be asked there.
+/// Where a control socket is to be, with which mode, what may be asked there, and how many free seats its connections leave to others.
 #[derive(Clone, Copy, Drop)]
 pub struct DoorPlace<'a> {
     pub path: &'a str,
     pub mode: u32,
     pub rights: Rights,
+    pub seats_left: usize,
 }
 
 impl DoorPlace<'_> {
@@ -57,6 +58,8 @@ pub struct Door<'a> {
     file: FileNumber,
     /// What may be asked here.
     pub rights: Rights,
+    /// How many free seats its connections leave to others.
+    pub seats_left: usize,
 }
 
 /// Which file it is, whatever it is called.
@@ -154,6 +157,7 @@ fn bind_as<'a, R: Files + Net>(rt: &R, first: &str, place: DoorPlace<'a>) -> io:
         path: place.path,
         file,
         rights: place.rights,
+        seats_left: place.seats_left,
     })
 }
 

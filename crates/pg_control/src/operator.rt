@@ -1,11 +1,15 @@
 //! Standard input and output, as a connection that lasts as long as the program.
 use crate::connection::Desk;
 use pg_asked::Asked;
+use pg_log::{Level, text};
 use pg_session::{Rights, Seen};
 use pg_streams::{QueuedLines, QueuedOutput, Streams};
 use std::sync::Wait;
 use std::thread::{Scope, Threads};
 use std::time::Clock;
+
+/// Why a node ends to which nobody has said so.
+const INPUT_ENDED: &str = "standard input has ended, and there is no --control";
 
 /// The operator of the node.
 #[derive(Drop)]
@@ -40,6 +44,8 @@ impl<'a, N: Asked> Operator<'a, N> {
         }
         if self.is_alone && !node.is_quitting() && !node.is_draining() {
             output.be_patient(rt);
+            let fields = [text("reason", INPUT_ENDED)];
+            node.log().tell(rt, Level::Info, "input_ended", &fields);
             node.quit(rt);
         }
     }

@@ -138,17 +138,17 @@ impl Hub {
             line,
         };
         let answered = session.answer(rt, self.alloc, &self.node, &surroundings, line, out);
-        let Ok(next) = answered else {
+        let Ok(answered) = answered else {
             return self.take_back(rt, session, calls, monitors);
         };
         self.begin_to_watch(rt, seat, session);
         if self.signals.is_quitting() {
-            return Tried::Answered(next);
+            return Tried::Answered(answered.next);
         }
-        match session.lack() {
+        match answered.lack {
             Some(lack) => Tried::Lacks(lack),
             None if out.get(start..) == Some(UNREAD) => Tried::Unanswered,
-            None => Tried::Answered(next),
+            None => Tried::Answered(answered.next),
         }
     }
 

@@ -4,7 +4,7 @@ use dial_targets::{NotAdded, Target, TargetFault};
 use dist_types::{NodeName, OutOfMemory, TextFault};
 use pg_log::{Level, text};
 use pg_session::Change;
-use pg_text::{first_word, put_bytes, put_word};
+use pg_text::{first_word, next_word, put_bytes, put_word};
 use std::alloc::Global;
 use std::sync::Wait;
 use std::time::Clock;
@@ -33,6 +33,8 @@ enum Reason {
     NotDialled,
     #[error("256 peers are dialled already")]
     Full,
+    #[error("an empty word; words are parted by one space")]
+    EmptyWord,
     #[error("a word too many")]
     OneTooMany,
     #[error("there is no archive")]
@@ -73,14 +75,16 @@ impl Hub {
         change: Change,
         line: &'a [u8],
     ) -> Result<(), Unchanged<'a>> {
-        let (_, word) = first_word(line);
-        match (change, word) {
-            (Change::Dial, Some(word)) => self.dial(rt, word),
+        let (_, rest) = first_word(line);
+        match (change, next_word(rest)) {
             (Change::Dial, None) => Err(Reason::NoTarget.alone()),
-            (Change::Undial, Some(word)) => self.undial(rt, word),
             (Change::Undial, None) => Err(Reason::NoName.alone()),
-            (Change::Reopen, Some(word)) => Err(Reason::OneTooMany.about(word)),
             (Change::Reopen, None) => self.reopen(rt),
+            (_, Some((word, _))) if word.is_empty() => Err(Reason::EmptyWord.alone()),
+            (Change::Reopen, Some((word, _))) => Err(surplus(word)),
+            (_, Some((_, Some(rest)))) => Err(surplus(rest)),
+            (Change::Dial, Some((word, None))) => self.dial(rt, word),
+            (Change::Undial, Some((word, None))) => self.undial(rt, word),
         }
     }
 
@@ -136,7 +140,16 @@ impl Hub {
     }
 }
 
-/// Adds the answer to a line whose change isn't made.
+/// That these words, of which the first one is named, are too many.
+fn surplus(words: &[u8]) -> Unchanged<'_> {
+    let (word, _) = first_word(words);
+    if word.is_empty() {
+        return Reason::EmptyWord.alone();
+    }
+    Reason::OneTooMany.about(word)
+}
+
+/// Adds the answer to a line whose change isn't made. A word with a byte that a terminal shouldn't be given isn't repeated.
 pub(crate) fn put_fault(
     alloc: Global,
     fault: &Unchanged<'_>,
@@ -144,7 +157,9 @@ pub(crate) fn put_fault(
 ) -> Result<(), OutOfMemory> {
     let reason = fault.reason;
     put_word(format!(in alloc; "fault {reason}")?.as_str(), out)?;
-    if let Some(word) = fault.word {
+    if let Some(word) = fault.word
+        && word.iter().all(|byte| byte.is_ascii_graphic())
+    {
         put_word(": ", out)?;
         put_bytes(word, out)?;
     }

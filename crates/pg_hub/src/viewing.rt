@@ -31,7 +31,8 @@ impl Shown for Hub {
 }
 
 impl Hub {
-    /// The node as it stands now, with the groups of its scopes where they are wanted.
+    /// The node as it stands now, with the groups of its scopes and the last lines of its log where
+    /// they are wanted.
     fn look_at_all<R: Wait + Clock>(
         &self,
         rt: &R,
@@ -50,6 +51,7 @@ impl Hub {
         if with_groups {
             let scopes = looking.scopes()?;
             look_at_groups(rt, self.alloc, &self.node, scopes.as_slice(), &mut view)?;
+            view.decisions = self.log.recent(rt, self.alloc)?;
         }
         Ok(view)
     }
@@ -73,7 +75,6 @@ impl<R: Wait + Clock> Reporting<'_, R> {
         view.lost = hub.keeping.lost();
         view.archived = hub.keeping.archived();
         view.told = hub.signals.told();
-        view.decisions = hub.log.recent(rt, hub.alloc)?;
         let shared = hub.node.shared.lock(rt);
         view.wants_memory = hub.signals.wants_memory(&shared);
         look_at_node(hub.alloc, shared.core(), view)

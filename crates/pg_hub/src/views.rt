@@ -2,7 +2,7 @@
 use crate::keeping::kept;
 use dial_targets::{Target, Tried};
 use dist_types::{OutOfMemory, Scope};
-use node_core::{CoreFault, NodeCore, Query};
+use node_core::{CoreFault, MAX_LINKS, NodeCore, Query};
 use node_threads::Node;
 use pg_ledger::{Ledger, UpLink};
 use pg_page::{DialView, GroupView, LinkView, NodeView, ReasonView, RuleView, ScopeView};
@@ -11,9 +11,6 @@ use policy_audit::Reply;
 use std::alloc::Global;
 use std::sync::Wait;
 use std::time::{Clock, Instant};
-
-/// The most links.
-const LINKS: u64 = 64;
 
 /// How many groups are shown at most, of all scopes.
 const MOST_GROUPS: usize = 200;
@@ -53,7 +50,7 @@ pub(crate) fn look_at_links<R: Clock>(
     for (link, waiting) in ledger.links.iter().zip(waiting) {
         view.links.push(link_view(rt, alloc, link, waiting)?)?;
     }
-    view.most_links = LINKS;
+    view.most_links = MAX_LINKS as u64;
     view.otp_links = ledger.otp_links();
     view.refused = ledger.refused() as u64;
     Ok(())

@@ -2,6 +2,7 @@
 use crate::threads::LinkThreads;
 use crate::warnings::Warnings;
 use dial_targets::{Limits, Target};
+use node_core::MAX_LINKS;
 use node_net::{Arrivals, Host, Lane, Lanes, Met};
 use pg_hub::Hub;
 use pg_log::{Level, Log, text};
@@ -11,8 +12,8 @@ use std::thread;
 use std::thread::Scope;
 use std::time::{Clock, Duration};
 
-/// How many links the node keeps at most, and so how many threads serve connections.
-pub const LANES: usize = 64;
+/// How many threads serve connections: one for each link that the node keeps at most.
+pub const LANES: usize = MAX_LINKS;
 
 /// The milliseconds between two looks while calls come: a burst costs no more looks.
 const REST: u64 = 20;

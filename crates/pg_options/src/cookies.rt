@@ -8,6 +8,9 @@ use named_files::read_cookie;
 use std::alloc::Global;
 use std::fs::Files;
 
+/// The most peers with a cookie of their own.
+const MOST_PEERS: usize = 1_024;
+
 pub fn own_cookie<R: Files>(
     rt: &R,
     alloc: Global,
@@ -44,22 +47,37 @@ fn filed_cookie<R: Files>(
     }
 }
 
-/// Adds the cookies for single peers.
+/// Adds the cookies for single peers. Of a peer that is given several the last one holds.
 pub fn add_cookies<R: Files>(
     rt: &R,
     alloc: Global,
     matches: &ArgMatches<'_>,
     cookies: &mut Vec<(NodeName, Cookie)>,
 ) -> Result<(), Fault> {
+    let own = matches.get_str("NAME");
     for word in matches.get_strs("cookie-for").unwrap_or(&[]) {
-        cookies.push(cookie_for(rt, alloc, word)?)?;
+        let (peer, cookie) = cookie_for(rt, alloc, word)?;
+        cookies.retain(|(other, _)| *other != peer);
+        cookies.push((peer, cookie))?;
+        if peers_among(own, cookies.as_slice()) > MOST_PEERS {
+            return Err(refused("--cookie-for", "more than 1024 peers", word));
+        }
     }
     Ok(())
 }
 
+/// How many of the cookies are for others than the node itself.
+fn peers_among(own: Option<&str>, cookies: &[(NodeName, Cookie)]) -> usize {
+    cookies
+        .iter()
+        .filter(|given| own != Some(given.0.as_str()))
+        .count()
+}
+
 fn cookie_for<R: Files>(rt: &R, alloc: Global, word: &str) -> Result<(NodeName, Cookie), Fault> {
     let Some((peer, path)) = word.split_once('=') else {
-        return Err(refused("--cookie-for", "no NAME=FILE", word));
+        // The word may be the secret.
+        return Err(misused(anyhow!("--cookie-for: no NAME=FILE")));
     };
     let peer = name(alloc, "--cookie-for", peer)?;
     let cookie = filed_cookie(rt, alloc, "--cookie-for", path)?;

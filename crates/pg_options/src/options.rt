@@ -19,6 +19,9 @@ use std::time::Duration;
 /// The fewest numbers of entries: room for what a new life of the node says first, and for its last sixteenth.
 const FEWEST: u32 = 64;
 
+/// The most names that may be allowed.
+const MOST_NAMES: usize = 1_024;
+
 /// What the program runs with.
 #[derive(Drop)]
 pub struct Options<'a> {
@@ -148,9 +151,22 @@ fn add_peers<R: Files>(
     peers: &mut Peers,
 ) -> Result<(), Fault> {
     for word in matches.get_strs("allow").unwrap_or(&[]) {
-        peers.allowed.push(name(alloc, "--allow", word)?)?;
+        let name = name(alloc, "--allow", word)?;
+        allow(&mut peers.allowed, name, word)?;
     }
     add_cookies(rt, alloc, matches, &mut peers.cookies)
+}
+
+/// Adds the name that was read of this word, unless it is among those before it.
+fn allow(allowed: &mut Vec<NodeName>, name: NodeName, word: &str) -> Result<(), Fault> {
+    if allowed.as_slice().contains(&name) {
+        return Ok(());
+    }
+    if allowed.len() >= MOST_NAMES {
+        return Err(refused("--allow", "more than 1024 names", word));
+    }
+    allowed.push(name)?;
+    Ok(())
 }
 
 fn targets(alloc: Global, matches: &ArgMatches<'_>) -> Result<Arc<Targets>, Fault> {

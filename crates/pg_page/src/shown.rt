@@ -7,7 +7,8 @@ use std::time::Clock;
 
 /// A node at work, as who looks on sees it.
 pub trait Shown {
-    /// The node as it stands now, with the groups of its scopes where they are wanted.
+    /// The node as it stands now, with the groups of its scopes and the last lines of its log where
+    /// they are wanted.
     fn view<R: Wait + Clock>(&self, rt: &R, with_groups: bool) -> Result<NodeView, AllocError>;
 
     /// Whether it does its work.

@@ -72,7 +72,7 @@ pub fn open_places<'a, R: Host + Files<File = File>>(
     };
     let mut places = Places {
         arrivals,
-        door: open_door(rt, alloc, faces.control, Rights::All, queues)?,
+        door: open_door(rt, alloc, control_place(faces), queues)?,
         read_door: None,
         pages: None,
     };
@@ -93,7 +93,7 @@ fn open_others<'a, R: Host + Files<File = File>>(
     queues: &Queues,
     places: &mut Places<'a>,
 ) -> Result<()> {
-    places.read_door = open_door(rt, alloc, faces.control_read, Rights::Reads, queues)?;
+    places.read_door = open_door(rt, alloc, reading_place(faces), queues)?;
     places.pages = open_pages(rt, files, alloc, faces.http, queues)?;
     Ok(())
 }
@@ -144,18 +144,43 @@ fn unbound(at: Listening<'_>, error: io::Error) -> Error {
     anyhow!("{}: {:.60}: {error}", at.option, at.place)
 }
 
+/// Where all may be asked.
+fn control_place(faces: Faces<'_>) -> Option<DoorPlace<'_>> {
+    let SocketFile { path, mode } = faces.control?;
+    Some(DoorPlace {
+        path,
+        mode,
+        rights: Rights::All,
+        seats_left: 0,
+    })
+}
+
+/// Where all may be read. Who may do no more there doesn't keep out who may do more at the other socket, if there is one.
+fn reading_place(faces: Faces<'_>) -> Option<DoorPlace<'_>> {
+    let SocketFile { path, mode } = faces.control_read?;
+    let seats_left = match faces.control {
+        Some(_) => 1,
+        None => 0,
+    };
+    Some(DoorPlace {
+        path,
+        mode,
+        rights: Rights::Reads,
+        seats_left,
+    })
+}
+
 fn open_door<'a, R: Wait + Files<File = File> + Net + Clock>(
     rt: &R,
     alloc: Global,
-    file: Option<SocketFile<'a>>,
-    rights: Rights,
+    place: Option<DoorPlace<'a>>,
     queues: &Queues,
 ) -> Result<Option<Door<'a>>> {
-    let Some(SocketFile { path, mode }) = file else {
+    let Some(place) = place else {
         return Ok(None);
     };
-    let door = Door::open(rt, alloc, DoorPlace { path, mode, rights })?;
-    if let Err(error) = print_door(rt, alloc, path, rights, queues) {
+    let door = Door::open(rt, alloc, place)?;
+    if let Err(error) = print_door(rt, alloc, place, queues) {
         door.remove(rt, alloc);
         return Err(error);
     }
@@ -165,11 +190,11 @@ fn open_door<'a, R: Wait + Files<File = File> + Net + Clock>(
 fn print_door<R: Wait + Clock>(
     rt: &R,
     alloc: Global,
-    path: &str,
-    rights: Rights,
+    place: DoorPlace<'_>,
     queues: &Queues,
 ) -> Result<()> {
-    let name = match rights {
+    let path = place.path;
+    let name = match place.rights {
         Rights::All => "control",
         Rights::Reads => "control-read",
     };
