@@ -4,10 +4,12 @@
 It hands each line of its standard input to a worker (worker.py), in turn to each that the pg_node
 behind the control socket CONTROL lists now, and prints the answer, or `nobody`. It prints
 `here HOST:PORT` and `gone HOST:PORT` when a worker comes or goes. At the end of its input it ends
-with status 0; when the node ends, with a line on standard error and status 1.
+with status 0; when the node ends, or doesn't say who is listed, with a line on standard error and
+status 1. Where no node is there yet it says so, and waits for one.
 """
 
 import collections
+import os
 import socket
 import sys
 import threading
@@ -18,19 +20,36 @@ is_known = threading.Event()  # once the node has said who is listed
 has_routed_all = threading.Event()
 
 
+def connect(path):
+    """A connection to the node, as soon as it is there."""
+    stream = socket.socket(socket.AF_UNIX)
+    try:
+        if fault := stream.connect_ex(path):
+            print(f"router.py: {path}: {os.strerror(fault)}; waiting", file=sys.stderr)
+            while stream.connect_ex(path):
+                time.sleep(0.1)
+    except OSError as fault:  # a path that is too long
+        sys.exit(f"router.py: {path}: {fault}")
+    return stream
+
+
 def count(group, number):
     """So many processes more in a group, or fewer. Groups of others aren't workers."""
-    if not group.startswith("jobs/"):
+    if not group.startswith("jobs/") or ":" not in group:
         return
-    was, listed[group] = listed[group], listed[group] + number
-    if bool(was) != bool(listed[group]):
-        print("gone" if was else "here", group.removeprefix("jobs/"), flush=True)
+    was, now = listed[group], listed[group] + number
+    if now:
+        listed[group] = now
+    else:
+        del listed[group]
+    if bool(was) != bool(now):
+        print("here" if now else "gone", group.removeprefix("jobs/"), flush=True)
 
 
 def watch():
     """Asks who is listed, and to be told of changes. Whoever was listed before the node began anew
     is gone."""
-    for group in +listed:
+    for group in list(listed):
         count(group, -listed[group])
     try:
         control.sendall(b"start jobs\nmonitor_scope jobs\n")
@@ -54,20 +73,24 @@ def follow(words):
             watch()
         case ["fault", "full"]:
             sys.exit("router.py: the node has no room for another client")
+        case ["refused", _, "ScopeRunning"] | ["fault", "this", "socket", *_]:
+            pass  # the scope runs, or this is a control socket for reads alone
+        case ["refused" | "fault" | "memory", *_]:
+            sys.exit("router.py: the node answers: " + " ".join(words))
 
 
 def done(job, turn):
     """The answer of a worker that is listed now; of the next one, where the first went just now."""
-    groups = sorted(+listed)
+    groups = sorted(list(listed))  # as they are now: the other thread goes on counting
     for place in range(turn, turn + len(groups)):
-        host, port = groups[place % len(groups)].removeprefix("jobs/").split(":")
+        host, _, port = groups[place % len(groups)].removeprefix("jobs/").rpartition(":")
         try:
             with socket.create_connection((host, int(port)), 1) as worker:
-                worker.sendall(job.encode())
-                if answer := worker.makefile().readline():
+                worker.sendall(job.rstrip("\n").encode() + b"\n")
+                if answer := worker.makefile(errors="replace").readline():
                     return answer.rstrip("\n")
-        except OSError:
-            continue
+        except (OSError, OverflowError, ValueError):
+            continue  # it is gone, or its group names no port
     return "nobody"
 
 
@@ -92,9 +115,8 @@ def follow_all():
 if len(sys.argv) != 2:
     print("usage: router.py CONTROL", file=sys.stderr)
     sys.exit(2)
-control = socket.socket(socket.AF_UNIX)
-while control.connect_ex(sys.argv[1]):
-    time.sleep(0.1)  # the node isn't there yet
+sys.stdin.reconfigure(errors="replace")  # else a line that isn't UTF-8 ends the thread
+control = connect(sys.argv[1])
 watch()
 threading.Thread(target=route, daemon=True).start()
 follow_all()

@@ -3,10 +3,13 @@
 
 It does jobs that come as lines at HOST:PORT. Through the pg_node behind the control socket CONTROL
 it is listed as a process in the group jobs/HOST:PORT of the scope jobs. The node ends that process
-when the connection closes, in whatever way the worker ended. When the node ends, so does the
-worker, with a line on standard error and status 1.
+when the connection closes, in whatever way the worker ended. When the node ends, or doesn't list
+it, the worker ends, too, with a line on standard error and status 1. Where no node is there yet it
+says so, and waits for one.
 """
 
+import contextlib
+import os
 import socket
 import socketserver
 import sys
@@ -14,20 +17,27 @@ import threading
 import time
 
 
+class Server(socketserver.ThreadingTCPServer):
+    """Takes connections with jobs; those that are open don't keep the program from ending."""
+
+    allow_reuse_address = daemon_threads = True
+
+
 class Jobs(socketserver.StreamRequestHandler):
     """A connection with jobs."""
 
     def handle(self):
-        """Answers each line."""
-        for job in self.rfile:
-            self.wfile.write(address.encode() + b" did " + job)
+        """Answers each line, until the client is gone."""
+        with contextlib.suppress(OSError):
+            for job in self.rfile:
+                self.wfile.write(address.encode() + b" did " + job)
 
 
 def arguments():
     """The words of the command line: the control socket, HOST:PORT, and its parts."""
     if len(sys.argv) == 3:
         host, _, port = sys.argv[2].rpartition(":")
-        if host and port.isdecimal():
+        if host and port.isdecimal() and 0 < int(port) < 65536:
             return sys.argv[1], sys.argv[2], (host, int(port))
     print("usage: worker.py CONTROL HOST:PORT", file=sys.stderr)
     sys.exit(2)
@@ -36,6 +46,29 @@ def arguments():
 def end(reason):
     """Ends the program with status 1."""
     sys.exit(f"worker.py: {reason}")
+
+
+def serve():
+    """Takes jobs, in a thread of its own."""
+    try:
+        server = Server(place, Jobs)
+    except OSError as fault:
+        end(f"{address}: {fault.strerror}")
+    threading.Thread(target=server.serve_forever, daemon=True).start()
+
+
+def connect():
+    """A connection to the node, as soon as it is there."""
+    stream = socket.socket(socket.AF_UNIX)
+    try:
+        if fault := stream.connect_ex(control_path):
+            reason = os.strerror(fault)
+            print(f"worker.py: {control_path}: {reason}; waiting", file=sys.stderr)
+            while stream.connect_ex(control_path):
+                time.sleep(0.1)
+    except OSError as fault:  # a path that is too long
+        end(f"{control_path}: {fault}")
+    return stream
 
 
 def next_line():
@@ -61,23 +94,24 @@ def ask(line):
 
 
 def join():
-    """Joins as a new process, and gives its name. The node may begin anew between two lines: then it
-    is told of an old process, and refuses it."""
-    joined = None
-    while joined != ["ok"]:
+    """Joins as a new process, and gives its name. The node may begin anew between two lines, or the
+    scope be stopped: then it tries again. Any other refusal is for good."""
+    for _ in range(8):
         ask("start jobs")  # refused where the scope runs, which is as good
-        process = ask("spawn")[1]
-        joined = ask(f"join jobs jobs/{address} {process}")
-    return process
+        answer = ask("spawn")
+        if answer[0] == "pid":
+            process = answer[1]
+            answer = ask(f"join jobs jobs/{address} {process}")
+            if answer == ["ok"]:
+                return process
+        if answer != ["fault", "not", "yours"] and answer[-1] != "NoScope":
+            break
+    end("the node answers: " + " ".join(answer))
 
 
 control_path, address, place = arguments()
-socketserver.ThreadingTCPServer.allow_reuse_address = True
-server = socketserver.ThreadingTCPServer(place, Jobs)
-threading.Thread(target=server.serve_forever, daemon=True).start()
-control = socket.socket(socket.AF_UNIX)
-while control.connect_ex(control_path):
-    time.sleep(0.1)  # the node isn't there yet
+serve()
+control = connect()
 lines = control.makefile()
 process = join()
 while True:
