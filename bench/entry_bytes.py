@@ -10,7 +10,12 @@ import subprocess
 import sys
 import threading
 
+sys.dont_write_bytecode = True
 HERE = os.path.dirname(os.path.realpath(__file__))
+sys.path.append(os.path.join(HERE, "../tests"))
+
+from command_line import CommandLine
+
 DIGEST = "482c811da5d5b4bc6d497ffa98491e38"  # MD5 of `password123`
 MANY, FEW = 100_000, 500
 
@@ -102,7 +107,10 @@ def bytes_of(program, kind, known):
 
 
 def main():
-    program = sys.argv[1] if len(sys.argv) > 1 else os.path.join(HERE, "../crates/pg_console/out/pg_console")
+    reader = CommandLine(__doc__)
+    reader.add_argument("program", nargs="?", default=os.path.join(HERE, "../crates/pg_console/out/pg_console"))
+    program = reader.parse_args().program
+    reader.need_program(program, "bin/build")
     print(f"{'bytes an entry':<36} {'kept':>9}")
     known = {}
     for kind in KINDS:

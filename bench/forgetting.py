@@ -5,7 +5,6 @@ each entry is in the archive once and in order. Then how soon news come: from th
 
 bench/forgetting.py [PROGRAM] [--rate N] [--seconds N] [--peers N]     20,000 events a second for 600 seconds, told to one peer"""
 
-import argparse
 import glob
 import os
 import shutil
@@ -17,7 +16,9 @@ sys.dont_write_bytecode = True
 HERE = os.path.dirname(os.path.realpath(__file__))
 sys.path.insert(0, os.path.join(HERE, "../tests/live"))
 sys.path.insert(0, HERE)
+sys.path.append(os.path.join(HERE, "../tests"))
 
+from command_line import CommandLine, from_1
 from field import Field
 from pg_node import Lines, Table, a_member, begin_own, join_to_news, memory, watchers
 
@@ -70,6 +71,7 @@ class Driver:
                 return
             elif not line.startswith((b"! up ", b"! down ")):
                 self.strange.append(line)
+        self.strange.append(b"the end of its lines")
 
 
 class Archive:
@@ -109,13 +111,15 @@ def status(lines):
 
 
 def words():
-    reader = argparse.ArgumentParser(description=__doc__, formatter_class=argparse.RawDescriptionHelpFormatter)
+    reader = CommandLine(__doc__)
     reader.add_argument("program", nargs="?", default=os.path.join(HERE, "../crates/pg_node/out/pg_node"))
-    reader.add_argument("--rate", type=int, default=20_000)
-    reader.add_argument("--seconds", type=int, default=600)
+    reader.add_argument("--rate", type=from_1, default=20_000)
+    reader.add_argument("--seconds", type=from_1, default=600)
     reader.add_argument("--peers", type=int, default=1)
     reader.add_argument("--no-news", action="store_true", help="leave out how soon news come")
-    return reader.parse_args()
+    said = reader.parse_args()
+    reader.need_program(said.program, "bin/build")
+    return said
 
 
 def run_on(field, said):
@@ -164,8 +168,6 @@ def show(node, others, watching, before, began):
 
 def main():
     said = words()
-    if not os.access(said.program, os.X_OK):
-        sys.exit("build it first, by bin/build")
     said.program = os.path.abspath(said.program)
     print(f"load of the machine before: {' '.join(f'{load:.1f}' for load in os.getloadavg())}")
     with Field(said.program, None) as field:

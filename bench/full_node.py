@@ -7,13 +7,18 @@ bench/full_node.py [PROGRAM] [--rows N]. Processor time of `pg_console run`, the
 and the writing of answers in it, in microseconds an operation: the least of 15 rounds, in which
 both nodes take turns, of 1,000 changes, 20 lists of groups and 200 of members."""
 
-import argparse
 import os
 import struct
 import subprocess
+import sys
 import threading
 
+sys.dont_write_bytecode = True
 HERE = os.path.dirname(os.path.realpath(__file__))
+sys.path.append(os.path.join(HERE, "../tests"))
+
+from command_line import CommandLine, from_1
+
 DIGEST = "482c811da5d5b4bc6d497ffa98491e38"  # MD5 of `password123`
 ROUNDS, TIMES = 15, 1000
 # The most rows of a message of version 1, and of a part.
@@ -126,10 +131,12 @@ MEASURES = [
 
 
 def words():
-    reader = argparse.ArgumentParser(description=__doc__, formatter_class=argparse.RawDescriptionHelpFormatter)
+    reader = CommandLine(__doc__)
     reader.add_argument("program", nargs="?", default=os.path.join(HERE, "../crates/pg_console/out/pg_console"))
-    reader.add_argument("--rows", type=int, default=PART)
-    return reader.parse_args()
+    reader.add_argument("--rows", type=from_1, default=PART)
+    said = reader.parse_args()
+    reader.need_program(said.program, "bin/build")
+    return said
 
 
 def main():

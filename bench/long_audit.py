@@ -9,9 +9,15 @@ bench/long_audit.py [PROGRAM] --archive FILE    writes an archive too, which is 
 import argparse
 import os
 import subprocess
+import sys
 import threading
 
+sys.dont_write_bytecode = True
 HERE = os.path.dirname(os.path.realpath(__file__))
+sys.path.append(os.path.join(HERE, "../tests"))
+
+from command_line import CommandLine
+
 TENTHS = 10
 ROUND = b"join pg g b@h/1/1\nleave pg g b@h/1/1\n" * 5000
 EVENTS = 10_000
@@ -20,12 +26,16 @@ TICKS = os.sysconf("SC_CLK_TCK")
 
 
 def words():
-    reader = argparse.ArgumentParser(description=__doc__, formatter_class=argparse.RawDescriptionHelpFormatter)
+    reader = CommandLine(__doc__)
     reader.add_argument("program", nargs="?", default=os.path.join(HERE, "../crates/pg_console/out/pg_console"))
     reader.add_argument("--entries", type=int, default=10_000_000)
     reader.add_argument("--keep", type=int)
     reader.add_argument("--archive")
-    return reader.parse_args()
+    said = reader.parse_args()
+    reader.need_program(said.program, "bin/build")
+    if said.entries < TENTHS * EVENTS:
+        reader.error(f"--entries: {TENTHS * EVENTS:,} or more, and not {said.entries}")
+    return said
 
 
 def options(said):
@@ -102,7 +112,8 @@ def main():
         other.play(1)
     last, first = node.seconds() - before, other.seconds() - other.begin
     tell(said.entries, last, each, node)
-    print(f"the last tenth for the first of another node, by turns: {last / first:.3f} of the time; {node.memory() / first_memory:.3f} of the memory behind the first")
+    print(f"the last tenth for the first of another node, by turns: {last / first:.3f} of the time;"
+          f" {node.memory() / first_memory:.3f} of the memory behind the first")
     spent = node.seconds() - node.begin
     node.end()
     other.end()

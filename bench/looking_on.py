@@ -4,40 +4,54 @@
 A node with a peer joins and leaves, as fast as it answers, once with `--log none`, and once with `--log text`, `--http` and who asks
 for its metrics each second; in turns. It prints the processor time of both for each change, and the ratio of the medians."""
 
-import argparse
+import contextlib
 import os
 import re
 import socket
 import statistics
 import subprocess
+import sys
 import tempfile
 import threading
 import time
 import urllib.request
 
+sys.dont_write_bytecode = True
 HERE = os.path.dirname(os.path.realpath(__file__))
+sys.path.append(os.path.join(HERE, "../tests"))
+
+from command_line import CommandLine, from_1
+
 
 
 def options():
-    parser = argparse.ArgumentParser(description=__doc__)
+    parser = CommandLine(__doc__)
     parser.add_argument("program", nargs="?", default=os.path.join(HERE, "../bin/pg_node"))
-    parser.add_argument("--changes", type=int, default=20_000)
-    parser.add_argument("--rounds", type=int, default=5)
-    return parser.parse_args()
+    parser.add_argument("--changes", type=from_1, default=20_000)
+    parser.add_argument("--rounds", type=from_1, default=5)
+    wanted = parser.parse_args()
+    parser.need_program(wanted.program, "bin/build")
+    return wanted
 
 
-def start(program, folder, name, *words):
-    """A node, and what it prints first."""
+def start(stack, program, folder, name, *words):
+    """A node, which ends with the stack, and what it prints first."""
     control = os.path.join(folder, name)
     node = subprocess.Popen([program, name, "--cookie", "c", "--control", control, "--entries", "4000000", *words], stdin=subprocess.DEVNULL,
                             stdout=subprocess.PIPE, stderr=subprocess.DEVNULL, text=True)
+    stack.callback(end, node)
     port = None
     while line := node.stdout.readline():
         if found := re.fullmatch(r"(?:http|listening) 127\.0\.0\.1:(\d+)\n", line):
             port = int(found[1])
         if line.startswith("control ") and "--http" not in words or line.startswith("http "):
-            break
-    return node, control, port
+            return node, control, port
+    raise SystemExit(f"{name} ended before it served")
+
+
+def end(node):
+    node.kill()
+    node.wait()
 
 
 def processor_time(process):
@@ -46,31 +60,34 @@ def processor_time(process):
     return (int(fields[11]) + int(fields[12])) / os.sysconf("SC_CLK_TCK")
 
 
-def scrape(port, ended):
-    while not ended.wait(1):
-        urllib.request.urlopen(f"http://127.0.0.1:{port}/metrics", timeout=30).read()
+def scrape(port, ended, faults):
+    try:
+        while not ended.wait(1):
+            urllib.request.urlopen(f"http://127.0.0.1:{port}/metrics", timeout=30).read()
+    except OSError as fault:
+        faults.append(fault)
 
 
 def play(program, changes, is_looked_at):
     """The seconds of processor time for each change."""
-    with tempfile.TemporaryDirectory() as folder:
-        peer, peer_control, peer_port = start(program, folder, "b@h", "--listen", "127.0.0.1:0", "--log", "none")
+    with tempfile.TemporaryDirectory() as folder, contextlib.ExitStack() as stack:
+        _, peer_control, peer_port = start(stack, program, folder, "b@h", "--listen", "127.0.0.1:0", "--log", "none")
         looks = ("--log", "text", "--http", "127.0.0.1:0") if is_looked_at else ("--log", "none")
-        node, control, port = start(program, folder, "a@h", "--dial", f"b@h=127.0.0.1:{peer_port}", *looks)
-        ended = threading.Event()
+        node, control, port = start(stack, program, folder, "a@h", "--dial", f"b@h=127.0.0.1:{peer_port}", *looks)
+        ended, faults = threading.Event(), []
         if is_looked_at:
-            threading.Thread(target=scrape, args=(port, ended), daemon=True).start()
+            threading.Thread(target=scrape, args=(port, ended, faults), daemon=True).start()
         for path in (peer_control, control):
             ask(path, ["start s"])
         pid = ask(control, ["nodes", "spawn"])[-1].split()[1]
+        member = f"{pid[:pid.rfind('/')]}/2"
         time.sleep(1)
         before = processor_time(node)
-        ask(control, ["spawn", f"join s g {pid[:pid.rfind('/')]}/2"] + [f"{word} s g {pid[:pid.rfind('/')]}/2" for _ in range(changes // 2) for word in ("join", "leave")])
+        ask(control, ["spawn", f"join s g {member}"] + [f"join s g {member}", f"leave s g {member}"] * (changes // 2))
         spent = processor_time(node) - before
         ended.set()
-        for process in (node, peer):
-            process.kill()
-            process.wait()
+        if faults:
+            raise SystemExit(f"its metrics can't be asked: {faults[0]}")
         return spent / changes
 
 

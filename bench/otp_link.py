@@ -12,7 +12,6 @@ up at the stock node to the news of its last row; then all rows are there, which
 Wanted: joins at most 1.2 of the two stock nodes, syncs at most 1.5, joins and leaves a second at
 least theirs; behind a flood no entry more, and no memory."""
 
-import argparse
 import collections
 import os
 import re
@@ -25,7 +24,9 @@ import time
 sys.dont_write_bytecode = True
 HERE = os.path.dirname(os.path.realpath(__file__))
 sys.path[:0] = [os.path.join(HERE, "../tests/otp"), os.path.join(HERE, "../tests/live")]
+sys.path.append(os.path.join(HERE, "../tests"))
 
+from command_line import CommandLine
 from node import asked, new_pid
 from stock import OtpField, up
 from waiting import until
@@ -200,12 +201,12 @@ def memory(field, links, count):
 
 
 def options():
-    parser = argparse.ArgumentParser(description=__doc__,
-                                     formatter_class=argparse.RawDescriptionHelpFormatter)
+    parser = CommandLine(__doc__)
     parser.add_argument("program", nargs="?", default=os.path.join(HERE, "../bin/pg_node"))
     parser.add_argument("--quick", action="store_true", help="a tenth of all")
     parser.add_argument("--flood", type=int, default=FLOOD, help="messages of the flood")
     wanted = parser.parse_args()
+    parser.need_program(wanted.program, "bin/build")
     if not all(shutil.which(word) for word in ("erl", "erlc", "epmd")):
         parser.error("there is no erl here")
     return wanted

@@ -18,9 +18,12 @@ import time
 sys.dont_write_bytecode = True
 HERE = os.path.dirname(os.path.realpath(__file__))
 sys.path.insert(0, os.path.join(HERE, "../tests/live"))
+sys.path.append(os.path.join(HERE, "../tests"))
 
 from cases_crowd import Flood
+from command_line import CommandLine
 from field import Field
+from waiting import until
 
 JOINS = 500
 PAUSE = 0.02  # seconds between joins that come singly
@@ -46,6 +49,7 @@ class Lines:
     def answer(self):
         while (line := self.lines.readline()).startswith(b"! "):
             pass
+        assert line, "the end of lines before an answer"
         return line.decode().split()
 
     def ask(self, line):
@@ -125,13 +129,15 @@ def watchers(nodes, group):
 def await_rows(joining, watching, pid):
     """Until the nodes tell each other of their scopes."""
     joining.ask(f"join pg last {pid}")
-    for lines in watching:
-        while len(lines.ask("members pg last")) < 2:
-            time.sleep(0.01)
+    await_members(watching, 1)
     joining.ask(f"leave pg last {pid}")
+    await_members(watching, 0)
+
+
+def await_members(watching, count):
+    """Until so many are in the group."""
     for lines in watching:
-        while len(lines.ask("members pg last")) > 1:
-            time.sleep(0.01)
+        until(f"{count} members", lambda: len(lines.ask("members pg last")) - 1, count.__eq__, pause=0.01)
 
 
 def join_to_news(field, begin, pause):
@@ -264,9 +270,10 @@ class Table:
 
 
 def main():
-    program = sys.argv[1] if len(sys.argv) > 1 else os.path.join(HERE, "../crates/pg_node/out/pg_node")
-    if not os.access(program, os.X_OK):
-        sys.exit("build it first, by bin/build")
+    reader = CommandLine(__doc__)
+    reader.add_argument("program", nargs="?", default=os.path.join(HERE, "../crates/pg_node/out/pg_node"))
+    program = reader.parse_args().program
+    reader.need_program(program, "bin/build")
     print(f"load of the machine before: {' '.join(f'{load:.1f}' for load in os.getloadavg())}")
     table = Table(os.path.abspath(program), shutil.which("escript") is not None)
     table.row("a join on one node to the news on another, singly, milliseconds", join_to_news, PAUSE)

@@ -17,7 +17,12 @@ import subprocess
 import sys
 import tempfile
 
+sys.dont_write_bytecode = True
 HERE = os.path.dirname(os.path.realpath(__file__))
+sys.path.append(os.path.join(HERE, "../tests"))
+
+from command_line import CommandLine
+
 DIGEST = "482c811da5d5b4bc6d497ffa98491e38"  # MD5 of `password123`
 ROWS = 65536
 # The most rows of a part.
@@ -106,13 +111,17 @@ class Console:
 
 
 def main():
-    program = sys.argv[1] if len(sys.argv) > 1 else os.path.join(HERE, "../crates/pg_console/out/pg_console")
+    reader = CommandLine(__doc__)
+    reader.add_argument("program", nargs="?", default=os.path.join(HERE, "../crates/pg_console/out/pg_console"))
+    program = reader.parse_args().program
+    reader.need_program(program, "bin/build")
     with tempfile.TemporaryDirectory() as folder:
         counting = os.path.join(folder, "counting.so")
         with open(os.path.join(folder, "counting.c"), "w", encoding="ascii") as source:
             source.write(COUNTING)
         subprocess.run(["cc", "-shared", "-fPIC", "-O2", "-o", counting, source.name], check=True)
-        for title, rows in (("of a group of its own", [row(number, 1) for number in range(ROWS)]), ("of one large group", [row(0, number) for number in range(ROWS)])):
+        own, large = [row(number, 1) for number in range(ROWS)], [row(0, number) for number in range(ROWS)]
+        for title, rows in (("of a group of its own", own), ("of one large group", large)):
             table, change, begun = (taken / ROWS for taken in Console(program, counting).kept(rows))
             print(f"a row {title}: {table:.0f} bytes in the table, {change:.0f} in the change, "
                   f"{begun:.0f} of a message begun")

@@ -3,7 +3,15 @@
 import argparse
 import os
 import sys
-from pathlib import Path
+
+ROOT = os.path.realpath(os.path.join(os.path.dirname(os.path.realpath(__file__)), '..'))
+
+
+def from_1(text):
+    """A number on a command line that is 1 or more: of 0 scripts, turns or processes nothing would be tried."""
+    if not (text.isascii() and text.isdecimal() and int(text) > 0):
+        raise argparse.ArgumentTypeError(f'no number from 1: {text}')
+    return int(text)
 
 
 class CommandLine(argparse.ArgumentParser):
@@ -11,7 +19,7 @@ class CommandLine(argparse.ArgumentParser):
     status 2, and with one line on standard error, which names that word and those that the test takes."""
 
     def __init__(self, page):
-        super().__init__(prog='/'.join(Path(sys.argv[0]).resolve().parts[-3:]), description=page, allow_abbrev=False,
+        super().__init__(prog=os.path.relpath(os.path.realpath(sys.argv[0]), ROOT), description=page, allow_abbrev=False,
                          formatter_class=argparse.RawDescriptionHelpFormatter)
 
     def error(self, message):

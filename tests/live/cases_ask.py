@@ -60,6 +60,7 @@ def asked_from_a_shell(field):
     await_nodes(a, ["b@h"])
     for words, line, status in ((["nodes"], "nodes b@h", 0), (["start", "pg"], "ok", 0), (["start pg"], "refused 22 ScopeRunning", 1),
                                 (["members", "pg", "g"], "pids", 0), (["spwan"], "fault no such command: spwan", 2),
+                                (["take"], "fault no such command: take", 2),
                                 (["exit", "a@h/1/1"], "fault not yours", 2), (["leave", "s", "g"], "refused 14 NoScope", 1)):
         errors = expect_asked(field, [a.control_path, *words], f"{line}\n", status)
         expect("lines on standard error", [], errors)
@@ -89,6 +90,7 @@ def asked_where_no_node_answers(field):
                                   ([os.path.join(field.folder, "none"), "nodes"], 3, "No such file"),
                                   ([a.control_path, "# quiet"], 2, "COMMAND"), ([a.control_path, "nodes\nquit"], 2, "COMMAND"),
                                   ([a.control_path, "hold", "pg"], 2, "hold"), ([a.control_path], 2, "COMMAND"),
+                                  ([a.control_path, "hold pg g"], 2, "hold, SCOPE and GROUP are words of their own"),
                                   (["--timeout", "0", a.control_path, "nodes"], 2, "--timeout")):
         a.signal(signal.SIGSTOP)
         began = time.monotonic()

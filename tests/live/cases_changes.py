@@ -67,7 +67,8 @@ def undialled_while_it_waits_for_a_lane(field):
 
 @case
 def faults_of_dials(field):
-    """What names no peer to dial is a fault that says what is wrong with it, and makes no entry."""
+    """What names no peer to dial is a fault that says what is wrong with it, but for bytes that a terminal shouldn't be given, and makes
+    no entry. An IPv6 address stands in brackets."""
     a = field.node("a@h")
     before = size(a)
     for line, fault in (
@@ -75,14 +76,18 @@ def faults_of_dials(field):
             ("dial b@h=host", "no NAME=HOST:PORT: b@h=host"), ("dial b@h=:1", "no NAME=HOST:PORT: b@h=:1"),
             ("dial b@h=host:70000", "no NAME=HOST:PORT: b@h=host:70000"), ("dial b@h=host:0", "no NAME=HOST:PORT: b@h=host:0"),
             ("dial bh=host:1", "the name has no single `@` between other bytes: bh=host:1"),
-            ("dial a@h=host:1", "the node's own name: a@h=host:1"), ("dial b@h 17", "no NAME=HOST:PORT: b@h 17"),
-            ("undial", "a word is missing: undial NAME"), ("undial b@h", "not dialled: b@h"),
-            ("undial bh", "the name has no single `@` between other bytes: bh"), ("drain now", "a word too many: now")):
+            ("dial a@h=host:1", "the node's own name: a@h=host:1"), ("dial b@h 17", "a word too many: 17"),
+            ("dial b@h=host:1 17 x", "a word too many: 17"), ("dial  b@h=host:1", "an empty word; words are parted by one space"),
+            ("dial b@h=::1", "no NAME=HOST:PORT: b@h=::1"), ("dial b@h=::1:17", "no NAME=HOST:PORT: b@h=::1:17"),
+            ("dial b@h=\x1b[2J", "no NAME=HOST:PORT"), ("undial", "a word is missing: undial NAME"), ("undial b@h", "not dialled: b@h"),
+            ("undial bh", "the name has no single `@` between other bytes: bh"), ("undial b@h x", "a word too many: x"),
+            ("undial b@h\x1b", "the text has a byte outside 0x21 to 0x7E"), ("reopen now", "a word too many: now"),
+            ("drain now", "a word too many: now")):
         asked(a, line, f"fault {fault}")
     for number in range(256):
         asked(a, f"dial n{number}@h=127.0.0.1:1")
     asked(a, "dial late@h=127.0.0.1:1", "fault 256 peers are dialled already")
-    asked(a, "dial n0@h=127.0.0.1:2")
+    asked(a, "dial n0@h=[::1]:2")
     expect("the size of the audit", before, size(a))
     a.quit()
 
@@ -137,3 +142,19 @@ def drained_by_its_operator(field):
     new_pid(a)
     asked(a, "drain")
     expect("its status", 0, a.status(10))
+
+
+@case
+def ended_while_it_drains(field):
+    """`quit` on standard input ends a node that drains at once, and no other line is answered then."""
+    a = field.node("a@h")
+    client, watcher = field.control(a), field.control(a)
+    for _ in range(4_000):
+        new_pid(client)
+    client.send("drain")
+    watcher.await_end()
+    for line in ("nodes", "quit"):
+        a.send(line)
+    expect("its status", 0, a.status(10))
+    client.await_end()
+    expect("answers to drain, and behind it", ([], []), (client.answers, a.answers))

@@ -2,13 +2,14 @@
 
 import os
 import queue
+import socket
 import subprocess
 import sys
 import threading
 import time
 
 from field import case
-from node import await_nodes
+from node import asked, await_nodes, member, new_pid, start
 from waiting import LIMIT, expect, expect_that, seconds_since
 
 EXAMPLES = os.path.join(os.path.dirname(os.path.realpath(__file__)), "../../examples")
@@ -41,9 +42,14 @@ class Client:
     def expect_end(self, status, words):
         """That it ends so, with one line on standard error that has these words."""
         expect("the status of an example", status, self.process.wait(LIMIT))
-        line, *more = self.process.stderr.read().splitlines()
-        expect_that(words in line, f"{words!r} on standard error", line)
-        expect("further lines on standard error", [], more)
+        self.expect_errors([words])
+
+    def expect_errors(self, wanted):
+        """That its lines on standard error that weren't read yet have these words, a line each; it has ended."""
+        lines = self.process.stderr.read().splitlines()
+        expect("how many lines on standard error", len(wanted), len(lines))
+        for words, line in zip(wanted, lines):
+            expect_that(words in line, f"{words!r} on standard error", line)
 
     def close(self):
         self.process.kill()
@@ -99,29 +105,83 @@ def work_goes_on(field):
 
 @case
 def ends_of_examples(field):
-    """Worker and router say so, and end with status 1, when their node dies or has no room; without words they say how they are used."""
+    """Worker and router say so, and end with status 1, when their node dies, also while a job's connection is open, or has no room; and a
+    worker whose port is taken. Without words they say how they are used."""
     a = field.node("a@h", "--clients", "2", port=None)
-    address = f"127.0.0.1:{field.free_port()}"
+    port = field.free_port()
+    address = f"127.0.0.1:{port}"
     worker = Client(field, "worker.py", a.control_path, address)
     router = Client(field, "router.py", a.control_path)
     router.expect(f"here {address}")
     other = f"127.0.0.1:{field.free_port()}"
     for words in (("worker.py", a.control_path, other), ("router.py", a.control_path)):
         Client(field, *words).expect_end(1, "no room")
+    Client(field, "worker.py", a.control_path, address).expect_end(1, f"{address}: Address already in use")
+    jobs = field.keep(socket.create_connection(("127.0.0.1", port), LIMIT))
+    jobs.sendall(b"one\n")
+    expect("an answer", f"{address} did one\n".encode(), jobs.recv(100))
     a.kill()
     for client in (worker, router):
         client.expect_end(1, "the node is gone")
-    for words in (("worker.py",), ("worker.py", a.control_path, "nowhere"), ("router.py",), ("router.py", "a", "b")):
+    for words in (("worker.py",), ("worker.py", a.control_path, "nowhere"), ("worker.py", a.control_path, "127.0.0.1:99999"), ("router.py",),
+                  ("router.py", "a", "b")):
         Client(field, *words).expect_end(2, f"usage: {words[0]} CONTROL")
 
 
 @case
+def examples_that_are_refused(field):
+    """A worker that can't be listed, for want of rows or at a socket for reads, ends with status 1 and the node's answer, and so does a
+    router that can't be told who is."""
+    reading = os.path.join(field.folder, "reading")
+    a = field.node("a@h", "--control-read", reading, port=None)
+    address = f"127.0.0.1:{field.free_port()}"
+    Client(field, "worker.py", reading, address).expect_end(1, "the node answers: fault this socket takes reads and monitors alone")
+    Client(field, "router.py", reading).expect_end(1, "the node answers: refused 14 NoScope")
+    control = field.control(a)
+    start(control, "jobs")
+    asked(control, " ".join(["join jobs full", *[new_pid(control)] * 4096]))
+    Client(field, "worker.py", a.control_path, address).expect_end(1, "the node answers: refused 18 RowsFull")
+    router = Client(field, "router.py", reading)
+    router.send("one")
+    router.expect("nobody")
+
+
+@case
+def examples_wait(field):
+    """Worker and router that find no node say so once, and wait for it."""
+    path = os.path.join(field.folder, "a@h.control")
+    address = f"127.0.0.1:{field.free_port()}"
+    clients = [Client(field, "worker.py", path, address), Client(field, "router.py", path)]
+    for client in clients:
+        line = client.process.stderr.readline()
+        expect_that(line.endswith(f".py: {path}: No such file or directory; waiting\n"), "that it waits", line)
+    a = field.node("a@h", port=None)
+    clients[1].expect(f"here {address}")
+    a.kill()
+    for client in clients:
+        client.expect_end(1, "the node is gone")
+
+
+@case
 def router_at_its_end(field):
-    """A router ends with status 0 at the end of its input."""
+    """A router ends with status 0 at the end of its input, whose last line may have no line feed; groups that name no worker, or one that
+    can't be there, don't hold it up."""
     a = field.node("a@h", port=None)
     router = Client(field, "router.py", a.control_path)
     router.send("one")
     router.expect("nobody")
+    control = field.control(a)
+    member(control, "jobs/printers", "jobs")
+    for group in ("127.0.0.1:99999", "127.0.0.1:none"):
+        member(control, f"jobs/{group}", "jobs")
+        router.expect(f"here {group}")
+    router.send("one")
+    router.expect("nobody")
+    address = f"127.0.0.1:{field.free_port()}"
+    Client(field, "worker.py", a.control_path, address)
+    router.expect(f"here {address}")
+    router.process.stdin.write("two")
     router.process.stdin.close()
+    router.expect(f"{address} did two")
     expect("the status", 0, router.process.wait(LIMIT))
-    expect("its words on standard error", "", router.process.stderr.read())
+    router.expect_errors([])

@@ -327,7 +327,8 @@ def quit_and_end(field):
     b = field.node("b@h", dial=[a], control=False)
     await_nodes(a, ["b@h"])
     b.process.stdin.close()
-    expect("the status at the end of standard input", 0, b.status())
+    why = 'info input_ended reason="standard input has ended, and there is no --control"'
+    expect("the status at the end of standard input, and why it ends", (0, [why]), (b.status(), b.log("info input_ended")))
     a.told("! down b@h [0-9]+ closed")
     a.process.stdin.close()
     control = field.control(a)
@@ -335,8 +336,7 @@ def quit_and_end(field):
     await_members(control, [pid])
     control.send("quit")
     control.await_end()
-    expect("the status after quit", 0, a.status())
-    expect("its lines on standard error", [], a.errors())
+    expect("the status after quit, and its lines on standard error", (0, []), (a.status(), a.errors()))
 
 
 @case

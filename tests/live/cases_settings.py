@@ -111,7 +111,7 @@ def socket_for_reads(field):
 
 @case
 def seat_for_the_operator(field):
-    """Who may only read doesn't take the last seat of a node: at the other socket there is one still."""
+    """Who may only read doesn't take the last seat of a node: at the other socket, if there is one, it is left."""
     path = os.path.join(field.folder, "reads")
     a = field.node("a@h", "--clients", "2", "--control-read", path)
     reader = field.keep(Control(path))
@@ -120,6 +120,8 @@ def seat_for_the_operator(field):
     expect("what a second reader is told", "fault full", refused.next_answer("a refusal"))
     asked(field.control(a), "drain")
     expect("the status", 0, a.status())
+    field.node("b@h", "--clients", "1", "--control-read", f"{path}.b", control=False)
+    asked(field.keep(Control(f"{path}.b")), "nodes", "nodes")
 
 
 @case
@@ -151,9 +153,9 @@ def faults_of_the_command_line(field):
 
 @case
 def options_that_do_not_fit(field):
-    """A peer that is given twice, a mode without its socket, one path for both sockets, a path that is too long, a level that isn't one,
-    a size without an archive, and what is said of a page or of stock nodes where there are none: each is told by its option, and nothing is
-    served."""
+    """A peer that is given twice, a mode without its socket, one path for both sockets, a path that is too long, an IPv6 address without
+    brackets, a level that isn't one, a size without an archive, and what is said of a page or of stock nodes where there are none: each is
+    told by its option, and nothing is served."""
     long = os.path.join(field.folder, "x" * 104)
     for words, fault in ((("--dial", "b@h=127.0.0.1:1", "--dial", "b@h=127.0.0.1:2"), "--dial: this peer is given twice: b@h=127.0.0.1:2"),
                          (("--dial", "b@h=127.0.0.1:1", "--otp-dial", "b@h=127.0.0.1:2"),
@@ -162,6 +164,8 @@ def options_that_do_not_fit(field):
                          (("--control-read-mode", "0660"), "--control-read-mode: there is no --control-read"),
                          (("--control", long + ".s", "--control-read", long + ".s"), "--control-read: the path of --control"),
                          (("--control", long), f"--control: {shown(long)}: a path of more than 103 bytes"),
+                         (("--listen", "::1"), "--listen: no HOST:PORT: ::1"),
+                         (("--listen", "::1:4001"), "--listen: no HOST:PORT: ::1:4001"),
                          (("--log-level", "debug"), "--log-level: not error, warn or info: debug"),
                          (("--http-anywhere",), "--http-anywhere: there is no --http"),
                          (("--otp-visible",), "--otp-visible: there is no --otp-listen and no --otp-dial"),
@@ -170,6 +174,28 @@ def options_that_do_not_fit(field):
         node = field.start("a@h", *words, control=False, port=None)
         expect_that(node.status() in (1, 2), f"status 1 or 2 for {words}", node.status())
         expect(f"what is said of {words}", [f"error: {fault}"], [line for line in node.errors() if line.startswith("error")][-1:])
+
+
+@case
+def most_names_and_peers(field):
+    """1,024 names may be allowed and 1,024 peers have a cookie of their own, each counted once; one more is told by its option, with
+    status 2."""
+    cookie = field.cookie_file()
+
+    def started_with(option, *values):
+        words = [word for value in values for word in (option, value)]
+        done = subprocess.run([field.program, "a@h", "--cookie-file", cookie, *words], input=b"allowed\n", capture_output=True,
+                              timeout=LIMIT, check=False)
+        said = [line for line in done.stderr.decode().splitlines() if line.startswith("error")]
+        return len(done.stdout.split()), said, done.returncode
+
+    names = [f"n{number}@h" for number in range(1_024)]
+    files = [f"{name}={cookie}" for name in names]
+    expect("with as many names as may be", (1_025, [], 0), started_with("--allow", *names, names[0]))
+    expect("with one name more", (0, ["error: --allow: more than 1024 names: b@h"], 2), started_with("--allow", *names, "b@h"))
+    expect("with as many cookies as may be", (1, [], 0), started_with("--cookie-for", *files, f"a@h={cookie}", files[0]))
+    status = started_with("--cookie-for", *files, f"b@h={cookie}")
+    expect("with one cookie more", (0, [f"error: --cookie-for: more than 1024 peers: {f'b@h={cookie}':.60}"], 2), status)
 
 
 @case

@@ -64,18 +64,20 @@ def archive_moved_where_none_can_be_made(field):
 
 @case
 def half_a_line_at_the_end(field):
-    """An entry of which the file has only a part when the program ends counts as lost, in its last line and by its status."""
+    """An entry of which the file has only a part when the program ends counts as lost, in its last line and by its status; the line of
+    a life is no entry."""
     path = os.path.join(field.folder, "archive")
     words = [field.program, "a@h", "--cookie-file", field.cookie_file(), "--creation", "5", "--audit", path]
     script = "start pg\nspawn\nspawn\nquit\n"
     subprocess.run(words, input=script.encode(), capture_output=True, timeout=LIMIT, check=True)
-    whole = os.path.getsize(path)
-    os.remove(path)
-    limited = ["bash", "-c", f'trap "" XFSZ; exec prlimit --fsize={whole - 10} "$@"', "bash", *words]
-    done = subprocess.run(limited, input=script.encode(), capture_output=True, timeout=LIMIT, check=False)
-    expect("the status", 1, done.returncode)
-    expect("the last line", f"error: --audit: {shown(path)}: 1 entries are not in the file", done.stderr.decode().splitlines()[-1])
-    expect("the size of the file", whole - 10, os.path.getsize(path))
+    whole, entries = os.path.getsize(path), len(lines_of(path)) - 1
+    for size, lost in ((whole - 10, "1 entry is"), (10, f"{entries} entries are")):
+        os.remove(path)
+        limited = ["bash", "-c", f'trap "" XFSZ; exec prlimit --fsize={size} "$@"', "bash", *words]
+        done = subprocess.run(limited, input=script.encode(), capture_output=True, timeout=LIMIT, check=False)
+        expect("the status", 1, done.returncode)
+        expect("the last line", f"error: --audit: {shown(path)}: {lost} not in the file", done.stderr.decode().splitlines()[-1])
+        expect("the size of the file", size, os.path.getsize(path))
 
 
 @case

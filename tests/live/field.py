@@ -1,5 +1,6 @@
 """What a case works with: nodes, peers, free ports and a folder, all of which are gone after it."""
 
+import contextlib
 import os
 import random
 import shutil
@@ -41,12 +42,13 @@ class Field:
         return self
 
     def __exit__(self, *_):
-        for thing in self._open:
-            thing.close()
-        for node in self.nodes:
-            if node.process.poll() is None:
-                node.kill()
-        shutil.rmtree(self.folder, ignore_errors=True)
+        # (all of it, whatever fails of it: what was kept in its order, the nodes, the folder)
+        with contextlib.ExitStack() as stack:
+            stack.callback(shutil.rmtree, self.folder, ignore_errors=True)
+            for node in self.nodes:
+                stack.callback(node.kill)
+            for thing in reversed(self._open):
+                stack.callback(thing.close)
 
     def keep(self, thing):
         """Closes it when the case is over."""

@@ -1,8 +1,10 @@
-"""Plays cases, one after another or beside each other. One that fails is played once more, since a busy machine may be late for a promise of time; its line says so."""
+"""Plays cases, one after another or beside each other. One that fails is played once more, since a busy machine may be late for a promise
+of time; its line says so."""
 
 import functools
 import multiprocessing
 import signal
+import subprocess
 import sys
 import time
 
@@ -11,6 +13,16 @@ from field import CASES
 
 class OutOfTime(Exception):
     """No fault that a case can take for one of its own."""
+
+
+def check_program(program):
+    """That it runs; bin/pg_node may build it first."""
+    try:
+        done = subprocess.run([program, "--version"], stdin=subprocess.DEVNULL, stdout=subprocess.DEVNULL, check=False)
+    except OSError as fault:
+        sys.exit(f"{program} can't be run: {fault.strerror}")
+    if done.returncode != 0:
+        sys.exit(f"{program} --version ended with status {done.returncode}")
 
 
 def by_name():
@@ -49,7 +61,8 @@ def ended(_signal, _frame):
 
 def take_signals(end=stopped):
     signal.signal(signal.SIGALRM, out_of_time)
-    signal.signal(signal.SIGTERM, end)
+    for number in (signal.SIGTERM, signal.SIGINT):
+        signal.signal(number, end)
 
 
 def play(case, make_field, limit):

@@ -3,15 +3,23 @@
 import os
 import re
 import subprocess
+import sys
 from pathlib import Path
 
 HERE = Path(__file__).resolve().parent
 SECONDS = 600
 
 
-def build(folder):
+def build(folder, program):
+    """The library that refuses, which this program has to take."""
     library = str(Path(folder) / 'refuse.so')
-    subprocess.run(['cc', '-shared', '-fPIC', '-O1', '-o', library, str(HERE / 'refuse.c')], check=True)
+    try:
+        subprocess.run(['cc', '-shared', '-fPIC', '-O1', '-o', library, str(HERE / 'refuse.c')], check=True)
+    except FileNotFoundError:
+        sys.exit('there is no cc here')
+    run = subprocess.run([program, '--version'], stdin=subprocess.DEVNULL, capture_output=True, env=without_memory(library, 0), timeout=SECONDS)
+    if not re.search(rb'^calls \d+', run.stderr, re.MULTILINE):
+        sys.exit(f'{program} isn\'t linked with the C library at the run')
     return library
 
 

@@ -52,6 +52,7 @@ class Stock:
             self.process = subprocess.Popen(words, stdin=subprocess.PIPE, stdout=subprocess.PIPE, stderr=log, env=place)
         self._answers = queue.Queue()
         threading.Thread(target=self._read, daemon=True).start()
+        field.keep(self)
         self.ask("ok")
         self.scope = None
 
@@ -70,9 +71,13 @@ class Stock:
         """The value of an expression, as Erlang writes it."""
         self.send(expression)
         try:
-            return self._answers.get(timeout=limit)
+            answer = self._answers.get(timeout=limit)
         except queue.Empty:
             raise AssertionError(f"expected a value of {expression[:80]!r} at {self.name} within {limit} s, came none") from None
+        if answer is None:
+            self._answers.put(None)
+            raise AssertionError(f"expected a value of {expression[:80]!r} at {self.name}, came its end")
+        return answer
 
     def start(self, scope="jobs"):
         """Starts a scope. It is looked at the end whether it lives on."""
@@ -168,7 +173,7 @@ class OtpField(Field):
         """A stock node, with a scope."""
         if self._epmd is None:
             self.epmd()
-        stock = self.keep(Stock(self, name, *arguments, **rest))
+        stock = Stock(self, name, *arguments, **rest)
         self.stocks.append(stock)
         return stock.start(scope) if scope else stock
 
