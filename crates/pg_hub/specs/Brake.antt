@@ -2,6 +2,7 @@
 use Rattle.std.specs.Prelude.{ℕ, ◌+◌, ◌-◌, ◌/◌, ◌==◌, min, Bool, ◌||◌, cond, List, [], ◌∷◌, codes}
 use Rattle.std.specs.List.{count_by}
 use Rattle.std.specs.Str.{bytes_eq}
+use Rattle.dist_types.specs.Listing.{max_rows}
 use Rattle.pg_text.specs.Lines.{words_of}
 
 -- The calls that were let through: what those may owe to a link that aren't made yet, and how many
@@ -24,15 +25,15 @@ abbrev pub named_in : List ℕ → ℕ
 named_in line = count_by (λ b. b == 32) line - 2
 
 -- How many frames an exit may owe to a link, where the processes of its connection have so many rows
--- at most: one for each of 64 scopes, and one more for each 4,096 rows.
+-- at most: one for each of 64 scopes, and one more for as many rows as a frame has at most.
 abbrev pub frames_of_an_exit : ℕ → ℕ
-frames_of_an_exit rows = 64 + rows / 4096
+frames_of_an_exit rows = 64 + rows / max_rows
 
 -- How many a command of this name may owe to a link, where its line names so many processes.
 abbrev pub frames_for : List ℕ → ℕ → ℕ → ℕ
 frames_for name named rows =
     cond (bytes_eq name (codes "exit")) (frames_of_an_exit rows)
-    (cond (moves name) (1 + named / 4096) (cond (announces name) 1 0))
+    (cond (moves name) (1 + named / max_rows) (cond (announces name) 1 0))
 
 -- the command that words begin with
 abbrev pub command_in : List (List ℕ) → List ℕ

@@ -3,11 +3,13 @@
 //! at the links, so that all that find room have it, and few calls need a look.
 ghost use Rattle.std.specs.Prelude.{◌≡◌, ◌/◌, ℕ};
 ghost use Rattle.std.specs.Str.{bytes_eq};
+ghost use Rattle.dist_types.specs.Listing.{max_rows};
 ghost use Rattle.pg_hub.specs.Brake.{frames_of, frames_for, frames_of_an_exit, named_in};
 ghost use Rattle.pg_hub.specs.Brake.{moves, announces};
 
 use crate::hub::Hub;
 use crate::promises::{MOST, Promises};
+use dist_types::MAX_ROWS;
 use node_threads::Shared;
 use pg_session::Session;
 use pg_text::first_word;
@@ -18,9 +20,6 @@ use std::time::Clock;
 
 /// How many scopes there are at most, for each of which an exit may owe a link a frame.
 const EACH_SCOPE: usize = 64;
-
-/// How many rows a frame has at most.
-const EACH_PART: usize = 4_096;
 
 /// What lets calls through.
 #[derive(Drop)]
@@ -111,18 +110,18 @@ fn frames_for(word: &[u8], line: &[u8], rows: usize) -> usize
 fn frames_of_an_exit(rows: usize) -> usize
     ensures { result ≡ frames_of_an_exit rows }
 {
-    EACH_SCOPE + rows / EACH_PART
+    EACH_SCOPE + rows / MAX_ROWS
 }
 
 /// How many whole parts the processes make that a line may name. A shorter line makes none.
 #[tactic(auto, using(crate::proofs::Short::short_names))]
 fn parts_in(line: &[u8]) -> usize
-    ensures { result ≡ named_in line.now / 4096 }
+    ensures { result ≡ named_in line.now / max_rows }
 {
-    if line.len() < EACH_PART {
+    if line.len() < MAX_ROWS {
         return 0;
     }
-    named_in(line) / EACH_PART
+    named_in(line) / MAX_ROWS
 }
 
 /// How many processes a line may name.

@@ -14,8 +14,8 @@ use Rattle.pg_session.specs.declared.surroundings.Report.{Report}
 use Rattle.pg_session.specs.declared.surroundings.Report.TheVariants as reports
 use Rattle.pg_session.specs.declared.surroundings.Change.{Change}
 use Rattle.pg_session.specs.declared.surroundings.Change.TheVariants as changes
-use Rattle.pg_session.specs.declared.session.Next.{Next}
-use Rattle.pg_session.specs.declared.session.Next.TheVariants as next
+use Rattle.pg_session.specs.declared.answered.Next.{Next}
+use Rattle.pg_session.specs.declared.answered.Next.TheVariants as next
 use Rattle.pg_text.specs.Lines.{is_quiet, words_of}
 
 -- a connection may make this call by a line: it speaks for no link, ends no life of the node, and isn't asked unasked or without an entry

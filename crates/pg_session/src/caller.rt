@@ -120,6 +120,7 @@ impl Caller {
         self.pass.let_go();
     }
 
+    /// The pass, whose calls a connection may make, all of them.
     pub fn into_pass(self) -> Pass
         ensures same { result ≡ self }
         ensures connections { AreConnections result.calls }
@@ -147,7 +148,8 @@ impl Caller {
     ) -> Result<(), OutOfMemory>
         requires { may_call (spawned self.old.calls) event ≡ true }
         ensures called { IsCalled self.old event self.new }
-        ensures ok { OnOk result ((answer : Result Reply CallFault) × Called self.old event answer self.new × IsOutcome answer outcome.new × (out.new.items ≡ out.old.items ++ call_line answer)) }
+        ensures ok { OnOk result ((answer : Result Reply CallFault) × Called self.old event answer self.new
+            × IsOutcome answer outcome.new × (out.new.items ≡ out.old.items ++ call_line answer)) }
         ensures own { CameFrom (spawned self.old.calls) outcome.old → CameFrom (spawned self.new.calls) outcome.new }
     {
         let answer = self.pass.call(node, rt, event);
@@ -165,7 +167,8 @@ impl Caller {
     ) -> Result<Fetched, OutOfMemory>
         ensures called { IsCalled self.old (Updates number) self.new }
         ensures told { OnOk result ((known : Known) → Tells self.old known out.old.items self.new known out.new.items) }
-        ensures fetched { IfOk result (λ fetched. (answer : Result Reply CallFault) × Called self.old (Updates number) answer self.new × (fetched ≡ fetched_by answer)) }
+        ensures fetched { IfOk result (λ fetched. (answer : Result Reply CallFault)
+            × Called self.old (Updates number) answer self.new × (fetched ≡ fetched_by answer)) }
     {
         let answer = self.pass.call(node, rt, Event::Updates(number));
         put_fetched(alloc, number, answer, out)
@@ -195,7 +198,8 @@ fn put_answer(
     outcome: &mut Outcome,
     out: &mut Vec<u8>,
 ) -> Result<(), OutOfMemory>
-    ensures ok { OnOk result (IsOutcome (answer_now answer.entry) outcome.new × (out.new.items ≡ out.old.items ++ call_line (answer_now answer.entry))) }
+    ensures ok { OnOk result (IsOutcome (answer_now answer.entry) outcome.new
+        × (out.new.items ≡ out.old.items ++ call_line (answer_now answer.entry))) }
     ensures came { IsOutcome (answer_now answer.entry) outcome.new ⊎ (outcome.new ≡ outcome.old) }
 {
     match answer {

@@ -1,6 +1,7 @@
 //! The seat of a connection to a node: what its lines ask for and are answered, what it has of the node, and what it is told unasked.
 #![tactic(auto)]
 
+mod answered;
 mod caller;
 mod kind;
 mod laws;
@@ -21,10 +22,11 @@ mod surroundings;
 mod watch;
 mod watched;
 
+pub use answered::{Answered, Next};
 pub use caller::{Caller, Lack};
 pub use laws::untouched_tells_nothing;
 pub use news::{LostLinks, Seen};
 pub use rights::Rights;
 pub use roster::Roster;
-pub use session::{Answered, Next, Session};
+pub use session::Session;
 pub use surroundings::{Change, Report, Surroundings};

@@ -71,7 +71,8 @@ pub fn put_stopped(scope: &Scope, out: &mut Vec<u8>) -> Result<(), OutOfMemory>
 
 /// Adds that a new life has begun, behind the end of each of these peers.
 pub fn put_life(peers: &[Peer], creation: u32, out: &mut Vec<u8>) -> Result<(), OutOfMemory>
-    ensures { OnOk result (TellsNews (record { peers = peers.now; anew = Some creation }) out.old.items (record { peers = []; anew = None }) out.new.items) }
+    ensures { OnOk result (TellsNews (record { peers = peers.now; anew = Some creation }) out.old.items
+        (record { peers = []; anew = None }) out.new.items) }
 {
     put_all_down(peers, DownReason::Restarted, out)?;
     put_numbered_line("! restarted ", u64::from(creation), out)

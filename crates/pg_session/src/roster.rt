@@ -23,6 +23,7 @@ pub struct Roster {
 }
 
 impl Roster {
+    /// One that has seen nothing.
     pub fn new(alloc: Global) -> Roster {
         Roster {
             news: News::new(alloc),

@@ -13,6 +13,7 @@ ghost use Rattle.pg_session.specs.Notices.{TellsNews, has_gone};
 ghost use Rattle.pg_session.specs.Seen.{seen_of};
 ghost use Rattle.pg_session.specs.declared.request.Request.TheVariants as requests;
 
+use crate::answered::{Answered, Next};
 use crate::caller::{Caller, Lack, Outcome};
 use crate::kind::Kind;
 use crate::leaving::{end_process, end_watch};
@@ -83,39 +84,6 @@ impl Model for Session {
       watches = session.watches.items;
       seen = session.seen;
     }) };
-}
-
-/// Whether the program goes on behind a line.
-#[derive(Clone, Copy, Debug, PartialEq, Eq)]
-pub enum Next {
-    Line,
-    Quit,
-    Drain,
-}
-
-/// What is to be done behind an answer. Behind a line that makes no call nothing is wanting.
-#[derive(Clone, Copy, Debug, PartialEq, Eq)]
-pub struct Answered {
-    pub next: Next,
-    /// What was wanting for the call of the line, if that made no entry for want of it.
-    pub lack: Option<Lack>,
-}
-
-impl Answered {
-    const LINE: Answered = Answered {
-        next: Next::Line,
-        lack: None,
-    };
-
-    const QUIT: Answered = Answered {
-        next: Next::Quit,
-        lack: None,
-    };
-
-    const DRAIN: Answered = Answered {
-        next: Next::Drain,
-        lack: None,
-    };
 }
 
 impl Session {
@@ -227,6 +195,7 @@ impl Session {
         replace(&mut self.caller, caller)
     }
 
+    /// The right to call, of a connection that has gone.
     pub fn into_caller(self) -> Caller
         ensures { result ≡ self.pass }
     {

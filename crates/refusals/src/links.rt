@@ -24,7 +24,7 @@ struct Scene<'a> {
 
 /// A node that has played a script, the pass that has, and behind it that of a worker.
 #[derive(Drop)]
-struct Stage {
+struct Crew {
     node: Node,
     passes: Vec<Pass>,
 }
@@ -105,33 +105,33 @@ fn frame_of(event: Event) -> Option<(u32, Body)> {
 }
 
 /// A new node that has played the script.
-fn set_stage<R: Eprint + Wait + Sync>(rt: &R, alloc: Global, script: &str) -> Result<Stage> {
-    insisted(rt, "stage", || stage_of(rt, alloc, script))
+fn set_crew<R: Eprint + Wait + Sync>(rt: &R, alloc: Global, script: &str) -> Result<Crew> {
+    insisted(rt, "crew", || crew_of(rt, alloc, script))
 }
 
-fn stage_of<R: Wait + Sync>(rt: &R, alloc: Global, script: &str) -> Result<Stage, OutOfMemory> {
-    let mut stage = new_stage(alloc)?;
-    call_lines(rt, alloc, &mut stage, script)?;
-    Ok(stage)
+fn crew_of<R: Wait + Sync>(rt: &R, alloc: Global, script: &str) -> Result<Crew, OutOfMemory> {
+    let mut crew = new_crew(alloc)?;
+    call_lines(rt, alloc, &mut crew, script)?;
+    Ok(crew)
 }
 
-fn new_stage(alloc: Global) -> Result<Stage, OutOfMemory> {
+fn new_crew(alloc: Global) -> Result<Crew, OutOfMemory> {
     let (node, passes) = new_node(alloc)?;
-    Ok(Stage { node, passes })
+    Ok(Crew { node, passes })
 }
 
 /// Calls each line's event by the first pass.
 fn call_lines<R: Wait + Sync>(
     rt: &R,
     alloc: Global,
-    stage: &mut Stage,
+    crew: &mut Crew,
     script: &str,
 ) -> Result<(), OutOfMemory> {
-    let Some(caller) = stage.passes.first_mut() else {
+    let Some(caller) = crew.passes.first_mut() else {
         return Err(OutOfMemory);
     };
     for line in script.lines() {
-        call_line(rt, alloc, &stage.node, caller, line)?;
+        call_line(rt, alloc, &crew.node, caller, line)?;
     }
     Ok(())
 }
@@ -157,9 +157,9 @@ fn read<R: Print + Eprint + Wait + Sync>(
     scene: &Scene<'_>,
     fails_at: usize,
 ) -> Result<()> {
-    let mut stage = set_stage(rt, alloc, scene.script)?;
-    let told = tell_read(rt, alloc, log, &mut stage, scene, fails_at);
-    settle(stage, told)
+    let mut crew = set_crew(rt, alloc, scene.script)?;
+    let told = tell_read(rt, alloc, log, &mut crew, scene, fails_at);
+    settle(crew, told)
 }
 
 fn write<R: Print + Eprint + Wait + Sync>(
@@ -169,9 +169,9 @@ fn write<R: Print + Eprint + Wait + Sync>(
     scene: &Scene<'_>,
     fails_at: usize,
 ) -> Result<()> {
-    let mut stage = set_stage(rt, alloc, scene.script)?;
-    let told = tell_write(rt, alloc, log, &mut stage, scene.link, fails_at);
-    settle(stage, told)
+    let mut crew = set_crew(rt, alloc, scene.script)?;
+    let told = tell_write(rt, alloc, log, &mut crew, scene.link, fails_at);
+    settle(crew, told)
 }
 
 /// Reads, and prints how that ended.
@@ -179,18 +179,18 @@ fn tell_read<R: Print + Wait + Sync>(
     rt: &R,
     alloc: Global,
     log: &mut Log,
-    stage: &mut Stage,
+    crew: &mut Crew,
     scene: &Scene<'_>,
     fails_at: usize,
 ) -> Result<()> {
-    put_read(rt, alloc, stage, scene, fails_at, log.begin())?;
+    put_read(rt, alloc, crew, scene, fails_at, log.begin())?;
     log.print(rt)
 }
 
 fn put_read<R: Wait + Sync>(
     rt: &R,
     alloc: Global,
-    stage: &mut Stage,
+    crew: &mut Crew,
     scene: &Scene<'_>,
     fails_at: usize,
     out: &mut Vec<u8>,
@@ -200,13 +200,13 @@ fn put_read<R: Wait + Sync>(
         at: 0,
         fails_at,
     };
-    let Some(worker) = stage.passes.last_mut() else {
+    let Some(worker) = crew.passes.last_mut() else {
         bail!("a node without passes");
     };
     let end = read_link(
         rt,
         alloc,
-        &stage.node,
+        &crew.node,
         worker,
         scene.link,
         &mut input,
@@ -223,27 +223,27 @@ fn tell_write<R: Print + Eprint + Wait + Sync>(
     rt: &R,
     alloc: Global,
     log: &mut Log,
-    stage: &mut Stage,
+    crew: &mut Crew,
     link: u32,
     fails_at: usize,
 ) -> Result<()> {
     let mut output = insisted(rt, "output", || Taking::new(alloc, fails_at))?;
-    put_written(rt, alloc, stage, link, &mut output, log.begin())?;
+    put_written(rt, alloc, crew, link, &mut output, log.begin())?;
     log.print(rt)
 }
 
 fn put_written<R: Wait + Sync>(
     rt: &R,
     alloc: Global,
-    stage: &mut Stage,
+    crew: &mut Crew,
     link: u32,
     output: &mut Taking,
     out: &mut Vec<u8>,
 ) -> Result<()> {
-    let Some(worker) = stage.passes.last_mut() else {
+    let Some(worker) = crew.passes.last_mut() else {
         bail!("a node without passes");
     };
-    let end = write_link(rt, alloc, &stage.node, worker, link, output);
+    let end = write_link(rt, alloc, &crew.node, worker, link, output);
     put_number("written ", output.taken.len() as u64, out)?;
     put_worked(&end, worker, out)?;
     put_output(output, out)?;
@@ -282,9 +282,9 @@ fn put_calls(worker: &Pass, out: &mut Vec<u8>) -> Result<(), OutOfMemory> {
 }
 
 /// Closes the node, where it was told what came of it.
-fn settle(stage: Stage, told: Result<()>) -> Result<()> {
+fn settle(crew: Crew, told: Result<()>) -> Result<()> {
     told?;
-    let Stage { node, passes } = stage;
+    let Crew { node, passes } = crew;
     if close_node(node, passes).is_none() {
         bail!("the node is not closed");
     }

@@ -4,7 +4,7 @@ ghost use Rattle.std.specs.Prelude.{◌≡◌, All, IfOk, codes};
 use crate::calls::{Log, Subject, insisted, play_all};
 use crate::rows::put_fault;
 use anyhow::Result;
-use dist_types::{Group, GroupChange, NodeName, OutOfMemory, Pid, Row, TryClone};
+use dist_types::{Group, GroupChange, MAX_ROWS, NodeName, OutOfMemory, Pid, Row, TryClone};
 use pg_text::{Printed, put_bytes, put_each, put_number, put_word};
 use scope_core::{ScopeTable, TableFault};
 use std::alloc::Global;
@@ -13,7 +13,7 @@ use std::sync::Wait;
 type Text = &'static str;
 
 /// The most rows of one node, as the calls are given it.
-const LIMIT: u32 = 4096;
+const LIMIT: u32 = MAX_ROWS as u32;
 
 /// Processes by their numbers.
 type Numbers = &'static [u64];

@@ -212,7 +212,10 @@ fn is_told(monitors: &Monitors, audit: &Audit, seat: u32, number: u32, told: &[T
 /// Seat 0 watches g of pg behind entry 1, seat 1 behind entry 2, and seat 0 all of pg behind
 /// entry 3.
 fn three(alloc: Global) -> Option<Monitors>
-    ensures { IfSome result (λ monitors. monitors ≡ (1, record { seat = 0; scope = codes "pg"; group = Some (codes "g"); place = 1 }) ∷ (2, record { seat = 1; scope = codes "pg"; group = Some (codes "g"); place = 2 }) ∷ (3, record { seat = 0; scope = codes "pg"; group = None; place = 3 }) ∷ []) }
+    ensures { IfSome result (λ monitors. monitors ≡
+        (1, record { seat = 0; scope = codes "pg"; group = Some (codes "g"); place = 1 })
+        ∷ (2, record { seat = 1; scope = codes "pg"; group = Some (codes "g"); place = 2 })
+        ∷ (3, record { seat = 0; scope = codes "pg"; group = None; place = 3 }) ∷ []) }
 {
     let mut monitors = Monitors::new(alloc);
     match add_three(alloc, &mut monitors) {
@@ -223,7 +226,10 @@ fn three(alloc: Global) -> Option<Monitors>
 
 fn add_three(alloc: Global, monitors: &mut Monitors) -> Result<(), OutOfMemory>
     requires { monitors.old ≡ [] }
-    ensures { OnOk result (monitors.new ≡ (1, record { seat = 0; scope = codes "pg"; group = Some (codes "g"); place = 1 }) ∷ (2, record { seat = 1; scope = codes "pg"; group = Some (codes "g"); place = 2 }) ∷ (3, record { seat = 0; scope = codes "pg"; group = None; place = 3 }) ∷ []) }
+    ensures { OnOk result (monitors.new ≡
+        (1, record { seat = 0; scope = codes "pg"; group = Some (codes "g"); place = 1 })
+        ∷ (2, record { seat = 1; scope = codes "pg"; group = Some (codes "g"); place = 2 })
+        ∷ (3, record { seat = 0; scope = codes "pg"; group = None; place = 3 }) ∷ []) }
 {
     monitors.add_group(0, 1, scope(alloc)?, group(alloc)?)?;
     monitors.add_group(1, 2, scope(alloc)?, group(alloc)?)?;
