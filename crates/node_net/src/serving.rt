@@ -91,19 +91,19 @@ pub(crate) fn serve_stream<R: Threads + Wait + Clock + Sync>(
     let Ok(ticket) = home.lanes.enter(home.rt, lane.challenge(), &stream) else {
         return (lane, Served::NotBegun);
     };
-    let (lane, served) = serve_entered(home, lane, &stream, Opening { opener, kind }, ticket);
+    let (lane, served) = serve_entered(home, lane, &stream, Origin { opener, kind }, ticket);
     home.lanes.leave(home.rt, ticket);
     (lane, served)
 }
 
 /// Who has opened a connection, and which nodes it leads to.
 #[derive(Clone, Copy)]
-struct Opening<'a> {
+struct Origin<'a> {
     opener: Opener<'a>,
     kind: PeerKind,
 }
 
-impl Opening<'_> {
+impl Origin<'_> {
     /// A peer has opened it where nodes of this program do.
     fn is_from_native(&self) -> bool {
         !self.kind.is_otp() && !self.opener.is_own()
@@ -124,7 +124,7 @@ fn serve_entered<R: Threads + Wait + Clock + Sync>(
     home: &Home<'_, R>,
     mut lane: Lane,
     stream: &TcpStream,
-    opening: Opening<'_>,
+    origin: Origin<'_>,
     ticket: Ticket,
 ) -> (Lane, Served)
     requires guarded { ticket.challenge ≡ lane.challenge }
@@ -141,14 +141,14 @@ fn serve_entered<R: Threads + Wait + Clock + Sync>(
     let Ok(start) = Instant::now(rt) else {
         return (lane, Served::NotBegun);
     };
-    let Ok(event) = opening.opener.event(alloc, ticket.challenge) else {
+    let Ok(event) = origin.opener.event(alloc, ticket.challenge) else {
         return (lane, Served::NotBegun);
     };
     let Some(link) = lane.open(rt, node, event) else {
         return (lane, Served::NotUp);
     };
     lanes.note_address(rt, link, stream);
-    lanes.note_kind(rt, link, opening.kind);
+    lanes.note_kind(rt, link, origin.kind);
     let at = HostedLink {
         rt,
         node,
@@ -161,11 +161,11 @@ fn serve_entered<R: Threads + Wait + Clock + Sync>(
         stream,
         outlet: &outlet,
         progress: &progress,
-        stage: Stage::Handshake(start, 0, opening.opener.guard(alloc)),
-        looks: lanes.limits().looks(opening.kind),
-        is_native: opening.is_from_native(),
+        stage: Stage::Handshake(start, 0, origin.opener.guard(alloc)),
+        looks: lanes.limits().looks(origin.kind),
+        is_native: origin.is_from_native(),
     };
-    let lane = serve_opened(home, lane, input, opening, start);
+    let lane = serve_opened(home, lane, input, origin, start);
     (lane, Served::of(outlet.was_up(rt)))
 }
 
@@ -174,7 +174,7 @@ fn serve_opened<R: Threads + Wait + Clock + Sync>(
     home: &Home<'_, R>,
     lane: Lane,
     input: LinkInput<'_, R>,
-    opening: Opening<'_>,
+    origin: Origin<'_>,
     start: Instant,
 ) -> Lane
     requires own { Contains (own_links lane.reader.calls) input.at.now.link }
@@ -185,8 +185,8 @@ fn serve_opened<R: Threads + Wait + Clock + Sync>(
         node,
         lanes,
     } = *home;
-    if opening.kind.is_otp() {
-        let kind = opening.link_kind(lanes.edges().in_parts());
+    if origin.kind.is_otp() {
+        let kind = origin.link_kind(lanes.edges().in_parts());
         return serve_otp(home, lane, input, kind, start);
     }
     let (at, progress) = (input.at, input.progress);

@@ -87,6 +87,7 @@ impl Pass {
         }
     }
 
+    /// The number of its caller.
     pub fn seat(&self) -> u32
         ensures { result ≡ self.now.seat }
     {

@@ -48,6 +48,7 @@ impl Model for Retreat {
 }
 
 impl Retreat {
+    /// No want of memory so far.
     pub fn new() -> Retreat
         ensures { result ≡ 0 }
     {

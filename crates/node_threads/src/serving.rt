@@ -31,6 +31,7 @@ pub struct Connection<I, W> {
 }
 
 impl<I, W> Connection<I, W> {
+    /// The connection of this link.
     pub fn new(link: u32, input: I, output: W) -> Connection<I, W>
         ensures { (result.link ≡ link) × (result.input ≡ input) × (result.output ≡ output) }
     {

@@ -204,13 +204,7 @@ fn put_read<R: Wait + Sync>(
         bail!("a node without passes");
     };
     let end = read_link(
-        rt,
-        alloc,
-        &crew.node,
-        worker,
-        scene.link,
-        &mut input,
-        &OpenGate,
+        rt, alloc, &crew.node, worker, scene.link, &mut input, &OpenGate,
     );
     put_number("read ", input.at as u64, out)?;
     put_worked(&end, worker, out)?;
