@@ -29,13 +29,25 @@ def message(kind, count=0):
 # A process and a scope of the node; and the link 3, which is up, over which each side is told of the other's rows.
 NODE = ["start pg", "spawn"]
 NAME = b"N" + struct.pack(">QIH3s", 1 << 24 | 1, 5, 3, b"p@h")
-PEER = ["opened 123", f"frame 3 {NAME.hex()}", f"frame 3 7200000001{DIGEST}", "frame 3 44027067", message(b"S"), "take 3"]
+PEER = [
+    "opened 123",
+    f"frame 3 {NAME.hex()}",
+    f"frame 3 7200000001{DIGEST}",
+    "frame 3 44027067",
+    message(b"S"),
+    "take 3",
+]
 JOIN, LEAVE = ([f"{word} pg g b@h/1/1"] for word in ("join", "leave"))
 
 # A group with another process.
 CROWD = ["spawn", "join pg g b@h/1/2"]
 
-OPENED, TAKE, SPAWN, MADE = "an Opened, a Lost", "an empty Take", "a Spawn", "a Join that makes its group, a Leave"
+OPENED, TAKE, SPAWN, MADE = (
+    "an Opened, a Lost",
+    "an empty Take",
+    "a Spawn",
+    "a Join that makes its group, a Leave",
+)
 # By kind: how many entries, the lines before them, those of a round by its number and that of its first entry, and the other kinds in it.
 KINDS = {
     TAKE: (MANY, PEER, lambda turn, first: ["take 3"], []),
@@ -45,14 +57,44 @@ KINDS = {
     "a StartScope, a StopScope": (MANY, [], lambda turn, first: ["start q", "stop q"], []),
     "a Join, a Leave of one process": (MANY, CROWD, lambda turn, first: JOIN + LEAVE, []),
     MADE: (MANY, [], lambda turn, first: JOIN + LEAVE, []),
-    "a Take of one frame": (MANY, PEER, lambda turn, first: JOIN + ["take 3"] + LEAVE + ["take 3"], [MADE, MADE]),
-    "an Updates of one": (MANY, ["monitor pg g"], lambda turn, first: JOIN + ["updates 3"] + LEAVE + ["updates 3"], [MADE, MADE]),
+    "a Take of one frame": (
+        MANY,
+        PEER,
+        lambda turn, first: JOIN + ["take 3"] + LEAVE + ["take 3"],
+        [MADE, MADE],
+    ),
+    "an Updates of one": (
+        MANY,
+        ["monitor pg g"],
+        lambda turn, first: JOIN + ["updates 3"] + LEAVE + ["updates 3"],
+        [MADE, MADE],
+    ),
     "a Members of one": (MANY, JOIN, lambda turn, first: ["members pg g"], []),
     "a Members of 4,096": (FEW, JOIN * 4096, lambda turn, first: ["members pg g"], []),
-    "a frame of one row": (MANY, PEER, lambda turn, first: [message(b"J", 1), message(b"L", 1)], []),
-    "a frame of 4,096 rows": (FEW, PEER, lambda turn, first: [message(b"J", 4096), message(b"L", 4096)], []),
-    "a refused frame of one byte": (MANY, [], lambda turn, first: ["opened 1", f"frame {first} 00"], [OPENED]),
-    "a refused frame of 65,535 bytes": (FEW, [], lambda turn, first: ["opened 1", f"frame {first} {'00' * 65535}"], [OPENED]),
+    "a frame of one row": (
+        MANY,
+        PEER,
+        lambda turn, first: [message(b"J", 1), message(b"L", 1)],
+        [],
+    ),
+    "a frame of 4,096 rows": (
+        FEW,
+        PEER,
+        lambda turn, first: [message(b"J", 4096), message(b"L", 4096)],
+        [],
+    ),
+    "a refused frame of one byte": (
+        MANY,
+        [],
+        lambda turn, first: ["opened 1", f"frame {first} 00"],
+        [OPENED],
+    ),
+    "a refused frame of 65,535 bytes": (
+        FEW,
+        [],
+        lambda turn, first: ["opened 1", f"frame {first} {'00' * 65535}"],
+        [OPENED],
+    ),
 }
 
 
@@ -108,7 +150,9 @@ def bytes_of(program, kind, known):
 
 def main():
     reader = CommandLine(__doc__)
-    reader.add_argument("program", nargs="?", default=os.path.join(HERE, "../crates/pg_console/out/pg_console"))
+    reader.add_argument(
+        "program", nargs="?", default=os.path.join(HERE, "../crates/pg_console/out/pg_console")
+    )
     program = reader.parse_args().program
     reader.need_program(program, "bin/build")
     print(f"{'bytes an entry':<36} {'kept':>9}")

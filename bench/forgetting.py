@@ -84,7 +84,11 @@ class Archive:
         self.fault = None
 
     def look(self, is_over=False):
-        full = [name for name in glob.glob(f"{self.path}.*") if name[len(self.path) + 1:].replace(".", "").isdigit()]
+        full = [
+            name
+            for name in glob.glob(f"{self.path}.*")
+            if name[len(self.path) + 1 :].replace(".", "").isdigit()
+        ]
         full.sort(key=lambda name: int(name.rsplit(".", 1)[1]))
         for name in full + [self.path] * is_over:
             self._read(name)
@@ -96,7 +100,7 @@ class Archive:
             for line in file:
                 self.bytes += len(line)
                 if line.startswith(b'{"entry":') and line.endswith(b"}\n"):
-                    number = int(line[9:line.index(b",")])
+                    number = int(line[9 : line.index(b",")])
                     if number != self.last + 1:
                         self.fault = self.fault or f"{number} behind {self.last} in {name}"
                     self.last = number
@@ -112,7 +116,9 @@ def status(lines):
 
 def words():
     reader = CommandLine(__doc__)
-    reader.add_argument("program", nargs="?", default=os.path.join(HERE, "../crates/pg_node/out/pg_node"))
+    reader.add_argument(
+        "program", nargs="?", default=os.path.join(HERE, "../crates/pg_node/out/pg_node")
+    )
     reader.add_argument("--rate", type=from_1, default=20_000)
     reader.add_argument("--seconds", type=from_1, default=600)
     reader.add_argument("--peers", type=int, default=1)
@@ -125,7 +131,9 @@ def words():
 def run_on(field, said):
     """Whether all is as it is to be."""
     archive = Archive(os.path.join(field.folder, "archive"))
-    node = field.start("a@h", "--audit", archive.path, "--audit-size", FILE_BYTES, "--creation", 1).ready()
+    node = field.start(
+        "a@h", "--audit", archive.path, "--audit-size", FILE_BYTES, "--creation", 1
+    ).ready()
     others = [begin_own(field, f"peer{number}", node) for number in range(said.peers)]
     for other in others:
         other.ready()
@@ -136,7 +144,10 @@ def run_on(field, said):
     before, began = int(watching.ask("size")[1]), time.monotonic()
     for driver in drivers:
         driver.begin()
-    print(f"{'seconds':>8} {'events':>12} {'a second':>9} {'kept':>8} {'archived':>12} {'lost':>6} {'KiB':>9} {'KiB of a peer':>14}", flush=True)
+    print(
+        f"{'seconds':>8} {'events':>12} {'a second':>9} {'kept':>8} {'archived':>12} {'lost':>6} {'KiB':>9} {'KiB of a peer':>14}",
+        flush=True,
+    )
     first, last = None, None
     while (seconds := time.monotonic() - began) < said.seconds:
         time.sleep(min(60, max(0.1, began + said.seconds - time.monotonic())))
@@ -152,17 +163,28 @@ def run_on(field, said):
     strange = [line for driver in drivers for line in driver.strange]
     print(f"memory at the end over that behind the first minute: {last / first:.3f}")
     print(f"answers other than ok: {strange[:3]}; warnings: {node.errors()[:3]}; lives: {lives}")
-    print(f"the archive: {archive.last} entries of {entries} and more, {archive.bytes / 1e6:.0f} MB in {archive.files} files,"
-          f" {archive.fault or 'each once and in order'}")
-    return last <= FLAT * first and lives == "1" and not strange and not archive.fault and archive.last >= entries
+    print(
+        f"the archive: {archive.last} entries of {entries} and more, {archive.bytes / 1e6:.0f} MB in {archive.files} files,"
+        f" {archive.fault or 'each once and in order'}"
+    )
+    return (
+        last <= FLAT * first
+        and lives == "1"
+        and not strange
+        and not archive.fault
+        and archive.last >= entries
+    )
 
 
 def show(node, others, watching, before, began):
     now, seconds = status(watching), time.monotonic() - began
     count = int(now["entries"].split("/")[0]) - before
     held, peer = memory(node), max(map(memory, others), default=0)
-    print(f"{seconds:>8.0f} {count:>12,} {count / seconds:>9,.0f} {now['kept'].split('/')[0]:>8} {now['archived']:>12} {now['lost']:>6}"
-          f" {held:>9,} {peer:>14,}", flush=True)
+    print(
+        f"{seconds:>8.0f} {count:>12,} {count / seconds:>9,.0f} {now['kept'].split('/')[0]:>8} {now['archived']:>12} {now['lost']:>6}"
+        f" {held:>9,} {peer:>14,}",
+        flush=True,
+    )
     return held
 
 
@@ -174,7 +196,9 @@ def main():
         is_well = run_on(field, said)
     if not said.no_news:
         table = Table(said.program, shutil.which("escript") is not None)
-        table.row("a join on one node to the news on another, each right behind the last", join_to_news, 0)
+        table.row(
+            "a join on one node to the news on another, each right behind the last", join_to_news, 0
+        )
     sys.exit(0 if is_well else 1)
 
 

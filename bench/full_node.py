@@ -32,15 +32,19 @@ def name_frame(peer):
 
 def messages(kind, rows):
     """The parts that say these rows."""
-    cut = [rows[place:place + PART] for place in range(0, len(rows), PART)]
+    cut = [rows[place : place + PART] for place in range(0, len(rows), PART)]
     for number, part in enumerate(cut, 1):
-        yield kind + b"\x02pg" + struct.pack(">IBI", number, number == len(cut), len(part)) + b"".join(part)
+        yield kind + b"\x02pg" + struct.pack(
+            ">IBI", number, number == len(cut), len(part)
+        ) + b"".join(part)
 
 
 def row(group, peer):
     """The row of the peer's process 1 in this group."""
     text = b"g%d" % group
-    return bytes([len(text)]) + text + struct.pack(">H", len(peer)) + peer + struct.pack(">IQ", 5, 1)
+    return (
+        bytes([len(text)]) + text + struct.pack(">H", len(peer)) + peer + struct.pack(">IQ", 5, 1)
+    )
 
 
 def pin():
@@ -53,7 +57,9 @@ class Console:
 
     def __init__(self, program):
         words = [program, "run", "b@h", "password", "--entries", "3000000", "--links", "2"]
-        self.process = subprocess.Popen(words, stdin=subprocess.PIPE, stdout=subprocess.PIPE, preexec_fn=pin)
+        self.process = subprocess.Popen(
+            words, stdin=subprocess.PIPE, stdout=subprocess.PIPE, preexec_fn=pin
+        )
         self.ask("start pg")
 
     def ask(self, line):
@@ -65,7 +71,9 @@ class Console:
         sending.start()
         answers = [self.process.stdout.readline().decode().strip() for _ in lines]
         sending.join()
-        wrong = [answer for answer in answers if answer.split()[0] in ("refused", "fault", "memory")]
+        wrong = [
+            answer for answer in answers if answer.split()[0] in ("refused", "fault", "memory")
+        ]
         assert not wrong, wrong[0]
         return answers
 
@@ -114,7 +122,11 @@ class Node:
     def change(self, part):
         """A Leave and a Join of the row that stands behind this part of the first peer's list."""
         one = row(self.groups[int(part * (len(self.groups) - 1))], b"p0@h")
-        return [f"frame {self.link} {body.hex()}" for kind in (b"L", b"J") for body in messages(kind, [one])] * TIMES
+        return [
+            f"frame {self.link} {body.hex()}"
+            for kind in (b"L", b"J")
+            for body in messages(kind, [one])
+        ] * TIMES
 
 
 # What is measured: its title, how many times it is done in a round, and its lines.
@@ -132,7 +144,9 @@ MEASURES = [
 
 def words():
     reader = CommandLine(__doc__)
-    reader.add_argument("program", nargs="?", default=os.path.join(HERE, "../crates/pg_console/out/pg_console"))
+    reader.add_argument(
+        "program", nargs="?", default=os.path.join(HERE, "../crates/pg_console/out/pg_console")
+    )
     reader.add_argument("--rows", type=from_1, default=PART)
     said = reader.parse_args()
     reader.need_program(said.program, "bin/build")
@@ -142,7 +156,9 @@ def words():
 def main():
     said = words()
     nodes = [Node(said.program, 1, 64), Node(said.program, 60, said.rows)]
-    print(f"{'microseconds':<38} {'1 peer, 64 rows':>16} {f'60 peers, {said.rows:,} rows each':>27} {'ratio':>6}")
+    print(
+        f"{'microseconds':<38} {'1 peer, 64 rows':>16} {f'60 peers, {said.rows:,} rows each':>27} {'ratio':>6}"
+    )
     for title, times, lines in MEASURES:
         # The nodes take turns, so that both have a processor of the same speed.
         rounds = [[node.console.time(lines(node)) / times for node in nodes] for _ in range(ROUNDS)]

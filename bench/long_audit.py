@@ -27,7 +27,9 @@ TICKS = os.sysconf("SC_CLK_TCK")
 
 def words():
     reader = CommandLine(__doc__)
-    reader.add_argument("program", nargs="?", default=os.path.join(HERE, "../crates/pg_console/out/pg_console"))
+    reader.add_argument(
+        "program", nargs="?", default=os.path.join(HERE, "../crates/pg_console/out/pg_console")
+    )
     reader.add_argument("--entries", type=int, default=10_000_000)
     reader.add_argument("--keep", type=int)
     reader.add_argument("--archive")
@@ -58,11 +60,21 @@ class Node:
     """A running console, and what it has spent so far."""
 
     def __init__(self, said):
-        command = [said.program, "run", "b@h", "password", "--entries", str(said.entries + 2), *options(said)]
+        command = [
+            said.program,
+            "run",
+            "b@h",
+            "password",
+            "--entries",
+            str(said.entries + 2),
+            *options(said),
+        ]
         self.process = subprocess.Popen(command, stdin=subprocess.PIPE, stdout=subprocess.PIPE)
         self.process.stdin.write(b"start pg\nspawn\n")
         self.process.stdin.flush()
-        assert self.process.stdout.readline() + self.process.stdout.readline() == b"ok\npid b@h/1/1\n"
+        assert (
+            self.process.stdout.readline() + self.process.stdout.readline() == b"ok\npid b@h/1/1\n"
+        )
         self.begin = self.seconds()
 
     def play(self, rounds):
@@ -112,8 +124,10 @@ def main():
         other.play(1)
     last, first = node.seconds() - before, other.seconds() - other.begin
     tell(said.entries, last, each, node)
-    print(f"the last tenth for the first of another node, by turns: {last / first:.3f} of the time;"
-          f" {node.memory() / first_memory:.3f} of the memory behind the first")
+    print(
+        f"the last tenth for the first of another node, by turns: {last / first:.3f} of the time;"
+        f" {node.memory() / first_memory:.3f} of the memory behind the first"
+    )
     spent = node.seconds() - node.begin
     node.end()
     other.end()
@@ -121,7 +135,9 @@ def main():
         os.remove(aside)
     if said.archive is not None:
         again = replay(said)
-        print(f"played again: {again / said.entries * 1e6:.2f} microseconds an entry, {spent / again:.2f} times as fast as the run")
+        print(
+            f"played again: {again / said.entries * 1e6:.2f} microseconds an entry, {spent / again:.2f} times as fast as the run"
+        )
 
 
 if __name__ == "__main__":

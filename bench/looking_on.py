@@ -23,7 +23,6 @@ sys.path.append(os.path.join(HERE, "../tests"))
 from command_line import CommandLine, from_1
 
 
-
 def options():
     parser = CommandLine(__doc__)
     parser.add_argument("program", nargs="?", default=os.path.join(HERE, "../bin/pg_node"))
@@ -37,8 +36,13 @@ def options():
 def start(stack, program, folder, name, *words):
     """A node, which ends with the stack, and what it prints first."""
     control = os.path.join(folder, name)
-    node = subprocess.Popen([program, name, "--cookie", "c", "--control", control, "--entries", "4000000", *words], stdin=subprocess.DEVNULL,
-                            stdout=subprocess.PIPE, stderr=subprocess.DEVNULL, text=True)
+    node = subprocess.Popen(
+        [program, name, "--cookie", "c", "--control", control, "--entries", "4000000", *words],
+        stdin=subprocess.DEVNULL,
+        stdout=subprocess.PIPE,
+        stderr=subprocess.DEVNULL,
+        text=True,
+    )
     stack.callback(end, node)
     port = None
     while line := node.stdout.readline():
@@ -71,9 +75,13 @@ def scrape(port, ended, faults):
 def play(program, changes, is_looked_at):
     """The seconds of processor time for each change."""
     with tempfile.TemporaryDirectory() as folder, contextlib.ExitStack() as stack:
-        _, peer_control, peer_port = start(stack, program, folder, "b@h", "--listen", "127.0.0.1:0", "--log", "none")
+        _, peer_control, peer_port = start(
+            stack, program, folder, "b@h", "--listen", "127.0.0.1:0", "--log", "none"
+        )
         looks = ("--log", "text", "--http", "127.0.0.1:0") if is_looked_at else ("--log", "none")
-        node, control, port = start(stack, program, folder, "a@h", "--dial", f"b@h=127.0.0.1:{peer_port}", *looks)
+        node, control, port = start(
+            stack, program, folder, "a@h", "--dial", f"b@h=127.0.0.1:{peer_port}", *looks
+        )
         ended, faults = threading.Event(), []
         if is_looked_at:
             threading.Thread(target=scrape, args=(port, ended, faults), daemon=True).start()
@@ -83,7 +91,11 @@ def play(program, changes, is_looked_at):
         member = f"{pid[:pid.rfind('/')]}/2"
         time.sleep(1)
         before = processor_time(node)
-        ask(control, ["spawn", f"join s g {member}"] + [f"join s g {member}", f"leave s g {member}"] * (changes // 2))
+        ask(
+            control,
+            ["spawn", f"join s g {member}"]
+            + [f"join s g {member}", f"leave s g {member}"] * (changes // 2),
+        )
         spent = processor_time(node) - before
         ended.set()
         if faults:
@@ -98,7 +110,7 @@ def ask(path, lines):
         answers = client.makefile("r")
         got = []
         for first in range(0, len(lines), 100):
-            piece = lines[first:first + 100]
+            piece = lines[first : first + 100]
             client.sendall("".join(line + "\n" for line in piece).encode())
             while len(piece) and len(got) < first + len(piece):
                 line = answers.readline()
@@ -119,7 +131,9 @@ def main():
         alone.append(play(wanted.program, wanted.changes, False))
         looked_at.append(play(wanted.program, wanted.changes, True))
     for name, times in (("alone", alone), ("looked at", looked_at)):
-        print(f"{name}: {statistics.median(times) * 1e6:.2f} us a change ({min(times) * 1e6:.2f} to {max(times) * 1e6:.2f})")
+        print(
+            f"{name}: {statistics.median(times) * 1e6:.2f} us a change ({min(times) * 1e6:.2f} to {max(times) * 1e6:.2f})"
+        )
     print(f"ratio: {statistics.median(looked_at) / statistics.median(alone):.3f}")
 
 

@@ -79,8 +79,10 @@ def pairs(field):
     own, other = field.worker(), field.alone("other")
     path = os.path.join(field.folder, "other.control")
     other.ask(f'otp_link:serve("{path}")')
-    return [Pair(field.alone("asks_own"), own, own.control_path, False),
-            Pair(field.alone("asks_other"), other, path, True)]
+    return [
+        Pair(field.alone("asks_own"), own, own.control_path, False),
+        Pair(field.alone("asks_other"), other, path, True),
+    ]
 
 
 def measured(field, rounds):
@@ -90,7 +92,7 @@ def measured(field, rounds):
     for number in range(rounds):
         for measure in MEASURES:
             playing = both[1:] if measure in (CALLED, TOLD_CALLED) else both
-            for pair in playing[::1 if number % 2 else -1]:
+            for pair in playing[:: 1 if number % 2 else -1]:
                 before = processor_time(pair.peer)
                 came[measure, pair.is_stock] += pair.times(*measure)
                 came[measure, pair.is_stock, "cpu"].append(processor_time(pair.peer) - before)
@@ -124,8 +126,10 @@ def spread(times):
 def tell(came):
     """The lines of what was measured by turns."""
     singles("a line and its answer", came[LINE, False], came[LINE, True])
-    for name, measure in (("a join at it to the news at a stock node", OUT),
-                          ("a join at a stock node to the news at it", IN)):
+    for name, measure in (
+        ("a join at it to the news at a stock node", OUT),
+        ("a join at a stock node to the news at it", IN),
+    ):
         singles(name, came[measure, False], came[measure, True])
         singles("the same, stock nodes by pg's calls", came[measure, False], came[CALLED, True])
     for way, rows, groups in SYNCS:
@@ -142,8 +146,10 @@ def bursts(name, came, own, other):
     """The lines of bursts."""
     sides = (own, False), (other, True)
     row(f"{name}, a second", *(2 * PAIRS / statistics.median(came[side]) * 1e9 for side in sides))
-    row(f"{name}: processor time of it, us each",
-        *(statistics.mean(came[(*side, "cpu")]) / (2 * PAIRS) * 1e6 for side in sides))
+    row(
+        f"{name}: processor time of it, us each",
+        *(statistics.mean(came[(*side, "cpu")]) / (2 * PAIRS) * 1e6 for side in sides),
+    )
 
 
 def resident(node, which="VmRSS"):

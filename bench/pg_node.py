@@ -65,11 +65,22 @@ class Otp:
     """A node of OTP, which serves a control socket as pg_node does."""
 
     def __init__(self, field, name, dial):
-        self.name, self.control_path = f"{name}@127.0.0.1", os.path.join(field.folder, f"{name}.otp")
+        self.name, self.control_path = f"{name}@127.0.0.1", os.path.join(
+            field.folder, f"{name}.otp"
+        )
         flags = f"-name {self.name} -setcookie bench -connect_all false -kernel inet_dist_use_interface {{127,0,0,1}}"
-        words = ["escript", os.path.join(HERE, "pg_node.escript"), self.control_path, *(other.name for other in dial)]
-        self.process = subprocess.Popen(words, env={**os.environ, "ERL_FLAGS": flags, "ERL_EPMD_ADDRESS": "127.0.0.1"},
-                                        stdin=subprocess.PIPE, stdout=subprocess.PIPE)
+        words = [
+            "escript",
+            os.path.join(HERE, "pg_node.escript"),
+            self.control_path,
+            *(other.name for other in dial),
+        ]
+        self.process = subprocess.Popen(
+            words,
+            env={**os.environ, "ERL_FLAGS": flags, "ERL_EPMD_ADDRESS": "127.0.0.1"},
+            stdin=subprocess.PIPE,
+            stdout=subprocess.PIPE,
+        )
         field.keep(self)
 
     def ready(self):
@@ -137,14 +148,19 @@ def await_rows(joining, watching, pid):
 def await_members(watching, count):
     """Until so many are in the group."""
     for lines in watching:
-        until(f"{count} members", lambda: len(lines.ask("members pg last")) - 1, count.__eq__, pause=0.01)
+        until(
+            f"{count} members",
+            lambda: len(lines.ask("members pg last")) - 1,
+            count.__eq__,
+            pause=0.01,
+        )
 
 
 def join_to_news(field, begin, pause):
     """Milliseconds from the line of a join on one node to the pushed line on another: median, and the least that 95 of 100 keep to."""
     hub, others = linked(field, begin, 1)
     joining, pid = a_member(hub)
-    watching, = watchers(others, "g")
+    (watching,) = watchers(others, "g")
     await_rows(joining, [watching], pid)
     times = []
     for _ in range(JOINS):
@@ -264,19 +280,28 @@ class Table:
             titles = [f"{title}: {part}" for part in ("median", "95 of 100")]
         for place, name in enumerate(titles):
             if other:
-                self._print(name, f"{own[place]:.2f}", f"{other[place]:.2f}", f"{own[place] / other[place]:.2f}")
+                self._print(
+                    name,
+                    f"{own[place]:.2f}",
+                    f"{other[place]:.2f}",
+                    f"{own[place] / other[place]:.2f}",
+                )
             else:
                 self._print(name, f"{own[place]:.2f}", "-", "-")
 
 
 def main():
     reader = CommandLine(__doc__)
-    reader.add_argument("program", nargs="?", default=os.path.join(HERE, "../crates/pg_node/out/pg_node"))
+    reader.add_argument(
+        "program", nargs="?", default=os.path.join(HERE, "../crates/pg_node/out/pg_node")
+    )
     program = reader.parse_args().program
     reader.need_program(program, "bin/build")
     print(f"load of the machine before: {' '.join(f'{load:.1f}' for load in os.getloadavg())}")
     table = Table(os.path.abspath(program), shutil.which("escript") is not None)
-    table.row("a join on one node to the news on another, singly, milliseconds", join_to_news, PAUSE)
+    table.row(
+        "a join on one node to the news on another, singly, milliseconds", join_to_news, PAUSE
+    )
     table.row("the same, each right behind the last", join_to_news, 0)
     table.row("joins and leaves told to 1 peer, a second", joins_told, 1)
     table.row("the same to 8 peers", joins_told, 8, beside=False)

@@ -69,18 +69,27 @@ class Console:
     def __init__(self, program, counting):
         words = [program, "run", "b@h", "password", "--links", "2", "--entries", "1000"]
         loaded = dict(os.environ, LD_PRELOAD=counting)
-        self.process = subprocess.Popen(words, stdin=subprocess.PIPE, stdout=subprocess.PIPE, stderr=subprocess.PIPE, env=loaded)
+        self.process = subprocess.Popen(
+            words, stdin=subprocess.PIPE, stdout=subprocess.PIPE, stderr=subprocess.PIPE, env=loaded
+        )
         name = b"N" + struct.pack(">QIH3s", 1 << 24 | 1, 5, 3, b"p@h") + b"\x02"
-        for line in ("start pg", "opened 123", f"frame 2 {name.hex()}", f"frame 2 7200000001{DIGEST}"):
+        for line in (
+            "start pg",
+            "opened 123",
+            f"frame 2 {name.hex()}",
+            f"frame 2 7200000001{DIGEST}",
+        ):
             self.ask(line)
         self.hear(self.parts([]))
 
     @staticmethod
     def parts(rows):
         """The bodies that say all rows of a Sync."""
-        cut = [rows[place:place + PART] for place in range(0, max(len(rows), 1), PART)]
-        return [b"S\x02pg" + struct.pack(">IBI", number, number == len(cut), len(part)) + b"".join(part)
-                for number, part in enumerate(cut, 1)]
+        cut = [rows[place : place + PART] for place in range(0, max(len(rows), 1), PART)]
+        return [
+            b"S\x02pg" + struct.pack(">IBI", number, number == len(cut), len(part)) + b"".join(part)
+            for number, part in enumerate(cut, 1)
+        ]
 
     def hear(self, bodies):
         for body in bodies:
@@ -112,7 +121,9 @@ class Console:
 
 def main():
     reader = CommandLine(__doc__)
-    reader.add_argument("program", nargs="?", default=os.path.join(HERE, "../crates/pg_console/out/pg_console"))
+    reader.add_argument(
+        "program", nargs="?", default=os.path.join(HERE, "../crates/pg_console/out/pg_console")
+    )
     program = reader.parse_args().program
     reader.need_program(program, "bin/build")
     with tempfile.TemporaryDirectory() as folder:
@@ -120,11 +131,15 @@ def main():
         with open(os.path.join(folder, "counting.c"), "w", encoding="ascii") as source:
             source.write(COUNTING)
         subprocess.run(["cc", "-shared", "-fPIC", "-O2", "-o", counting, source.name], check=True)
-        own, large = [row(number, 1) for number in range(ROWS)], [row(0, number) for number in range(ROWS)]
+        own, large = [row(number, 1) for number in range(ROWS)], [
+            row(0, number) for number in range(ROWS)
+        ]
         for title, rows in (("of a group of its own", own), ("of one large group", large)):
             table, change, begun = (taken / ROWS for taken in Console(program, counting).kept(rows))
-            print(f"a row {title}: {table:.0f} bytes in the table, {change:.0f} in the change, "
-                  f"{begun:.0f} of a message begun")
+            print(
+                f"a row {title}: {table:.0f} bytes in the table, {change:.0f} in the change, "
+                f"{begun:.0f} of a message begun"
+            )
 
 
 if __name__ == "__main__":

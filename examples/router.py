@@ -63,7 +63,7 @@ def follow(words):
         case ["ref", _, *groups]:  # each group, the number of its processes, and the processes
             while groups:
                 count(groups[0], int(groups[1]))
-                groups = groups[2 + int(groups[1]):]
+                groups = groups[2 + int(groups[1]) :]
             is_known.set()
         case ["!", "join", _, group, number, *_]:
             count(group, int(number))

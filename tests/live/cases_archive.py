@@ -24,7 +24,7 @@ def ask_many(talk, lines):
     """The answers to lines, which are sent many at a time."""
     answers = []
     for first in range(0, len(lines), AT_ONCE):
-        piece = lines[first:first + AT_ONCE]
+        piece = lines[first : first + AT_ONCE]
         talk.send("\n".join(piece))
         answers += [talk.next_answer("an answer") for _ in piece]
     return answers
@@ -39,8 +39,10 @@ def fill(talk, pid, count):
 def files_of(path):
     """The files of an archive, in the order of what they have: those that were full, by the creation and the number in their names,
     and then the one that is written to."""
-    full = [name for name in glob.glob(f"{path}.*") if name[len(path) + 1:].replace(".", "").isdigit()]
-    full.sort(key=lambda name: [int(word) for word in name[len(path) + 1:].split(".")])
+    full = [
+        name for name in glob.glob(f"{path}.*") if name[len(path) + 1 :].replace(".", "").isdigit()
+    ]
+    full.sort(key=lambda name: [int(word) for word in name[len(path) + 1 :].split(".")])
     return full + ([path] if os.path.exists(path) else [])
 
 
@@ -48,7 +50,9 @@ def read(name):
     """The bytes of a file, of which each line is whole."""
     with open(name, "rb") as file:
         data = file.read()
-    expect_that(data == b"" or data.endswith(b"}\n"), f"whole lines in {os.path.basename(name)}", data[-80:])
+    expect_that(
+        data == b"" or data.endswith(b"}\n"), f"whole lines in {os.path.basename(name)}", data[-80:]
+    )
     return data
 
 
@@ -76,7 +80,9 @@ def field_of(talk, name):
 
 def settled(talk, path):
     """Waits until the node keeps as few entries as it is to."""
-    return until("entries in the archive", lambda: int(field_of(talk, "archived")), lambda count: count > 0)
+    return until(
+        "entries in the archive", lambda: int(field_of(talk, "archived")), lambda count: count > 0
+    )
 
 
 @case
@@ -84,20 +90,29 @@ def archive_in_order(field):
     """The archive holds each entry once and in order, over several files, none larger than it may be and each named by its first
     entry; its files are their owner's alone."""
     path = os.path.join(field.folder, "archive")
-    a = field.node("a@h", "--entries", KEPT, "--audit", path, "--audit-size", "50000", "--creation", "7")
+    a = field.node(
+        "a@h", "--entries", KEPT, "--audit", path, "--audit-size", "50000", "--creation", "7"
+    )
     controls = [field.control(a) for _ in range(3)]
     start(a)
     for control in controls:
         fill(control, new_pid(control), 2000)
     entries = int(field_of(a, "entries"))
-    until("few entries kept", lambda: int(field_of(a, "kept").split("/")[0]), lambda kept: kept <= KEPT)
+    until(
+        "few entries kept",
+        lambda: int(field_of(a, "kept").split("/")[0]),
+        lambda kept: kept <= KEPT,
+    )
     asked(a, "audit 1", "forgotten")
-    until("a status that adds up", lambda: int(field_of(a, "archived")) + int(field_of(a, "kept").split("/")[0]),
-          lambda count: count >= entries)
+    until(
+        "a status that adds up",
+        lambda: int(field_of(a, "archived")) + int(field_of(a, "kept").split("/")[0]),
+        lambda count: count >= entries,
+    )
     expect("the lost entries", "0", field_of(a, "lost"))
     last = size(a)
     expect("the status after quit", 0, a.quit())
-    (creation, numbers), = lives_of(path)
+    ((creation, numbers),) = lives_of(path)
     expect("the creation of the life", 7, creation)
     expect_that(len(numbers) >= last, "all entries in the archive", (len(numbers), last))
     expect("the numbers in the archive", [*range(1, len(numbers) + 1)], numbers)
@@ -112,7 +127,9 @@ def check_files(path):
         held = os.stat(name)
         expect_that(held.st_size <= 50_000, "a file of 50,000 bytes at most", held.st_size)
         expect("the mode of a file", 0o600, stat.S_IMODE(held.st_mode))
-        first = next(line["entry"] for line in map(json.loads, read(name).splitlines()) if "entry" in line)
+        first = next(
+            line["entry"] for line in map(json.loads, read(name).splitlines()) if "entry" in line
+        )
         if name != path:
             expect("the name of a file", f"{path}.7.{first}", name)
 
@@ -129,14 +146,21 @@ def archive_after_a_kill(field):
     a.kill()
     with open(path, "rb") as file:
         data = file.read()
-    whole = data[:data.rindex(b"\n") + 1]
+    whole = data[: data.rindex(b"\n") + 1]
     torn = whole + b'{"entry":4000,"seat":0,"eve'
     with open(path, "wb") as file:
         file.write(torn)
     again = field.node("a@h", "--entries", KEPT, "--audit", path, "--creation", "2")
-    warnings = until("a warning of a line that was cut", lambda: [line for line in again.errors() if "archive_cut" in line])
+    warnings = until(
+        "a warning of a line that was cut",
+        lambda: [line for line in again.errors() if "archive_cut" in line],
+    )
     expect("warnings of a line that was cut", 1, len(warnings))
-    expect_that("bytes=27" in warnings[0] and path in warnings[0], "a warning with the path and how many bytes", warnings)
+    expect_that(
+        "bytes=27" in warnings[0] and path in warnings[0],
+        "a warning with the path and how many bytes",
+        warnings,
+    )
     start(again)
     fill(again, new_pid(again), 1000)
     expect("the status after quit", 0, again.quit())
@@ -159,7 +183,11 @@ def archive_killed_at_any_time(field):
         before = os.path.getsize(path)
         sender = threading.Thread(target=send_on, args=(a, f"join pg g {pid}\nleave pg g {pid}"))
         sender.start()
-        until("more in the archive", lambda: os.path.getsize(path), lambda held, least=before + 100_000: held > least)
+        until(
+            "more in the archive",
+            lambda: os.path.getsize(path),
+            lambda held, least=before + 100_000: held > least,
+        )
         a.kill()
         sender.join()
     a = field.node("a@h", "--audit", path, "--creation", "6")
@@ -189,7 +217,9 @@ def archive_of_something_else(field):
             file.write(text)
         node = field.start(name, "--audit", path)
         expect("the status", 1, node.status())
-        expect_one("its standard error", node.errors(), f"error: --audit: {shown(path)}: it is no archive")
+        expect_one(
+            "its standard error", node.errors(), f"error: --audit: {shown(path)}: it is no archive"
+        )
         with open(path, "rb") as file:
             expect("the file", text, file.read())
 
@@ -212,7 +242,11 @@ def archive_of_another_node(field):
     start(a)
     other = field.start("b@h", "--audit", path)
     expect("the status", 1, other.status())
-    expect_one("its standard error", other.errors(), f"error: --audit: {shown(path)}: another program writes to it")
+    expect_one(
+        "its standard error",
+        other.errors(),
+        f"error: --audit: {shown(path)}: another program writes to it",
+    )
     a.process.kill()
     a.process.wait()
     b = field.node("b@h", "--audit", path)
@@ -232,11 +266,20 @@ def archive_on_a_full_device(field):
     until("lost entries", lambda: int(field_of(control, "lost")), lambda lost: lost > 1000)
     expect("the entries in the archive", "0", field_of(control, "archived"))
     fill(control, pid, 1000)
-    expect_one("its standard error", a.errors(), 'warn archive reason="--audit: /dev/full: No space left on device')
+    expect_one(
+        "its standard error",
+        a.errors(),
+        'warn archive reason="--audit: /dev/full: No space left on device',
+    )
     count = size(control)
     expect("the status after quit", 1, a.quit())
     last = a.errors()[-1]
-    expect_that(last.startswith("error: --audit: /dev/full: ") and last.endswith(" entries are not in the file"), "a last line", last)
+    expect_that(
+        last.startswith("error: --audit: /dev/full: ")
+        and last.endswith(" entries are not in the file"),
+        "a last line",
+        last,
+    )
     expect_that(int(last.split()[3]) >= count, "all entries counted", last)
 
 
@@ -257,7 +300,7 @@ def archive_on_a_full_disk(field):
     expect("the lost entries", "0", field_of(a, "lost"))
     expect("warnings", 1, len(a.errors()))
     expect("the status after quit", 0, a.quit())
-    (_, numbers), = lives_of(path)
+    ((_, numbers),) = lives_of(path)
     expect("the numbers in the archive", [*range(1, len(numbers) + 1)], numbers)
 
 
@@ -265,7 +308,9 @@ def limited_node(field, path):
     """A node whose files may have 20,001 bytes, until that is lifted."""
     program = os.path.join(field.folder, "limited")
     with open(program, "w", encoding="ascii") as file:
-        file.write(f'#!/bin/bash\ntrap "" XFSZ\nexec prlimit --fsize=20001:unlimited {field.program} "$@"\n')
+        file.write(
+            f'#!/bin/bash\ntrap "" XFSZ\nexec prlimit --fsize=20001:unlimited {field.program} "$@"\n'
+        )
     os.chmod(program, 0o700)
     before, field.program = field.program, program
     try:
@@ -286,7 +331,11 @@ def archive_moved_by_a_tool(field):
     for place in range(3):
         before = int(field_of(control, "archived"))
         fill(control, pid, 3000)
-        until("more in the archive", lambda: int(field_of(control, "archived")), lambda count, least=before: count > least)
+        until(
+            "more in the archive",
+            lambda: int(field_of(control, "archived")),
+            lambda count, least=before: count > least,
+        )
         os.rename(path, f"{path}.{place}")
         asked((control, a)[place % 2], "reopen")
         until("a file at the path", lambda: os.path.exists(path))
@@ -294,7 +343,7 @@ def archive_moved_by_a_tool(field):
     expect("the status after quit", 0, a.quit())
     expect("no warnings", [], a.errors())
     expect("the files", [f"{path}.0", f"{path}.1", f"{path}.2", path], files_of(path))
-    (_, numbers), = lives_of(path)
+    ((_, numbers),) = lives_of(path)
     expect("the numbers in the archive", [*range(1, len(numbers) + 1)], numbers)
 
 
@@ -303,7 +352,9 @@ def archive_over_lives(field):
     """A node whose entries have few numbers begins anew with another life, and the archive has all of both, each behind the line of its
     life."""
     path = os.path.join(field.folder, "archive")
-    a = field.node("a@h", "--entries", "1000", "--last-entry", "2000", "--audit", path, "--creation", "41")
+    a = field.node(
+        "a@h", "--entries", "1000", "--last-entry", "2000", "--audit", path, "--creation", "41"
+    )
     control = field.control(a)
     while not control.untold("! restarted 43"):
         answer = control.ask("spawn")
@@ -313,14 +364,20 @@ def archive_over_lives(field):
     expect("the lives", [41, 42, 43], [creation for creation, _ in lives])
     for _, numbers in lives:
         expect("the numbers of a life", [*range(1, len(numbers) + 1)], numbers)
-    expect_that(all(len(numbers) > 1000 for _, numbers in lives[:2]), "two lives that were full", [len(numbers) for _, numbers in lives])
+    expect_that(
+        all(len(numbers) > 1000 for _, numbers in lives[:2]),
+        "two lives that were full",
+        [len(numbers) for _, numbers in lives],
+    )
 
 
 @case
 def archive_replays(field):
     """The archive of two linked nodes agrees with the written policy: a replay gives each entry's verdict, reply and change."""
     path = os.path.join(field.folder, "archive")
-    a = field.node("a@h", "--entries", "1000", "--audit", path, "--audit-size", "100000", "--creation", "7")
+    a = field.node(
+        "a@h", "--entries", "1000", "--audit", path, "--audit-size", "100000", "--creation", "7"
+    )
     b = field.node("b@h", dial=[a])
     start(b)
     pids = [member(a), member(b, "h")]
@@ -331,7 +388,19 @@ def archive_replays(field):
     fill(b, pids[1], 300)
     await_members(a, pids[1:], "h")
     expect("the status after quit", 0, a.quit())
-    done = subprocess.run([CONSOLE, "replay", *files_of(path), "--cookie", f"a@h={COOKIE}"], capture_output=True, timeout=LIMIT, check=False)
-    expect("the status of the replay", (0, []), (done.returncode, [line for line in done.stderr.decode().splitlines() if line[:5] == "error"]))
+    done = subprocess.run(
+        [CONSOLE, "replay", *files_of(path), "--cookie", f"a@h={COOKIE}"],
+        capture_output=True,
+        timeout=LIMIT,
+        check=False,
+    )
+    expect(
+        "the status of the replay",
+        (0, []),
+        (
+            done.returncode,
+            [line for line in done.stderr.decode().splitlines() if line[:5] == "error"],
+        ),
+    )
     count = sum("entry" in line for line in lines_of(path))
     expect("what the replay says", f"lives 1 entries {count}\n", done.stdout.decode())

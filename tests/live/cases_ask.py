@@ -18,8 +18,13 @@ class Asking:
     def __init__(self, field, *words, stdin=subprocess.DEVNULL):
         self.errors_path = os.path.join(field.folder, f"ask.errors.{time.monotonic_ns()}")
         with open(self.errors_path, "ab") as errors:
-            self.process = subprocess.Popen([field.ask_program, *map(str, words)], stdin=stdin,
-                                            stdout=subprocess.PIPE, stderr=errors, text=True)
+            self.process = subprocess.Popen(
+                [field.ask_program, *map(str, words)],
+                stdin=stdin,
+                stdout=subprocess.PIPE,
+                stderr=errors,
+                text=True,
+            )
         field.keep(self)
 
     def line(self):
@@ -58,10 +63,16 @@ def asked_from_a_shell(field):
     a = field.node("a@h")
     b = field.node("b@h", dial=[a])
     await_nodes(a, ["b@h"])
-    for words, line, status in ((["nodes"], "nodes b@h", 0), (["start", "pg"], "ok", 0), (["start pg"], "refused 22 ScopeRunning", 1),
-                                (["members", "pg", "g"], "pids", 0), (["spwan"], "fault no such command: spwan", 2),
-                                (["take"], "fault no such command: take", 2),
-                                (["exit", "a@h/1/1"], "fault not yours", 2), (["leave", "s", "g"], "refused 14 NoScope", 1)):
+    for words, line, status in (
+        (["nodes"], "nodes b@h", 0),
+        (["start", "pg"], "ok", 0),
+        (["start pg"], "refused 22 ScopeRunning", 1),
+        (["members", "pg", "g"], "pids", 0),
+        (["spwan"], "fault no such command: spwan", 2),
+        (["take"], "fault no such command: take", 2),
+        (["exit", "a@h/1/1"], "fault not yours", 2),
+        (["leave", "s", "g"], "refused 14 NoScope", 1),
+    ):
         errors = expect_asked(field, [a.control_path, *words], f"{line}\n", status)
         expect("lines on standard error", [], errors)
     expect_asked(field, [b.control_path, "quit"], "ok\n", 0)
@@ -72,13 +83,30 @@ def asked_from_a_shell(field):
 def asked_by_a_line_on_standard_input(field):
     """With - pg_ask says the line on its standard input, as a cookie that no other user is to see; it takes no second one."""
     a = field.node("a@h")
-    for text, status, said in ((b"cookie_for b@h secret\n", 0, ""), (b"nodes", 0, ""), (b"start  pg\n", 2, ""), (b"spwan\n", 2, ""),
-                               (b"nodes\nquit\n", 2, "standard input: more than one line"), (b"", 2, "it isn't one line"),
-                               (b"\xff\n", 2, "standard input: it isn't UTF-8"), (b"n" * 65537, 2, "more than 65536 bytes")):
-        done = subprocess.run([field.ask_program, a.control_path, "-"], input=text, capture_output=True, timeout=LIMIT, check=False)
+    for text, status, said in (
+        (b"cookie_for b@h secret\n", 0, ""),
+        (b"nodes", 0, ""),
+        (b"start  pg\n", 2, ""),
+        (b"spwan\n", 2, ""),
+        (b"nodes\nquit\n", 2, "standard input: more than one line"),
+        (b"", 2, "it isn't one line"),
+        (b"\xff\n", 2, "standard input: it isn't UTF-8"),
+        (b"n" * 65537, 2, "more than 65536 bytes"),
+    ):
+        done = subprocess.run(
+            [field.ask_program, a.control_path, "-"],
+            input=text,
+            capture_output=True,
+            timeout=LIMIT,
+            check=False,
+        )
         errors = [line for line in done.stderr.decode().splitlines() if line.startswith("error")]
         expect(f"the status of {text[:20]!r}", status, done.returncode)
-        expect_that(said in errors[0] if said else not errors, f"{said!r} for {text[:20]!r}", (errors, done.stdout))
+        expect_that(
+            said in errors[0] if said else not errors,
+            f"{said!r} for {text[:20]!r}",
+            (errors, done.stdout),
+        )
     expect_asked(field, [a.control_path, "nodes"], "nodes\n", 0)
 
 
@@ -86,16 +114,24 @@ def asked_by_a_line_on_standard_input(field):
 def asked_where_no_node_answers(field):
     """Where no node answers, or not in time, pg_ask ends with status 3 and a line that says so; at a fault of its words with 2."""
     a = field.node("a@h")
-    for words, status, reason in ((["--timeout", "500", a.control_path, "nodes"], 3, "error: no answer within 500 ms"),
-                                  ([os.path.join(field.folder, "none"), "nodes"], 3, "No such file"),
-                                  ([a.control_path, "# quiet"], 2, "COMMAND"), ([a.control_path, "nodes\nquit"], 2, "COMMAND"),
-                                  ([a.control_path, "hold", "pg"], 2, "hold"), ([a.control_path], 2, "COMMAND"),
-                                  ([a.control_path, "hold pg g"], 2, "hold, SCOPE and GROUP are words of their own"),
-                                  (["--timeout", "0", a.control_path, "nodes"], 2, "--timeout")):
+    for words, status, reason in (
+        (["--timeout", "500", a.control_path, "nodes"], 3, "error: no answer within 500 ms"),
+        ([os.path.join(field.folder, "none"), "nodes"], 3, "No such file"),
+        ([a.control_path, "# quiet"], 2, "COMMAND"),
+        ([a.control_path, "nodes\nquit"], 2, "COMMAND"),
+        ([a.control_path, "hold", "pg"], 2, "hold"),
+        ([a.control_path], 2, "COMMAND"),
+        ([a.control_path, "hold pg g"], 2, "hold, SCOPE and GROUP are words of their own"),
+        (["--timeout", "0", a.control_path, "nodes"], 2, "--timeout"),
+    ):
         a.signal(signal.SIGSTOP)
         began = time.monotonic()
         errors = expect_asked(field, words, "", status)
-        expect_that(len(errors) == 1 and reason in errors[0], f"one line with {reason!r} for {words}", errors)
+        expect_that(
+            len(errors) == 1 and reason in errors[0],
+            f"one line with {reason!r} for {words}",
+            errors,
+        )
         expect_that(seconds_since(began) < 20, "an end in time", seconds_since(began))
         a.signal(signal.SIGCONT)
     a.kill()
@@ -117,10 +153,12 @@ def asked_for_json(field):
     """With --json each line is an object: the first word is the answer, or the news, and the others are values."""
     a = field.node("a@h", "--creation", "7")
     pid = member(a, group='"g"')
-    for words, wanted in ((["groups", "pg"], {"answer": "groups", "values": ['"g"']}),
-                          (["members", "pg", '"g"'], {"answer": "pids", "values": [pid]}),
-                          (["nodes"], {"answer": "nodes", "values": []}),
-                          (["stop", "s"], {"answer": "refused", "values": ["14", "NoScope"]})):
+    for words, wanted in (
+        (["groups", "pg"], {"answer": "groups", "values": ['"g"']}),
+        (["members", "pg", '"g"'], {"answer": "pids", "values": [pid]}),
+        (["nodes"], {"answer": "nodes", "values": []}),
+        (["stop", "s"], {"answer": "refused", "values": ["14", "NoScope"]}),
+    ):
         came, _ = Asking(field, "--json", a.control_path, *words).end()
         expect(f"the answer to {words}", wanted, json.loads(came))
     following = Asking(field, "--json", "--follow", a.control_path, "monitor_scope", "pg")
@@ -128,7 +166,9 @@ def asked_for_json(field):
     number = answer["values"].pop(0)
     expect("the first answer", {"answer": "ref", "values": ['"g"', "1", pid]}, answer)
     asked(a, f'leave pg "g" {pid}')
-    expect("news", {"news": "leave", "values": [number, '"g"', "1", pid]}, json.loads(following.line()))
+    expect(
+        "news", {"news": "leave", "values": [number, '"g"', "1", pid]}, json.loads(following.line())
+    )
 
 
 @case
@@ -161,7 +201,9 @@ def held_from_a_shell(field):
     number = a.ask("monitor jobs printers").split()[1]
     holding.process.stdin.close()
     a.told(f"! leave {number} printers 1 {pid}")
-    expect("the status", 0, until("its end", holding.process.poll, lambda status: status is not None))
+    expect(
+        "the status", 0, until("its end", holding.process.poll, lambda status: status is not None)
+    )
 
 
 @case
@@ -193,14 +235,24 @@ def held_while_it_is_followed(field):
     a = field.node("a@h", "--creation", "41")
     for number, words in enumerate(((), ("--follow",), ("--follow", "--json"))):
         group = f"g{number}"
-        holding = Asking(field, *words, a.control_path, "hold", "jobs", group, stdin=subprocess.PIPE)
+        holding = Asking(
+            field, *words, a.control_path, "hold", "jobs", group, stdin=subprocess.PIPE
+        )
         first = re.search(r"a@h/41/\d+", holding.line())[0]
         await_members(a, [first], group, "jobs")
         before = size(a)
         asked(a, "stop jobs")
-        second = next(found[0] for line in iter(holding.line, "") if (found := re.search(r"a@h/41/\d+", line)) and found[0] != first)
+        second = next(
+            found[0]
+            for line in iter(holding.line, "")
+            if (found := re.search(r"a@h/41/\d+", line)) and found[0] != first
+        )
         await_members(a, [second], group, "jobs")
-        expect_that(any(" Exit " in entry for entry in audit(a, before)), "the exit of the process of before", audit(a, before))
+        expect_that(
+            any(" Exit " in entry for entry in audit(a, before)),
+            "the exit of the process of before",
+            audit(a, before),
+        )
         holding.close()
 
 
@@ -208,14 +260,22 @@ def held_while_it_is_followed(field):
 def held_through_stops_in_a_row(field):
     """`pg_ask hold` joins again however close one stop of its scope comes behind another."""
     a = field.node("a@h")
-    holding = [Asking(field, a.control_path, "hold", "jobs", "printers", stdin=subprocess.PIPE) for _ in range(3)]
+    holding = [
+        Asking(field, a.control_path, "hold", "jobs", "printers", stdin=subprocess.PIPE)
+        for _ in range(3)
+    ]
     for held in holding:
         held.line()
     for _ in range(60):
         a.ask("stop jobs")
-    until("all of them", lambda: members(a, "printers", "jobs") if a.ask("groups jobs").startswith("groups") else [],
-          lambda came: len(came) == len(holding))
-    expect("those that have ended", [], [held for held in holding if held.process.poll() is not None])
+    until(
+        "all of them",
+        lambda: members(a, "printers", "jobs") if a.ask("groups jobs").startswith("groups") else [],
+        lambda came: len(came) == len(holding),
+    )
+    expect(
+        "those that have ended", [], [held for held in holding if held.process.poll() is not None]
+    )
 
 
 @case
@@ -251,8 +311,13 @@ class Shell:
     """A shell's line that runs."""
 
     def __init__(self, words):
-        self.process = subprocess.Popen(words, stdin=subprocess.DEVNULL, stdout=subprocess.DEVNULL, stderr=subprocess.DEVNULL,
-                                        start_new_session=True)
+        self.process = subprocess.Popen(
+            words,
+            stdin=subprocess.DEVNULL,
+            stdout=subprocess.DEVNULL,
+            stderr=subprocess.DEVNULL,
+            start_new_session=True,
+        )
 
     def close(self):
         """Ends all of it."""

@@ -20,8 +20,11 @@ def challenges_of_their_own(field):
     peers = [field.keep(Peer(connect(a.port), f"once{number}@h")) for number in range(AT_ONCE)]
     challenges += [asked(peer) for peer in peers]
     wanted = IN_TURN + AT_ONCE + DIALLED
-    expect("how many challenges, and how many different ones", [wanted, wanted],
-           [len(challenges), len(set(challenges))])
+    expect(
+        "how many challenges, and how many different ones",
+        [wanted, wanted],
+        [len(challenges), len(set(challenges))],
+    )
 
 
 def dial_of(name, listener):

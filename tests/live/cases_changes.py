@@ -72,17 +72,28 @@ def faults_of_dials(field):
     a = field.node("a@h")
     before = size(a)
     for line, fault in (
-            ("dial", "a word is missing: dial NAME=HOST:PORT"), ("dial b@h", "no NAME=HOST:PORT: b@h"),
-            ("dial b@h=host", "no NAME=HOST:PORT: b@h=host"), ("dial b@h=:1", "no NAME=HOST:PORT: b@h=:1"),
-            ("dial b@h=host:70000", "no NAME=HOST:PORT: b@h=host:70000"), ("dial b@h=host:0", "no NAME=HOST:PORT: b@h=host:0"),
-            ("dial bh=host:1", "the name has no single `@` between other bytes: bh=host:1"),
-            ("dial a@h=host:1", "the node's own name: a@h=host:1"), ("dial b@h 17", "a word too many: 17"),
-            ("dial b@h=host:1 17 x", "a word too many: 17"), ("dial  b@h=host:1", "an empty word; words are parted by one space"),
-            ("dial b@h=::1", "no NAME=HOST:PORT: b@h=::1"), ("dial b@h=::1:17", "no NAME=HOST:PORT: b@h=::1:17"),
-            ("dial b@h=\x1b[2J", "no NAME=HOST:PORT"), ("undial", "a word is missing: undial NAME"), ("undial b@h", "not dialled: b@h"),
-            ("undial bh", "the name has no single `@` between other bytes: bh"), ("undial b@h x", "a word too many: x"),
-            ("undial b@h\x1b", "the text has a byte outside 0x21 to 0x7E"), ("reopen now", "a word too many: now"),
-            ("drain now", "a word too many: now")):
+        ("dial", "a word is missing: dial NAME=HOST:PORT"),
+        ("dial b@h", "no NAME=HOST:PORT: b@h"),
+        ("dial b@h=host", "no NAME=HOST:PORT: b@h=host"),
+        ("dial b@h=:1", "no NAME=HOST:PORT: b@h=:1"),
+        ("dial b@h=host:70000", "no NAME=HOST:PORT: b@h=host:70000"),
+        ("dial b@h=host:0", "no NAME=HOST:PORT: b@h=host:0"),
+        ("dial bh=host:1", "the name has no single `@` between other bytes: bh=host:1"),
+        ("dial a@h=host:1", "the node's own name: a@h=host:1"),
+        ("dial b@h 17", "a word too many: 17"),
+        ("dial b@h=host:1 17 x", "a word too many: 17"),
+        ("dial  b@h=host:1", "an empty word; words are parted by one space"),
+        ("dial b@h=::1", "no NAME=HOST:PORT: b@h=::1"),
+        ("dial b@h=::1:17", "no NAME=HOST:PORT: b@h=::1:17"),
+        ("dial b@h=\x1b[2J", "no NAME=HOST:PORT"),
+        ("undial", "a word is missing: undial NAME"),
+        ("undial b@h", "not dialled: b@h"),
+        ("undial bh", "the name has no single `@` between other bytes: bh"),
+        ("undial b@h x", "a word too many: x"),
+        ("undial b@h\x1b", "the text has a byte outside 0x21 to 0x7E"),
+        ("reopen now", "a word too many: now"),
+        ("drain now", "a word too many: now"),
+    ):
         asked(a, line, f"fault {fault}")
     for number in range(256):
         asked(a, f"dial n{number}@h=127.0.0.1:1")

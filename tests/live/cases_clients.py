@@ -20,11 +20,19 @@ class Client:
 
     def __init__(self, field, *words):
         program, *rest = words
-        self.process = subprocess.Popen([sys.executable, "-u", os.path.join(EXAMPLES, program), *map(str, rest)],
-                                        stdin=subprocess.PIPE, stdout=subprocess.PIPE, stderr=subprocess.PIPE,
-                                        text=True, bufsize=1)
+        self.process = subprocess.Popen(
+            [sys.executable, "-u", os.path.join(EXAMPLES, program), *map(str, rest)],
+            stdin=subprocess.PIPE,
+            stdout=subprocess.PIPE,
+            stderr=subprocess.PIPE,
+            text=True,
+            bufsize=1,
+        )
         self.lines = queue.Queue()
-        threading.Thread(target=lambda: [self.lines.put(line.rstrip("\n")) for line in self.process.stdout], daemon=True).start()
+        threading.Thread(
+            target=lambda: [self.lines.put(line.rstrip("\n")) for line in self.process.stdout],
+            daemon=True,
+        ).start()
         field.keep(self)
 
     def next_line(self, what):
@@ -70,11 +78,18 @@ def worker_and_router(field):
         router.expect(f"here {address}")
     answers = ask_twice(router)
     expect("the workers that answered", {f"{near} did one", f"{far} did one"}, set(answers))
-    for worker, address, left in ((workers[1], far, [f"{near} did one"] * 2), (workers[0], near, ["nobody"] * 2)):
+    for worker, address, left in (
+        (workers[1], far, [f"{near} did one"] * 2),
+        (workers[0], near, ["nobody"] * 2),
+    ):
         worker.close()
         killed = time.monotonic()
         router.expect(f"gone {address}")
-        expect_that(seconds_since(killed) < 1, "a router that knows within a second", f"{seconds_since(killed):.2f} s")
+        expect_that(
+            seconds_since(killed) < 1,
+            "a router that knows within a second",
+            f"{seconds_since(killed):.2f} s",
+        )
         expect("the answers", left, ask_twice(router))
 
 
@@ -116,15 +131,22 @@ def ends_of_examples(field):
     other = f"127.0.0.1:{field.free_port()}"
     for words in (("worker.py", a.control_path, other), ("router.py", a.control_path)):
         Client(field, *words).expect_end(1, "no room")
-    Client(field, "worker.py", a.control_path, address).expect_end(1, f"{address}: Address already in use")
+    Client(field, "worker.py", a.control_path, address).expect_end(
+        1, f"{address}: Address already in use"
+    )
     jobs = field.keep(socket.create_connection(("127.0.0.1", port), LIMIT))
     jobs.sendall(b"one\n")
     expect("an answer", f"{address} did one\n".encode(), jobs.recv(100))
     a.kill()
     for client in (worker, router):
         client.expect_end(1, "the node is gone")
-    for words in (("worker.py",), ("worker.py", a.control_path, "nowhere"), ("worker.py", a.control_path, "127.0.0.1:99999"), ("router.py",),
-                  ("router.py", "a", "b")):
+    for words in (
+        ("worker.py",),
+        ("worker.py", a.control_path, "nowhere"),
+        ("worker.py", a.control_path, "127.0.0.1:99999"),
+        ("router.py",),
+        ("router.py", "a", "b"),
+    ):
         Client(field, *words).expect_end(2, f"usage: {words[0]} CONTROL")
 
 
@@ -135,12 +157,16 @@ def examples_that_are_refused(field):
     reading = os.path.join(field.folder, "reading")
     a = field.node("a@h", "--control-read", reading, port=None)
     address = f"127.0.0.1:{field.free_port()}"
-    Client(field, "worker.py", reading, address).expect_end(1, "the node answers: fault this socket takes reads and monitors alone")
+    Client(field, "worker.py", reading, address).expect_end(
+        1, "the node answers: fault this socket takes reads and monitors alone"
+    )
     Client(field, "router.py", reading).expect_end(1, "the node answers: refused 14 NoScope")
     control = field.control(a)
     start(control, "jobs")
     asked(control, " ".join(["join jobs full", *[new_pid(control)] * 4096]))
-    Client(field, "worker.py", a.control_path, address).expect_end(1, "the node answers: refused 18 RowsFull")
+    Client(field, "worker.py", a.control_path, address).expect_end(
+        1, "the node answers: refused 18 RowsFull"
+    )
     router = Client(field, "router.py", reading)
     router.send("one")
     router.expect("nobody")
@@ -154,7 +180,11 @@ def examples_wait(field):
     clients = [Client(field, "worker.py", path, address), Client(field, "router.py", path)]
     for client in clients:
         line = client.process.stderr.readline()
-        expect_that(line.endswith(f".py: {path}: No such file or directory; waiting\n"), "that it waits", line)
+        expect_that(
+            line.endswith(f".py: {path}: No such file or directory; waiting\n"),
+            "that it waits",
+            line,
+        )
     a = field.node("a@h", port=None)
     clients[1].expect(f"here {address}")
     a.kill()

@@ -7,7 +7,18 @@ import stat
 import subprocess
 
 from field import case
-from node import asked, await_members, await_nodes, member, members, new_pid, nodes, plain_lines, size, start
+from node import (
+    asked,
+    await_members,
+    await_nodes,
+    member,
+    members,
+    new_pid,
+    nodes,
+    plain_lines,
+    size,
+    start,
+)
 from talk import Control
 from waiting import LIMIT, expect, expect_that, until
 
@@ -64,7 +75,10 @@ def hundred_controls(field):
     a = field.node("a@h")
     start(a)
     for _ in range(2):
-        controls = [until(f"connection {number} to be served", lambda: served(field, a)) for number in range(100)]
+        controls = [
+            until(f"connection {number} to be served", lambda: served(field, a))
+            for number in range(100)
+        ]
         pids = [member(control) for control in controls]
         await_members(a, pids)
         while (one_more := served(field, a)) is not None:
@@ -113,12 +127,35 @@ def lines_that_cannot_be_read(field):
     start(a)
     control = field.control(a)
     before = size(control)
-    lines = ["spwan", "join", "members pg", "start  pg", " spawn", "exit a@h/1", "monitor pg g h", "demonitor x", "audit", "spawn now",
-             "members \x7f g", "start " + "s" * 256, "opened 1", "dial b@h 1", "frame 1 00", "take 1", "lost 1", "seat 1", "updates 1",
-             "restart", "\x00\x01", "x" * 5000]
+    lines = [
+        "spwan",
+        "join",
+        "members pg",
+        "start  pg",
+        " spawn",
+        "exit a@h/1",
+        "monitor pg g h",
+        "demonitor x",
+        "audit",
+        "spawn now",
+        "members \x7f g",
+        "start " + "s" * 256,
+        "opened 1",
+        "dial b@h 1",
+        "frame 1 00",
+        "take 1",
+        "lost 1",
+        "seat 1",
+        "updates 1",
+        "restart",
+        "\x00\x01",
+        "x" * 5000,
+    ]
     for line in lines:
         answer = control.ask(line)
-        expect_that(answer.startswith("fault ") and len(answer) > 6, f"a fault for {line[:40]!r}", answer)
+        expect_that(
+            answer.startswith("fault ") and len(answer) > 6, f"a fault for {line[:40]!r}", answer
+        )
     expect("the size of the audit", before, size(control))
     new_pid(control)
 
@@ -177,8 +214,14 @@ def reads_without_entries(field):
     a = field.node("a@h")
     pid = member(a)
     before = size(a)
-    for line, answer in (("members pg g", f"pids {pid}"), ("local_members pg g", f"pids {pid}"), ("groups pg", "groups g"),
-                         ("local_groups pg", "groups g"), ("nodes", "nodes"), ("size", f"size {before}")):
+    for line, answer in (
+        ("members pg g", f"pids {pid}"),
+        ("local_members pg g", f"pids {pid}"),
+        ("groups pg", "groups g"),
+        ("local_groups pg", "groups g"),
+        ("nodes", "nodes"),
+        ("size", f"size {before}"),
+    ):
         asked(a, line, answer)
     expect_that(a.ask("help") != "", "help", "nothing")
     expect("the size of the audit", before, size(a))
@@ -189,7 +232,21 @@ def reads_without_entries(field):
 def reports_without_entries(field):
     """`self`, `status`, `links`, `dials`, `scopes`, `allowed`, `clients` and `refusals` tell what is so now, and make no entry; in a
     new life, too."""
-    a = field.node("a@h", "--creation", "41", "--entries", "180", "--last-entry", "200", "--allow", "c@h", "--allow", "b@h", "--clients", "7")
+    a = field.node(
+        "a@h",
+        "--creation",
+        "41",
+        "--entries",
+        "180",
+        "--last-entry",
+        "200",
+        "--allow",
+        "c@h",
+        "--allow",
+        "b@h",
+        "--clients",
+        "7",
+    )
     b = field.node("b@h", "--creation", "5", "--hidden", dial=[a])
     await_nodes(a, ["b@h"])
     for scope in ("pg", "jobs", "old"):
@@ -199,28 +256,49 @@ def reports_without_entries(field):
     asked(one, "size", a.ask("size"))
     asked(other, "clients", "clients 2 3")
     before = size(a)
-    for line, answer in (("self", "self a@h 41"), ("scopes", "scopes jobs pg"), ("allowed", "allowed b@h c@h"), ("clients", "clients 2 3"),
-                         ("refusals", "refusals")):
+    for line, answer in (
+        ("self", "self a@h 41"),
+        ("scopes", "scopes jobs pg"),
+        ("allowed", "allowed b@h c@h"),
+        ("clients", "clients 2 3"),
+        ("refusals", "refusals"),
+    ):
         asked(a, line, answer)
     links = a.ask("links")
-    expect_that(re.fullmatch(r"links \d+ b@h 5 hidden 127\.0\.0\.1:\d+ \d+ 0", links), "one link", links)
+    expect_that(
+        re.fullmatch(r"links \d+ b@h 5 hidden 127\.0\.0\.1:\d+ \d+ 0", links), "one link", links
+    )
     asked(a, "dials", "dials")
     status = a.ask("status")
     wanted = rf"status name=a@h creation=41 version=\S+ seconds=\d+ lives=1 links=1/64 otp_links=0 clients=2/7 entries={before} kept={before}/180 lost=0 archived=0 refused=0 told=\d+ bytes=\d+"
     expect_that(re.fullmatch(wanted, status), wanted, status)
     links = b.ask("links")
-    expect_that(re.fullmatch(rf"links \d+ a@h 41 hidden 127\.0\.0\.1:{a.port} \d+ 0", links), "one link", links)
+    expect_that(
+        re.fullmatch(rf"links \d+ a@h 41 hidden 127\.0\.0\.1:{a.port} \d+ 0", links),
+        "one link",
+        links,
+    )
     asked(b, "dials", f"dials a@h 127.0.0.1:{a.port} 1 - up")
     for line in ("status now", "links 1", "selfish", "clients "):
         expect_that(a.ask(line).startswith("fault "), f"a fault for {line!r}", "none")
     expect("the size of the audit", before, size(a))
     asked(a, "start pg", "refused 22 ScopeRunning")
-    expect_that(f" entries={before + 1} kept={before + 1}/180 lost=0 archived=0 refused=1 " in a.ask("status"), "a refusal that is counted", a.ask("status"))
+    expect_that(
+        f" entries={before + 1} kept={before + 1}/180 lost=0 archived=0 refused=1 "
+        in a.ask("status"),
+        "a refusal that is counted",
+        a.ask("status"),
+    )
     other.close()
     until("one client", lambda: a.ask("clients"), lambda came: came == "clients 2")
     while not a.untold("! restarted .*"):
         a.ask("spawn")
-    for line, answer in (("self", "self a@h 42"), ("scopes", "scopes jobs pg"), ("allowed", "allowed b@h c@h"), ("clients", "clients 2")):
+    for line, answer in (
+        ("self", "self a@h 42"),
+        ("scopes", "scopes jobs pg"),
+        ("allowed", "allowed b@h c@h"),
+        ("clients", "clients 2"),
+    ):
         asked(a, line, answer)
     expect_that(" lives=2 " in a.ask("status"), "a second life", a.ask("status"))
 
@@ -230,29 +308,61 @@ def dials_say_why(field):
     """`dials` says of each peer that isn't up why its last dial has failed, and when it is dialled again."""
     a = field.node("a@h", cookie="another")
     dials = {"a@h": f"127.0.0.1:{a.port}", "c@h": "127.0.0.1:1", "d@h": "nohost.invalid:1"}
-    b = field.node("b@h", *(word for name, place in dials.items() for word in ("--dial", f"{name}={place}")))
-    wanted = [f"{name} {place} \\d+ \\d+ {fault}" for (name, place), fault in zip(dials.items(), ("handshake", "refused", "no_host"))]
-    until("why no peer is up", lambda: b.ask("dials"), lambda came: re.fullmatch(" ".join(["dials", *wanted]), came))
+    b = field.node(
+        "b@h", *(word for name, place in dials.items() for word in ("--dial", f"{name}={place}"))
+    )
+    wanted = [
+        f"{name} {place} \\d+ \\d+ {fault}"
+        for (name, place), fault in zip(dials.items(), ("handshake", "refused", "no_host"))
+    ]
+    until(
+        "why no peer is up",
+        lambda: b.ask("dials"),
+        lambda came: re.fullmatch(" ".join(["dials", *wanted]), came),
+    )
 
 
 @case
 def refusals_say_why(field):
     """`refusals` says of a wrong cookie, of a name that isn't allowed at either end, and of a wrong name in --dial, which rule it was,
-    which peer, and its address; of strangers that say no name a dash; and no more than the last 16."""
+    which peer, and its address; of strangers that say no name a dash; and no more than the last 16.
+    """
     a = field.node("a@h", "--allow", "b@h", "--allow", "d@h")
     b = field.node("b@h", "--dial", f"a@h=127.0.0.1:{a.port}", cookie="another")
     field.node("c@h", dial=[a])
-    d = field.node("d@h", "--dial", f"x@h=127.0.0.1:{a.port}", "--dial", f"y@h=127.0.0.1:{a.port}", "--allow", "a@h", "--allow", "y@h")
-    for node, wanted in ((a, "Frame 12 BadDigest b@h"), (a, "Frame 9 NotAllowed c@h"), (d, "Dial 9 NotAllowed x@h"),
-                         (d, "Frame 8 WrongName y@h")):
-        until(f"{wanted} at {node.name}", lambda: node.ask("refusals"), lambda came: f" {wanted}" in came)
+    d = field.node(
+        "d@h",
+        "--dial",
+        f"x@h=127.0.0.1:{a.port}",
+        "--dial",
+        f"y@h=127.0.0.1:{a.port}",
+        "--allow",
+        "a@h",
+        "--allow",
+        "y@h",
+    )
+    for node, wanted in (
+        (a, "Frame 12 BadDigest b@h"),
+        (a, "Frame 9 NotAllowed c@h"),
+        (d, "Dial 9 NotAllowed x@h"),
+        (d, "Frame 8 WrongName y@h"),
+    ):
+        until(
+            f"{wanted} at {node.name}",
+            lambda: node.ask("refusals"),
+            lambda came: f" {wanted}" in came,
+        )
     asked(b, "refusals", "refusals")
     for _ in range(17):
         with socket.create_connection(("127.0.0.1", a.port)) as stranger:
             stranger.sendall(b"\x00\x01?")
             stranger.settimeout(LIMIT)
             stranger.recv(1)
-    until("16 refusals of strangers", lambda: a.ask("refusals").split()[1:], lambda came: came[4::6].count("-") >= 8 and len(came) == 96)
+    until(
+        "16 refusals of strangers",
+        lambda: a.ask("refusals").split()[1:],
+        lambda came: came[4::6].count("-") >= 8 and len(came) == 96,
+    )
 
 
 @case
@@ -287,7 +397,7 @@ def monitors_of_a_stopped_scope(field):
         asked(watching, f"demonitor {number}", "refused 23 NoMonitor")
     asked(watching, "nodes", "nodes")
     expect("the size of the audit", entries + 5, size(a))
-    expect("further news", [], watching.untold("! (join|ended) .*")[len(numbers):])
+    expect("further news", [], watching.untold("! (join|ended) .*")[len(numbers) :])
 
 
 @case
@@ -303,7 +413,9 @@ def news_in_order(field):
         asked(watching, "groups second", "refused 14 NoScope")
     for _ in range(400):
         expect("an answer", "ok", a.next_answer("an answer to a line of the burst"))
-    news = until("400 news", lambda: watching.untold("! (join|leave) .*"), lambda came: len(came) >= 400)
+    news = until(
+        "400 news", lambda: watching.untold("! (join|leave) .*"), lambda came: len(came) >= 400
+    )
     expect("the news", [f"! join {number} g 1 {pid}", f"! leave {number} g 1 {pid}"] * 200, news)
 
 
@@ -311,7 +423,11 @@ def news_in_order(field):
 def socket_of_the_owner(field):
     """The control socket is its owner's alone, a stale one is replaced, and one that answers isn't."""
     a = field.node("a@h")
-    expect("the mode of the control socket", "0o600", oct(stat.S_IMODE(os.stat(a.control_path).st_mode)))
+    expect(
+        "the mode of the control socket",
+        "0o600",
+        oct(stat.S_IMODE(os.stat(a.control_path).st_mode)),
+    )
     second = field.start("a@h")
     expect("the status of a second node at that path", 1, second.status())
     expect("the nodes that are up", "nodes", Control(a.control_path).ask("nodes"))
@@ -328,7 +444,11 @@ def quit_and_end(field):
     await_nodes(a, ["b@h"])
     b.process.stdin.close()
     why = 'info input_ended reason="standard input has ended, and there is no --control"'
-    expect("the status at the end of standard input, and why it ends", (0, [why]), (b.status(), b.log("info input_ended")))
+    expect(
+        "the status at the end of standard input, and why it ends",
+        (0, [why]),
+        (b.status(), b.log("info input_ended")),
+    )
     a.told("! down b@h [0-9]+ closed")
     a.process.stdin.close()
     control = field.control(a)
@@ -336,7 +456,9 @@ def quit_and_end(field):
     await_members(control, [pid])
     control.send("quit")
     control.await_end()
-    expect("the status after quit, and its lines on standard error", (0, []), (a.status(), a.errors()))
+    expect(
+        "the status after quit, and its lines on standard error", (0, []), (a.status(), a.errors())
+    )
 
 
 @case
@@ -370,7 +492,12 @@ def stdout_closed(field):
     words = ["--cookie-file", field.cookie_file(), "--listen", "127.0.0.1:0"]
     errors = os.path.join(field.folder, "errors")
     with open(errors, "wb") as file:
-        node = subprocess.Popen([field.program, "a@h", *words], stdin=subprocess.PIPE, stdout=subprocess.PIPE, stderr=file)
+        node = subprocess.Popen(
+            [field.program, "a@h", *words],
+            stdin=subprocess.PIPE,
+            stdout=subprocess.PIPE,
+            stderr=file,
+        )
     field.keep(node.stdin)
     try:
         expect_that(node.stdout.readline().startswith(b"listening "), "a first line", "another")
@@ -395,5 +522,7 @@ def port_in_use(field):
 
 def one_plain_line(lines):
     expect("lines on standard error", 1, len(lines))
-    debugged = [word for word in ("Err(", "Error {", "Os {", "panicked", "Some(") if word in lines[0]]
+    debugged = [
+        word for word in ("Err(", "Error {", "Os {", "panicked", "Some(") if word in lines[0]
+    ]
     expect_that(not debugged, "a plain line on standard error", lines[0])

@@ -49,8 +49,11 @@ def expect_soon(field, node):
     has asked anything."""
     calm = end_of(field.node("calm@h", port=None))
     seconds = end_of(node)
-    expect_that(seconds < 1 + 3 * calm, f"an end within a second (another node: {calm:.2f} s)",
-                f"{seconds:.2f} s")
+    expect_that(
+        seconds < 1 + 3 * calm,
+        f"an end within a second (another node: {calm:.2f} s)",
+        f"{seconds:.2f} s",
+    )
 
 
 def end_of(node):
@@ -118,8 +121,9 @@ def many_monitors_hold_nobody_up(field):
     asked(busy, "stop old")
     pid = new_pid(quick)
     told = []
-    reading = threading.Thread(daemon=True,
-                               target=lambda: told.extend(itertools.islice(lines, CHANGES + 1)))
+    reading = threading.Thread(
+        daemon=True, target=lambda: told.extend(itertools.islice(lines, CHANGES + 1))
+    )
     reading.start()
     slowest, began = 0, time.monotonic()
     while reading.is_alive() and seconds_since(began) < LIMIT:
@@ -127,10 +131,16 @@ def many_monitors_hold_nobody_up(field):
         asked(quick, f"join pg quick {pid}")
         slowest = max(slowest, time.perf_counter() - called)
         time.sleep(0.003)
-    expect("the monitors that ended", [f"! ended {numbers[0]}"],
-           [line.decode().strip() for line in told if line.startswith(b"! ended")])
-    expect("how often it was told of the group", CHANGES,
-           sum(line.split()[2:4] == [numbers[1].encode(), b"g"] for line in told))
+    expect(
+        "the monitors that ended",
+        [f"! ended {numbers[0]}"],
+        [line.decode().strip() for line in told if line.startswith(b"! ended")],
+    )
+    expect(
+        "how often it was told of the group",
+        CHANGES,
+        sum(line.split()[2:4] == [numbers[1].encode(), b"g"] for line in told),
+    )
     expect_that(slowest < 0.5, "each of the others' calls within half a second", f"{slowest:.2f} s")
 
 
@@ -256,8 +266,12 @@ def only_one(field, *barrier):
         time.sleep(0.3)
     for thing in barrier:
         thing.close()
-    running = until("one program that runs", lambda: [node for node in starting if runs(node)],
-                    lambda running: len(running) == 1, 20)
+    running = until(
+        "one program that runs",
+        lambda: [node for node in starting if runs(node)],
+        lambda running: len(running) == 1,
+        20,
+    )
     others = [node.status() for node in starting if node not in running]
     expect("the statuses of the others", [1] * (STARTERS - 1), others)
     expect("the nodes at the path", "nodes", field.control(running[0].ready()).ask("nodes"))
@@ -336,8 +350,11 @@ def calls_beside_a_flood(field):
     calm = slow_call(quiet, pid)
     Flood(field, a)
     flooded = slow_call(quiet, pid)
-    expect_that(flooded < 0.005 + 10 * calm, f"95 of 100 calls in 5 ms ({calm * 1000:.2f} before)",
-                f"{flooded * 1000:.2f} ms")
+    expect_that(
+        flooded < 0.005 + 10 * calm,
+        f"95 of 100 calls in 5 ms ({calm * 1000:.2f} before)",
+        f"{flooded * 1000:.2f} ms",
+    )
     far = new_pid(b)
     for _ in range(20):
         asked(b, f"join pg far {far}")

@@ -87,7 +87,9 @@ def started_again(field):
     new = member(again)
     await_members(b, [new])
     creations = old.split("/")[1], new.split("/")[1]
-    expect_that(creations[0] != creations[1] and "0" not in creations, "two creations, neither 0", creations)
+    expect_that(
+        creations[0] != creations[1] and "0" not in creations, "two creations, neither 0", creations
+    )
     expect("the creation that the other node was told", creations[1], up[1])
 
 

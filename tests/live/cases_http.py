@@ -16,7 +16,14 @@ from node import asked, await_members, await_nodes, member, new_pid, size, start
 from peer import connect, Peer
 from waiting import LIMIT, expect, expect_that, until
 
-ODD_GROUPS = ("<script>alert(1)</script>", "a&amp;b", "\"quoted\"", "'single'", "back\\slash", "</td></table>")
+ODD_GROUPS = (
+    "<script>alert(1)</script>",
+    "a&amp;b",
+    '"quoted"',
+    "'single'",
+    "back\\slash",
+    "</td></table>",
+)
 NAME = re.compile(r"[a-zA-Z_:][a-zA-Z0-9_:]*")
 LABEL = re.compile(r'([a-zA-Z_][a-zA-Z0-9_]*)="((?:[^"\\\n]|\\["\\n])*)"')
 CHROMIUM = shutil.which("chromium") or shutil.which("chromium-browser")
@@ -28,7 +35,11 @@ def get(port, path, method="GET"):
     try:
         connection.request(method, path)
         answer = connection.getresponse()
-        return answer.status, {name.lower(): value for name, value in answer.getheaders()}, answer.read().decode("utf-8")
+        return (
+            answer.status,
+            {name.lower(): value for name, value in answer.getheaders()},
+            answer.read().decode("utf-8"),
+        )
     finally:
         connection.close()
 
@@ -54,7 +65,11 @@ def metrics(port):
             family = name
         elif line.startswith("# TYPE "):
             _, _, name, kind = line.split(" ")
-            expect_that(name == family and name not in kinds and kind in ("gauge", "counter"), "one type behind its help", line)
+            expect_that(
+                name == family and name not in kinds and kind in ("gauge", "counter"),
+                "one type behind its help",
+                line,
+            )
             kinds[name] = kind
         else:
             name, labels, value = sample(line)
@@ -73,8 +88,10 @@ def sample(line):
     while rest:
         label = LABEL.match(rest)
         expect_that(label, "a label", line)
-        labels.append((label[1], re.sub(r"\\(.)", lambda two: "\n" if two[1] == "n" else two[1], label[2])))
-        rest = rest[label.end():]
+        labels.append(
+            (label[1], re.sub(r"\\(.)", lambda two: "\n" if two[1] == "n" else two[1], label[2]))
+        )
+        rest = rest[label.end() :]
         expect_that(rest == "" or rest.startswith(","), "a comma between labels", line)
         rest = rest[1:]
     return found[1], tuple(labels), int(found[3])
@@ -105,7 +122,9 @@ def http_node(field, name, *options, **rest):
 def metrics_of_a_node(field):
     """`/metrics` tells links, clients, entries, rows by scope, what waits by link, what was refused by which rule, lines told, new
     lives and memory, in Prometheus's format."""
-    a = http_node(field, "a@h", "--creation", "7", "--entries", "180", "--last-entry", "200", "--clients", "9")
+    a = http_node(
+        field, "a@h", "--creation", "7", "--entries", "180", "--last-entry", "200", "--clients", "9"
+    )
     b = field.node("b@h", dial=[a])
     await_nodes(a, ["b@h"])
     client = field.control(a)
@@ -119,31 +138,64 @@ def metrics_of_a_node(field):
     asked(client, f"leave pg g {pid}")
     client.told(r"! leave .*")
     waiting = "pg_link_waiting_frames", (("peer", "b@h"),)
-    seen = until("what was told, and taken by the peer", lambda: metrics(a.http_port),
-                 lambda came: came["pg_told_lines_total", ()] >= 1 and came.get(waiting) == 0)
-    version = subprocess.run([field.program, "--version"], capture_output=True, text=True, check=True).stdout.split()[1]
-    wanted = {("pg_node_info", (("name", "a@h"), ("version", version))): 1, ("pg_node_creation", ()): 7, ("pg_links", ()): 1,
-              ("pg_links_max", ()): 64, ("pg_clients", ()): 1, ("pg_clients_max", ()): 9, ("pg_entries", ()): size(a),
-              ("pg_entries_kept", ()): size(a),
-              ("pg_entries_kept_max", ()): 180, ("pg_entries_lost_total", ()): 0, ("pg_entries_archived_total", ()): 0,
-              ("pg_node_new_lives_total", ()): 0, ("pg_node_draining", ()): 0,
-              ("pg_rows", (("scope", "pg"),)): 3, waiting: 0,
-              ("pg_refused_total", (("rule", "ScopeRunning"),)): 1}
+    seen = until(
+        "what was told, and taken by the peer",
+        lambda: metrics(a.http_port),
+        lambda came: came["pg_told_lines_total", ()] >= 1 and came.get(waiting) == 0,
+    )
+    version = subprocess.run(
+        [field.program, "--version"], capture_output=True, text=True, check=True
+    ).stdout.split()[1]
+    wanted = {
+        ("pg_node_info", (("name", "a@h"), ("version", version))): 1,
+        ("pg_node_creation", ()): 7,
+        ("pg_links", ()): 1,
+        ("pg_links_max", ()): 64,
+        ("pg_clients", ()): 1,
+        ("pg_clients_max", ()): 9,
+        ("pg_entries", ()): size(a),
+        ("pg_entries_kept", ()): size(a),
+        ("pg_entries_kept_max", ()): 180,
+        ("pg_entries_lost_total", ()): 0,
+        ("pg_entries_archived_total", ()): 0,
+        ("pg_node_new_lives_total", ()): 0,
+        ("pg_node_draining", ()): 0,
+        ("pg_rows", (("scope", "pg"),)): 3,
+        waiting: 0,
+        ("pg_refused_total", (("rule", "ScopeRunning"),)): 1,
+    }
     for key, value in wanted.items():
         expect(f"the metric {key}", value, seen.get(key))
-    expect_that(10 ** 6 < seen["pg_node_resident_bytes", ()] < 10 ** 9, "bytes of memory", seen["pg_node_resident_bytes", ()])
+    expect_that(
+        10**6 < seen["pg_node_resident_bytes", ()] < 10**9,
+        "bytes of memory",
+        seen["pg_node_resident_bytes", ()],
+    )
     status = a.ask("status")
-    expect_that(re.search(r" refused=1 told=\d+ bytes=\d+$", status), "what status says of them", status)
+    expect_that(
+        re.search(r" refused=1 told=\d+ bytes=\d+$", status), "what status says of them", status
+    )
     expect("links that ended", 0, seen["pg_link_downs_total", (("reason", "disconnected"),)])
     asked(client, "disconnect b@h")
-    until("a link that was ended", lambda: metrics(a.http_port),
-          lambda came: came["pg_link_downs_total", (("reason", "disconnected"),)] == 1)
+    until(
+        "a link that was ended",
+        lambda: metrics(a.http_port),
+        lambda came: came["pg_link_downs_total", (("reason", "disconnected"),)] == 1,
+    )
     while not a.untold("! restarted .*"):
         a.ask("spawn")
-    seen = until("a new life", lambda: metrics(a.http_port), lambda came: came["pg_node_new_lives_total", ()] == 1)
+    seen = until(
+        "a new life",
+        lambda: metrics(a.http_port),
+        lambda came: came["pg_node_new_lives_total", ()] == 1,
+    )
     expect("rows of a new life", 0, seen["pg_rows", (("scope", "pg"),)])
     dialler = http_node(field, "d@h", "--dial", "x@h=127.0.0.1:1")
-    until("a second dial", lambda: metrics(dialler.http_port)["pg_dials_total", (("peer", "x@h"),)], lambda came: came >= 2)
+    until(
+        "a second dial",
+        lambda: metrics(dialler.http_port)["pg_dials_total", (("peer", "x@h"),)],
+        lambda came: came >= 2,
+    )
     expect("whether it is up", 0, metrics(dialler.http_port)["pg_dial_up", (("peer", "x@h"),)])
 
 
@@ -157,13 +209,23 @@ def texts_of_others_are_text(field):
     start(a, scope)
     body = page(a.http_port, "/")
     seen = Seen(body)
-    expect_that(not seen.tags & {"script", "b", "img", "iframe", "link"}, "no tag of another's", seen.tags)
-    expect_that("http-equiv=\"refresh\"" in body and "src=" not in body and "href=" not in body, "a page of one file", body[:400])
+    expect_that(
+        not seen.tags & {"script", "b", "img", "iframe", "link"}, "no tag of another's", seen.tags
+    )
+    expect_that(
+        'http-equiv="refresh"' in body and "src=" not in body and "href=" not in body,
+        "a page of one file",
+        body[:400],
+    )
     for odd in (*ODD_GROUPS, scope):
         expect_that(odd in seen.texts, f"{odd} as a text", seen.texts)
     expect("rows of the odd scope", 0, metrics(a.http_port)["pg_rows", (("scope", scope),)])
     value = json.loads(page(a.http_port, "/status.json"))
-    expect("scopes", {"pg": len(ODD_GROUPS), scope: 0}, {one["scope"]: one["rows"] for one in value["scopes"]})
+    expect(
+        "scopes",
+        {"pg": len(ODD_GROUPS), scope: 0},
+        {one["scope"]: one["rows"] for one in value["scopes"]},
+    )
 
 
 @case
@@ -180,11 +242,30 @@ def page_for_people(field):
     for number in range(60):
         asked(a, f"dial n{number}@h=127.0.0.1:1")
     texts = Seen(page(a.http_port, "/")).texts
-    for text in ("a@h", "b@h", "5", "visible", "x@h", "127.0.0.1:1", "refused", "pg", "all 251", "252", "g", "2", "and 51 more"):
+    for text in (
+        "a@h",
+        "b@h",
+        "5",
+        "visible",
+        "x@h",
+        "127.0.0.1:1",
+        "refused",
+        "pg",
+        "all 251",
+        "252",
+        "g",
+        "2",
+        "and 51 more",
+    ):
         expect_that(text in texts, f"{text} in the page", texts[:60])
     log = [text for text in texts if "info dial target=" in text]
     expect_that(len(log) >= 1 and "n59@h" in log[-1], "the last line of the log", log[-1:])
-    lines = [line for text in texts for line in text.split("\n") if " target=" in line or " peer=" in line]
+    lines = [
+        line
+        for text in texts
+        for line in text.split("\n")
+        if " target=" in line or " peer=" in line
+    ]
     expect_that(40 <= len(lines) <= 50, "the last 50 lines", len(lines))
     b.quit()
 
@@ -203,27 +284,65 @@ def only_reads_by_http(field):
     status, headers, body = get(a.http_port, "/", "HEAD")
     expect("a HEAD", (200, ""), (status, body))
     expect_that(int(headers["content-length"]) > 500, "the length of the page", headers)
-    expect_that("default-src 'none'" in headers["content-security-policy"], "nothing else is loaded or run", headers)
-    for words, answer in ((b"GET /" + b"x" * 70_000 + b" HTTP/1.1\r\n\r\n", b"414 "),
-                          (b"GET / HTTP/1.1\r\nHost: h\r\nA: " + b"x" * 70_000 + b"\r\n\r\n", b"431 "),
-                          (b"GET / HTTP/1.1\r\nHost: h\r\nContent-Length: 9999\r\n\r\n", b"413 "),
-                          (b"\x00\x01?\r\n\r\n", b"400 "), (b"GET / HTTP/1.1\r\nHost: <b>\r\n\r\n", b"400 ")):
-        expect_that(said_by_http(a.http_port, words).startswith(b"HTTP/1.1 " + answer), f"{answer} to {words[:20]}", "another")
+    expect_that(
+        "default-src 'none'" in headers["content-security-policy"],
+        "nothing else is loaded or run",
+        headers,
+    )
+    for words, answer in (
+        (b"GET /" + b"x" * 70_000 + b" HTTP/1.1\r\n\r\n", b"414 "),
+        (b"GET / HTTP/1.1\r\nHost: h\r\nA: " + b"x" * 70_000 + b"\r\n\r\n", b"431 "),
+        (b"GET / HTTP/1.1\r\nHost: h\r\nContent-Length: 9999\r\n\r\n", b"413 "),
+        (b"\x00\x01?\r\n\r\n", b"400 "),
+        (b"GET / HTTP/1.1\r\nHost: <b>\r\n\r\n", b"400 "),
+    ):
+        expect_that(
+            said_by_http(a.http_port, words).startswith(b"HTTP/1.1 " + answer),
+            f"{answer} to {words[:20]}",
+            "another",
+        )
     expect("health", (200, "ok\n"), get(a.http_port, "/healthz")[::2])
 
 
 @case
 def hosts_of_this_machine(field):
     """At a loopback address a request is told 421 whose `Host` is neither an address nor `localhost`, so that no page of another place
-    reads the node by a name that was made to mean this machine; at other addresses it is answered."""
+    reads the node by a name that was made to mean this machine; at other addresses it is answered.
+    """
     a = http_node(field, "a@h")
-    for host in (b"localhost", b"LocalHost:80", b"127.0.0.1", b"127.0.0.1:9464", b"[::1]", b"[::1]:80", b"10.1.2.3:80"):
-        expect(f"the status for {host}", 200, status_for(a.http_port, b" HTTP/1.1\r\nHost: " + host))
-    for host in (b"h", b"rebound.example:80", b"localhost.example", b"127.0.0.1.example:80", b"h:127", b"localhost:x", b""):
-        expect_that(status_for(a.http_port, b" HTTP/1.1\r\nHost: " + host) in (400, 421), f"no answer for {host}", 200)
+    for host in (
+        b"localhost",
+        b"LocalHost:80",
+        b"127.0.0.1",
+        b"127.0.0.1:9464",
+        b"[::1]",
+        b"[::1]:80",
+        b"10.1.2.3:80",
+    ):
+        expect(
+            f"the status for {host}", 200, status_for(a.http_port, b" HTTP/1.1\r\nHost: " + host)
+        )
+    for host in (
+        b"h",
+        b"rebound.example:80",
+        b"localhost.example",
+        b"127.0.0.1.example:80",
+        b"h:127",
+        b"localhost:x",
+        b"",
+    ):
+        expect_that(
+            status_for(a.http_port, b" HTTP/1.1\r\nHost: " + host) in (400, 421),
+            f"no answer for {host}",
+            200,
+        )
     came = said_by_http(a.http_port, b"GET /metrics HTTP/1.1\r\nHost: rebound.example\r\n\r\n")
     expect_that(came.startswith(b"HTTP/1.1 421 "), "a status of its own", came[:40])
-    expect("what it is told", b"the Host is neither an address nor localhost\n", came.split(b"\r\n\r\n")[-1])
+    expect(
+        "what it is told",
+        b"the Host is neither an address nor localhost\n",
+        came.split(b"\r\n\r\n")[-1],
+    )
     expect("the status without a host", 200, status_for(a.http_port, b" HTTP/1.0"))
     b = field.start("b@h", "--http", "0.0.0.0:0", "--http-anywhere", port=None)
     ports = [re.search(r"^http .*:(\d+)$", b.next_answer("a first line")) for _ in range(2)]
@@ -283,7 +402,14 @@ def many_who_look_on(field):
     idle = []
     for _ in range(16):
         idle.append(field.keep(socket.create_connection(("127.0.0.1", a.http_port))))
-    expect_that(until("a refusal", lambda: said_by_http(a.http_port, b"GET / HTTP/1.1\r\nHost: localhost\r\n\r\n")).startswith(b"HTTP/1.1 503 "), "no room", "some")
+    expect_that(
+        until(
+            "a refusal",
+            lambda: said_by_http(a.http_port, b"GET / HTTP/1.1\r\nHost: localhost\r\n\r\n"),
+        ).startswith(b"HTTP/1.1 503 "),
+        "no room",
+        "some",
+    )
     expect_that(a.ask("size").startswith("size "), "an answer meanwhile", "none")
     idle.pop().close()
     until("room", lambda: get(a.http_port, "/healthz")[0], lambda status: status == 200, limit=5)
@@ -335,12 +461,28 @@ def page_in_a_browser(field):
     for odd in (*ODD_GROUPS, "<img/src=x/onerror=document.title='ran'>"):
         member(a, odd)
     home = field.keep(Folder()).path
-    words = [CHROMIUM, "--headless", "--no-sandbox", "--disable-gpu", f"--user-data-dir={home}", "--window-size=360,640",
-             "--dump-dom", f"http://127.0.0.1:{a.http_port}/"]
-    done = subprocess.run(words, stdin=subprocess.DEVNULL, capture_output=True, timeout=LIMIT, check=False)
+    words = [
+        CHROMIUM,
+        "--headless",
+        "--no-sandbox",
+        "--disable-gpu",
+        f"--user-data-dir={home}",
+        "--window-size=360,640",
+        "--dump-dom",
+        f"http://127.0.0.1:{a.http_port}/",
+    ]
+    done = subprocess.run(
+        words, stdin=subprocess.DEVNULL, capture_output=True, timeout=LIMIT, check=False
+    )
     body = done.stdout.decode("utf-8", "replace")
     expect_that("<title>a@h</title>" in body, "its title", body[:300])
-    expect_that("&lt;script&gt;alert(1)&lt;/script&gt;" in body and "<script" not in body and "<img" not in body, "text alone", body)
+    expect_that(
+        "&lt;script&gt;alert(1)&lt;/script&gt;" in body
+        and "<script" not in body
+        and "<img" not in body,
+        "text alone",
+        body,
+    )
 
 
 class Folder:

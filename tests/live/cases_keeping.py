@@ -33,7 +33,12 @@ class Router:
     """The router of the examples, at a node."""
 
     def __init__(self, field, node):
-        self.process = subprocess.Popen([sys.executable, ROUTER, node.control_path], stdin=subprocess.PIPE, stdout=subprocess.PIPE, text=True)
+        self.process = subprocess.Popen(
+            [sys.executable, ROUTER, node.control_path],
+            stdin=subprocess.PIPE,
+            stdout=subprocess.PIPE,
+            text=True,
+        )
         field.keep(self)
 
     def line(self):
@@ -52,7 +57,7 @@ def send_all(control, lines):
     """Sends many lines, a part at a time: how many answers were no refusal."""
     accepted = 0
     for begin in range(0, len(lines), AT_ONCE):
-        part = lines[begin:begin + AT_ONCE]
+        part = lines[begin : begin + AT_ONCE]
         control.socket.sendall("".join(f"{line}\n" for line in part).encode())
         accepted += sum(not control.next_answer("an answer").startswith("refused ") for _ in part)
     return accepted
@@ -65,7 +70,11 @@ def refused(control, count):
 
 def moves(control, pid, count):
     """So many entries by which a process joins and leaves in turn."""
-    expect("accepted moves", count, send_all(control, [f"join pg g {pid}", f"leave pg g {pid}"] * (count // 2)))
+    expect(
+        "accepted moves",
+        count,
+        send_all(control, [f"join pg g {pid}", f"leave pg g {pid}"] * (count // 2)),
+    )
 
 
 def told(talk, word):
@@ -181,10 +190,16 @@ def turn_knows_what_was_forgotten(field):
     asked(control, "stop old")
     for _ in range(6):
         refused(control, 500)
-    until("the first entries to be forgotten", lambda: control.ask("audit 20"), lambda came: came == "forgotten")
+    until(
+        "the first entries to be forgotten",
+        lambda: control.ask("audit 20"),
+        lambda came: came == "forgotten",
+    )
     expect("news of a new life", [], control.untold("! restarted.*"))
     while not control.untold("! restarted.*"):
-        expect_that(control.ask("start pg").startswith("refused 22 "), "a scope that runs", control.answers)
+        expect_that(
+            control.ask("start pg").startswith("refused 22 "), "a scope that runs", control.answers
+        )
     control.told("! restarted 9")
     asked(control, "scopes", "scopes first pg")
     asked(control, "allowed", "allowed b@h c@h")
@@ -261,7 +276,11 @@ def output_that_is_read_late(field):
     await_kept(busy)
     asked(busy, f"dial b@h=127.0.0.1:{b.port}")
     await_nodes(busy, ["b@h"])
-    told = [line for line in iter(lambda: say(a, ""), "! behind") if not line.startswith(("! join 2 ", "! leave 2 "))]
+    told = [
+        line
+        for line in iter(lambda: say(a, ""), "! behind")
+        if not line.startswith(("! join 2 ", "! leave 2 "))
+    ]
     expect("what it is told beside changes", [], told)
     expect("an answer", "scopes pg", say(a, "scopes"))
     number = say(a, "monitor_scope pg").split()[1]
@@ -271,7 +290,9 @@ def output_that_is_read_late(field):
     expect_that(say(a, "").startswith("! down b@h "), "what it is told of a peer", "another")
     expect("the answer to quit", "ok", say(a, "quit"))
     expect("the status", 0, a.process.wait(LIMIT))
-    expect("such warnings", ["warn behind seat=1"], [line for line in a.errors() if "behind" in line])
+    expect(
+        "such warnings", ["warn behind seat=1"], [line for line in a.errors() if "behind" in line]
+    )
 
 
 def say(node, line):
@@ -333,7 +354,9 @@ def status_of_a_node_that_forgets(field):
 
 def is_archived(status):
     """Whether all entries that aren't kept are in the archive."""
-    entries, kept_now, archived = (int(re.search(rf" {word}=(\d+)", status)[1]) for word in ("entries", "kept", "archived"))
+    entries, kept_now, archived = (
+        int(re.search(rf" {word}=(\d+)", status)[1]) for word in ("entries", "kept", "archived")
+    )
     return entries - kept_now == archived
 
 

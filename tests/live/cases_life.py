@@ -8,7 +8,16 @@ import time
 
 from cases_long import lives_of
 from field import case
-from node import asked, await_members, await_nodes, limit_space, member, members, new_pid, plain_lines
+from node import (
+    asked,
+    await_members,
+    await_nodes,
+    limit_space,
+    member,
+    members,
+    new_pid,
+    plain_lines,
+)
 from talk import Control
 from waiting import LIMIT, expect, expect_that, seconds_since, until
 
@@ -27,8 +36,9 @@ class Silent:
         words = ["--cookie-file", field.cookie_file(), *map(str, options)]
         words += ["--control", self.control_path] if control else []
         with open(self.errors_path, "ab") as errors:
-            self.process = subprocess.Popen([field.program, "a@h", *words], stdin=subprocess.PIPE,
-                                            stdout=stdout, stderr=errors)
+            self.process = subprocess.Popen(
+                [field.program, "a@h", *words], stdin=subprocess.PIPE, stdout=stdout, stderr=errors
+            )
         self.field = field
         field.keep(self)
 
@@ -91,11 +101,16 @@ def stdout_breaks(field):
             alone = Silent(field, "--listen", "127.0.0.1:0", stdout=broken, control=False)
         control = node.control()
         until("a warning", node.errors)
-        expect_one("its standard error", node.errors(), 'warn output reason="standard output: ', fault)
+        expect_one(
+            "its standard error", node.errors(), 'warn output reason="standard output: ', fault
+        )
         node.process.stdin.write(b"start pg\n" * 3)
         node.process.stdin.flush()
-        until("the scope to run", lambda: control.ask("start pg"),
-              lambda came: came.startswith("refused"))
+        until(
+            "the scope to run",
+            lambda: control.ask("start pg"),
+            lambda came: came.startswith("refused"),
+        )
         member(control)
         asked(control, "quit")
         expect("the status", 0, node.process.wait(LIMIT))
@@ -125,8 +140,9 @@ def help_into_a_broken_pipe(field):
 
 def help_into(field, stdout):
     """Asks for the help: the status, and the lines on standard error."""
-    done = subprocess.run([field.program, "-h"], stdout=stdout, stderr=subprocess.PIPE,
-                          timeout=LIMIT, check=False)
+    done = subprocess.run(
+        [field.program, "-h"], stdout=stdout, stderr=subprocess.PIPE, timeout=LIMIT, check=False
+    )
     return done.returncode, plain(done.stderr)
 
 
@@ -269,7 +285,11 @@ def memory_at_its_end(field):
     await_members(b, [], limit=4)
     busy.told("! restarted [0-9]+")
     until("a warning", lambda: a.log("warn no_memory"))
-    expect_one("its standard error", a.log("warn no_memory"), 'warn no_memory reason="out of memory: the node begins anew"')
+    expect_one(
+        "its standard error",
+        a.log("warn no_memory"),
+        'warn no_memory reason="out of memory: the node begins anew"',
+    )
     again = member(busy)
     await_members(b, [again], limit=10)
     await_members(a, [again])
@@ -301,7 +321,11 @@ def archive_of_a_node_without_memory(field):
     expect("the status", 1, a.status())
     expect_one("its last line", a.errors()[-1:], "error: out of memory")
     (life,) = lives_of(path)
-    expect_that(len(life) >= answered, f"at least {answered} entries in the archive", (len(life), a.errors()[-1:]))
+    expect_that(
+        len(life) >= answered,
+        f"at least {answered} entries in the archive",
+        (len(life), a.errors()[-1:]),
+    )
 
 
 def fill_memory(control, pid):

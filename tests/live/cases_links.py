@@ -104,7 +104,11 @@ def full_node_found(field):
     kept = [good_peer(field, a, f"peer{number}@h") for number in range(64)]
     until("a full node", lambda: a.ask("status"), lambda came: " links=64/64 " in came)
     b = field.node("b@h", "--setuptime", "500", dial=[a])
-    until("why no link came up", lambda: b.log("warn dial_failed peer=a@h"), lambda came: any(" fault=handshake " in line for line in came))
+    until(
+        "why no link came up",
+        lambda: b.log("warn dial_failed peer=a@h"),
+        lambda came: any(" fault=handshake " in line for line in came),
+    )
     kept[0].close()
     await_nodes(b, ["a@h"])
 
@@ -143,7 +147,11 @@ def names_of_hosts(field):
     b = field.node("b@h", *dials)
     await_nodes(b, ["a@h"])
     await_nodes(a, ["b@h"])
-    others = [line for line in b.errors() if not line.startswith("warn dial_failed peer=x@h at=nohost.invalid:1 fault=no_host ")]
+    others = [
+        line
+        for line in b.errors()
+        if not line.startswith("warn dial_failed peer=x@h at=nohost.invalid:1 fault=no_host ")
+    ]
     expect("what else b@h said on standard error", [], others)
 
 

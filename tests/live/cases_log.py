@@ -12,7 +12,10 @@ from peer import Peer, connect
 from waiting import LIMIT, expect, expect_that, until
 
 # A line of the log: time, level, what, and fields, whose values are a word or stand between quotes.
-LINE = re.compile(TIME.pattern + r'(error|warn|info) [a-z_]+( [a-z_]+=([!#-<>-\[\]-~]+|"([ !#-\[\]-~]|\\["\\]|\\x[0-9a-f]{2})*"))*')
+LINE = re.compile(
+    TIME.pattern
+    + r'(error|warn|info) [a-z_]+( [a-z_]+=([!#-<>-\[\]-~]+|"([ !#-\[\]-~]|\\["\\]|\\x[0-9a-f]{2})*"))*'
+)
 WRONG = "another_secret"
 
 
@@ -24,7 +27,10 @@ def raw(node):
 
 def logged(node, pattern):
     """Awaits a line of the log like this."""
-    return until(f"a line like {pattern} in the log of {node.name}", lambda: [line for line in node.log() if re.fullmatch(pattern, line)])
+    return until(
+        f"a line like {pattern} in the log of {node.name}",
+        lambda: [line for line in node.log() if re.fullmatch(pattern, line)],
+    )
 
 
 @case
@@ -38,7 +44,9 @@ def log_of_a_node(field):
     logged(a, r"info begun name=a@h creation=3 version=\S+")
     logged(a, r"info up peer=b@h at=127\.0\.0\.1:\d+ creation=5 kind=visible")
     logged(b, rf"info up peer=a@h at=127\.0\.0\.1:{a.port} creation=3 kind=visible")
-    logged(a, r'warn refused peer=c@h at=127\.0\.0\.1:\d+ rule="12 BadDigest" event=Frame entry=\d+')
+    logged(
+        a, r'warn refused peer=c@h at=127\.0\.0\.1:\d+ rule="12 BadDigest" event=Frame entry=\d+'
+    )
     logged(c, rf'warn dial_failed peer=a@h at=127\.0\.0\.1:{a.port} fault=handshake reason=".*"')
     asked(b, "undial a@h")
     logged(b, "info undial peer=a@h")
@@ -55,7 +63,11 @@ def log_of_a_node(field):
     await_nodes(a, ["b@h"])
     a.ask("drain")
     expect("its status", 0, a.status())
-    expect("lines of its end", ["info draining", "info ending"], [line for line in a.log() if line in ("info draining", "info ending")])
+    expect(
+        "lines of its end",
+        ["info draining", "info ending"],
+        [line for line in a.log() if line in ("info draining", "info ending")],
+    )
     for node in (a, b, c):
         strange = [line for line in raw(node) if not LINE.fullmatch(line)]
         expect(f"lines of another form in the log of {node.name}", [], strange)
@@ -73,8 +85,18 @@ def log_as_json(field):
     refused = until("its line", lambda: [line for line in raw(a) if '"refused"' in line])
     value = json.loads(refused[0])
     expect_that(TIME.fullmatch(value.pop("time") + " "), "a time", refused)
-    expect_that(value.pop("entry") > 0 and value.pop("at").startswith("127.0.0.1:"), "an entry and an address", refused)
-    wanted = {"level": "warn", "what": "refused", "peer": "s@h", "rule": "12 BadDigest", "event": "Frame"}
+    expect_that(
+        value.pop("entry") > 0 and value.pop("at").startswith("127.0.0.1:"),
+        "an entry and an address",
+        refused,
+    )
+    wanted = {
+        "level": "warn",
+        "what": "refused",
+        "peer": "s@h",
+        "rule": "12 BadDigest",
+        "event": "Frame",
+    }
     expect("the other members", wanted, value)
     a.quit()
     logged(b, "warn dial_failed peer=a@h .*")
@@ -100,7 +122,9 @@ def log_of_many_strangers(field):
         stranger_says(a, b"\x00\x01?")
     seconds = time.monotonic() - began
     lines = len(until("a refusal in the log", lambda: a.log("warn refused ")))
-    expect_that(1 <= lines <= seconds + 1, f"no line more than one a second in {seconds:.1f} s", lines)
+    expect_that(
+        1 <= lines <= seconds + 1, f"no line more than one a second in {seconds:.1f} s", lines
+    )
     time.sleep(1.1)
     stranger_says(a, b"\x00\x01?")
     until("a line that counts the others", lambda: counted(a), lambda came: came == 61)
@@ -109,7 +133,9 @@ def log_of_many_strangers(field):
 def counted(node):
     """How many refusals the log tells of."""
     lines = node.log("warn refused ")
-    return len(lines) + sum(int(found[1]) for found in (re.search(r" left_out=(\d+)", line) for line in lines) if found)
+    return len(lines) + sum(
+        int(found[1]) for found in (re.search(r" left_out=(\d+)", line) for line in lines) if found
+    )
 
 
 def stranger_says(node, words):
@@ -155,17 +181,75 @@ def first_hour(field):
     a = field.node("a@h", "--allow", "b@h", "--allow", "g@h")
     free = field.free_port()
     cases = (
-        ("b@h", f"a@h=127.0.0.1:{a.port}", WRONG, (), a, 'warn refused peer=b@h .* rule="12 BadDigest" .*', "refusals", " 12 BadDigest b@h "),
-        ("c@h", f"a@h=127.0.0.1:{a.port}", COOKIE, (), a, 'warn refused peer=c@h .* rule="9 NotAllowed" .*', "refusals", " 9 NotAllowed c@h "),
-        ("d@h", f"a@h=127.0.0.1:{a.port}", COOKIE, ("--allow", "x@h"), None, 'warn refused peer=a@h rule="9 NotAllowed" event=Dial .*',
-         "refusals", " Dial 9 NotAllowed a@h "),
-        ("g@h", f"x@h=127.0.0.1:{a.port}", COOKIE, (), None, 'warn refused peer=x@h .* rule="8 WrongName" .*', "refusals", " 8 WrongName x@h "),
-        ("e@h", f"a@h=127.0.0.1:{free}", COOKIE, (), None, f"warn dial_failed peer=a@h at=127.0.0.1:{free} fault=refused .*", "dials", " refused"),
-        ("f@h", "a@h=nohost.invalid:4001", COOKIE, (), None, "warn dial_failed peer=a@h at=nohost.invalid:4001 fault=no_host .*", "dials", " no_host"))
+        (
+            "b@h",
+            f"a@h=127.0.0.1:{a.port}",
+            WRONG,
+            (),
+            a,
+            'warn refused peer=b@h .* rule="12 BadDigest" .*',
+            "refusals",
+            " 12 BadDigest b@h ",
+        ),
+        (
+            "c@h",
+            f"a@h=127.0.0.1:{a.port}",
+            COOKIE,
+            (),
+            a,
+            'warn refused peer=c@h .* rule="9 NotAllowed" .*',
+            "refusals",
+            " 9 NotAllowed c@h ",
+        ),
+        (
+            "d@h",
+            f"a@h=127.0.0.1:{a.port}",
+            COOKIE,
+            ("--allow", "x@h"),
+            None,
+            'warn refused peer=a@h rule="9 NotAllowed" event=Dial .*',
+            "refusals",
+            " Dial 9 NotAllowed a@h ",
+        ),
+        (
+            "g@h",
+            f"x@h=127.0.0.1:{a.port}",
+            COOKIE,
+            (),
+            None,
+            'warn refused peer=x@h .* rule="8 WrongName" .*',
+            "refusals",
+            " 8 WrongName x@h ",
+        ),
+        (
+            "e@h",
+            f"a@h=127.0.0.1:{free}",
+            COOKIE,
+            (),
+            None,
+            f"warn dial_failed peer=a@h at=127.0.0.1:{free} fault=refused .*",
+            "dials",
+            " refused",
+        ),
+        (
+            "f@h",
+            "a@h=nohost.invalid:4001",
+            COOKIE,
+            (),
+            None,
+            "warn dial_failed peer=a@h at=nohost.invalid:4001 fault=no_host .*",
+            "dials",
+            " no_host",
+        ),
+    )
     for name, place, cookie, options, finder, line, command, words in cases:
         node = field.node(name, "--dial", place, *options, cookie=cookie)
         logged(finder or node, line)
-        until(f"{words} by {command}", lambda: (finder or node).ask(command), lambda came: words in came)
+        until(
+            f"{words} by {command}",
+            lambda: (finder or node).ask(command),
+            lambda came: words in came,
+        )
         if name == "c@h":
             logged(node, 'info refused peer=a@h .* rule="11 PeerSaid" .*')
         node.quit()

@@ -40,13 +40,23 @@ def audit_turn(field):
     await_members(b, [again])
     asked(control, f"join pg g {pid}", "fault not yours")
     expect_that(size(a) < 100, "an audit that began anew", size(a))
-    ended = until("the audit that ended", lambda: lives_of(path), lambda lives: lives and len(lives[0]) > 300)[0]
-    expect_that(any(entry["event"] == "Spawn" and entry["verdict"] == "accepted" for entry in ended), "an accepted Spawn among its lines", ended[:3])
+    ended = until(
+        "the audit that ended", lambda: lives_of(path), lambda lives: lives and len(lives[0]) > 300
+    )[0]
+    expect_that(
+        any(entry["event"] == "Spawn" and entry["verdict"] == "accepted" for entry in ended),
+        "an accepted Spawn among its lines",
+        ended[:3],
+    )
     expect("the status after quit", 0, a.quit())
     lives = lives_of(path)
     expect("the lives in the archive", 2, len(lives))
     for life in lives:
-        expect("the numbers of a life", list(range(1, len(life) + 1)), [entry["entry"] for entry in life])
+        expect(
+            "the numbers of a life",
+            list(range(1, len(life) + 1)),
+            [entry["entry"] for entry in life],
+        )
 
 
 def fill(control, pid):
@@ -110,7 +120,11 @@ def busy_turns(field):
     expect("answers that nobody understands", [], strange[:3])
     turns = len(a.untold("! restarted [0-9]+"))
     expect_that(turns >= 2, "two turns at least", turns)
-    expect("the creations that were told", [f"! restarted {life + 2}" for life in range(turns)], a.untold("! restarted [0-9]+"))
+    expect(
+        "the creations that were told",
+        [f"! restarted {life + 2}" for life in range(turns)],
+        a.untold("! restarted [0-9]+"),
+    )
     pids = [member(control, "last") for control in controls]
     await_members(b, pids, "last")
     await_members(a, pids, "last")
@@ -138,7 +152,9 @@ def storm(field):
         chance.choice(sites).suffer(chance)
     for site in sites:
         await_nodes(site.node, [other.name for other in sites if other is not site])
-    until("one view of all", lambda: views(sites), lambda seen: all(view == seen[0] for view in seen))
+    until(
+        "one view of all", lambda: views(sites), lambda seen: all(view == seen[0] for view in seen)
+    )
     for site in sites:
         expect(f"the status of {site.name}", 0, site.node.quit())
 
@@ -154,7 +170,9 @@ class Site:
 
     def __init__(self, field, number, ports):
         self.field, self.name, self.port = field, f"n{number}@h", ports[number]
-        self.others = [f"n{other}@h=127.0.0.1:{port}" for other, port in enumerate(ports) if other != number]
+        self.others = [
+            f"n{other}@h=127.0.0.1:{port}" for other, port in enumerate(ports) if other != number
+        ]
         self.begin()
 
     def begin(self):
@@ -189,7 +207,10 @@ class Site:
         """Processes join, and most of them leave; whatever is answered where the node begins anew meanwhile."""
         for _ in range(chance.randrange(10)):
             pid = new_pid(client)
-            for line in (f"join pg g {pid}", *chance.choice([[], [f"leave pg g {pid}"], [f"leave pg g {pid}", f"exit {pid}"]])):
+            for line in (
+                f"join pg g {pid}",
+                *chance.choice([[], [f"leave pg g {pid}"], [f"leave pg g {pid}", f"exit {pid}"]]),
+            ):
                 answer = client.ask(line)
                 expect_that(answer in ("ok", "fault not yours"), f"an answer to {line!r}", answer)
 
@@ -207,17 +228,29 @@ def soak(field):
     turns(field, a, joining, pid, 5)
     before = {node.name: (*node.memory(), size(node)) for node in (a, b)}
     joins = turns(field, a, joining, pid, SOAK_SECONDS)
-    expect_that(joins >= SOAK_SECONDS * JOINS_A_SECOND // 2, f"{JOINS_A_SECOND} joins a second, or half of it", joins)
+    expect_that(
+        joins >= SOAK_SECONDS * JOINS_A_SECOND // 2,
+        f"{JOINS_A_SECOND} joins a second, or half of it",
+        joins,
+    )
     last = member(joining, "last")
     await_members(b, [last], "last")
-    until("all news", lambda: len(watching.untold(f"! join {number} g 1 {pid}")), lambda told: told >= joins)
+    until(
+        "all news",
+        lambda: len(watching.untold(f"! join {number} g 1 {pid}")),
+        lambda told: told >= joins,
+    )
     for node in (a, b):
         memory, threads, entries = before[node.name]
         memory_now, threads_now, entries_now = (*node.memory(), size(node))
         expect_that(threads_now <= threads + 2, f"{threads} threads of {node.name}", threads_now)
         # An entry with its copies takes less than 2 KiB, and what was freed may stay with the process.
         room = 2 * (entries_now - entries) + 8192
-        expect_that(memory_now - memory < room, f"{node.name} to grow by less than {room} KiB", memory_now - memory)
+        expect_that(
+            memory_now - memory < room,
+            f"{node.name} to grow by less than {room} KiB",
+            memory_now - memory,
+        )
 
 
 def turns(field, node, joining, pid, seconds):

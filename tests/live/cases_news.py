@@ -97,7 +97,12 @@ def downs_at_a_turn(field):
     for thread in threads:
         thread.start()
     for talk in watching:
-        until("three turns", lambda talk=talk: talk.untold("! restarted .*"), lambda came: len(came) >= 3, limit=120)
+        until(
+            "three turns",
+            lambda talk=talk: talk.untold("! restarted .*"),
+            lambda came: len(came) >= 3,
+            limit=120,
+        )
         until("a peer that came up", lambda talk=talk: talk.untold("! up .*"), limit=120)
     turns.set()
     for thread in threads:
@@ -122,7 +127,11 @@ def check_peers(talk):
     up = {}
     for line in talk.untold("! (up|down|restarted) .*"):
         if found := re.fullmatch("! up (.*) ([0-9]+) visible", line):
-            expect(f"the creation with which {found[1]} is up before {line!r} at {talk.who}", None, up.get(found[1]))
+            expect(
+                f"the creation with which {found[1]} is up before {line!r} at {talk.who}",
+                None,
+                up.get(found[1]),
+            )
             up[found[1]] = found[2]
         elif found := re.fullmatch("! down (.*) ([0-9]+) [a-z]+", line):
             # (who was up before the connection was made isn't told up)

@@ -102,7 +102,11 @@ def cut_between_parts(field):
 
 def watched(node, ending, count):
     """Until so many entries of the audit end so."""
-    until(f"{count} entries {ending}", lambda: sum(entry.endswith(ending) for entry in audit(node)), lambda came: came >= count)
+    until(
+        f"{count} entries {ending}",
+        lambda: sum(entry.endswith(ending) for entry in audit(node)),
+        lambda came: came >= count,
+    )
 
 
 @case
@@ -123,9 +127,15 @@ def parts_that_never_end(field):
     watched(a, "Frame accepted", PEERS * (2 + BEGUN))
     await_members(a, [pid])
     grown, most = a.memory()[0] - before, PEERS * BEGUN * MOST_ROWS * ROW_SIZE + REST
-    expect_that(grown < most, f"{most:.0f} KiB more at most for {size(a) - entries} entries", f"{grown} KiB")
+    expect_that(
+        grown < most, f"{most:.0f} KiB more at most for {size(a) - entries} entries", f"{grown} KiB"
+    )
     peers[0].part(b"S", BEGUN + 1, True, [("h", 1)])
-    until("rows at the last part", lambda: len(members(a)), lambda count: count == BEGUN * MOST_ROWS + 1)
+    until(
+        "rows at the last part",
+        lambda: len(members(a)),
+        lambda count: count == BEGUN * MOST_ROWS + 1,
+    )
     await_members(a, [peers[0].pid(1)], "h")
     for peer in peers:
         peer.close()
@@ -205,7 +215,7 @@ class Reading:
         rows it has."""
         place = 2 + body[1]
         if body[:1] in (b"S", b"J", b"L"):
-            number, is_last, rows = struct.unpack(">IBI", body[place:place + 9])
+            number, is_last, rows = struct.unpack(">IBI", body[place : place + 9])
             if (number, is_last) == (1, 1):
                 self.changes += 1
             else:
@@ -214,9 +224,17 @@ class Reading:
     def await_all_parts(self, kind):
         """Until all rows of a process in each scope were told."""
         sizes = [*[MOST_ROWS] * (PARTS - 1), 1]
-        wanted = [(kind, scope, number, number == PARTS, rows)
-                  for scope in SCOPES for number, rows in enumerate(sizes, 1)]
-        until(f"{len(wanted)} parts", lambda: len(self.parts), lambda count: count >= len(wanted), LONG)
+        wanted = [
+            (kind, scope, number, number == PARTS, rows)
+            for scope in SCOPES
+            for number, rows in enumerate(sizes, 1)
+        ]
+        until(
+            f"{len(wanted)} parts",
+            lambda: len(self.parts),
+            lambda count: count >= len(wanted),
+            LONG,
+        )
         expect("the parts", sorted(wanted), sorted(self.parts))
         self.parts = []
 

@@ -166,8 +166,11 @@ def twins_at_the_acceptor(field):
     for creation in ("1", "2"):
         field.node("c@h", "--creation", creation, dial=[a], control=False, port=None)
     warning = until("a warning", lambda: a.log("warn twins "))
-    expect("the warning",
-           ['warn twins peer=c@h reason="two nodes have this name: each ends the link of the other"'], warning)
+    expect(
+        "the warning",
+        ['warn twins peer=c@h reason="two nodes have this name: each ends the link of the other"'],
+        warning,
+    )
     a.told("! down c@h [0-9]+ replaced")
     a.told("! down c@h [0-9]+ replaced", limit=20)
     expect("such warnings", warning, a.log("warn twins "))
@@ -184,10 +187,19 @@ class Mute:
             while True:
                 os.write(writing, b"x" * 4096)
         os.set_blocking(writing, True)
-        words = ["--cookie-file", field.cookie_file(), "--control", f"{field.folder}/mute.control",
-                 *map(str, options)]
-        self.process = subprocess.Popen([field.program, "a@h", *words], stdin=subprocess.DEVNULL,
-                                        stdout=subprocess.DEVNULL, stderr=writing)
+        words = [
+            "--cookie-file",
+            field.cookie_file(),
+            "--control",
+            f"{field.folder}/mute.control",
+            *map(str, options),
+        ]
+        self.process = subprocess.Popen(
+            [field.program, "a@h", *words],
+            stdin=subprocess.DEVNULL,
+            stdout=subprocess.DEVNULL,
+            stderr=writing,
+        )
         os.close(writing)
         self.control_path = f"{field.folder}/mute.control"
         field.keep(self)

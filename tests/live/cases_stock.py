@@ -28,13 +28,19 @@ def stock_peer(field, node, name="s@127.0.0.1"):
 def quit_beside_a_silent_epmd(field):
     """`quit` doesn't wait for an EPMD that takes a connection and says nothing; nor is that logged as a fault."""
     epmd = field.listener()
-    node = field.start("w@127.0.0.1", "--otp-listen", "127.0.0.1:0", f"--epmd={epmd.getsockname()[1]}", port=None).ready()
+    node = field.start(
+        "w@127.0.0.1", "--otp-listen", "127.0.0.1:0", f"--epmd={epmd.getsockname()[1]}", port=None
+    ).ready()
     link, _ = epmd.accept()
     field.keep(link)
     expect_that(link.recv(3)[2:] == b"x", "a registration", "another request")
     began = time.monotonic()
     node.quit()
-    expect_that(seconds_since(began) < AT_ONCE, f"an end within {AT_ONCE} s", f"{seconds_since(began):.1f} s")
+    expect_that(
+        seconds_since(began) < AT_ONCE,
+        f"an end within {AT_ONCE} s",
+        f"{seconds_since(began):.1f} s",
+    )
     expect("faults in the log", [], node.log("warn not_registered"))
 
 
@@ -46,7 +52,12 @@ def dripping_epmd(field):
     dripping.start()
     words = ["--otp-dial", "s@127.0.0.1", f"--epmd={epmd.getsockname()[1]}", "--setuptime", "1000"]
     node = field.start("w@127.0.0.1", *words, port=None).ready()
-    until("the end of a dial", lambda: node.ask("dials"), lambda came: came.endswith(" no_epmd"), limit=8)
+    until(
+        "the end of a dial",
+        lambda: node.ask("dials"),
+        lambda came: came.endswith(" no_epmd"),
+        limit=8,
+    )
 
 
 def drip(listener):
@@ -66,10 +77,21 @@ def drip(listener):
 def found_by_epmd(field):
     """A node is registered at EPMD, whose connection stays, and dials a stock node at the port that EPMD says."""
     epmd, other = field.listener(), field.listener()
-    words = ["--otp-listen", "127.0.0.1:0", "--otp-dial", "s@127.0.0.1", f"--epmd={epmd.getsockname()[1]}"]
+    words = [
+        "--otp-listen",
+        "127.0.0.1:0",
+        "--otp-dial",
+        "s@127.0.0.1",
+        f"--epmd={epmd.getsockname()[1]}",
+    ]
     node = field.start("w@127.0.0.1", *words, port=None).ready()
-    answers = {b"x": b"v\0" + struct.pack(">I", 7),
-               b"z": b"w\0" + struct.pack(">HBBHHH", other.getsockname()[1], 72, 0, 6, 5, 1) + b"s" + bytes(2)}
+    answers = {
+        b"x": b"v\0" + struct.pack(">I", 7),
+        b"z": b"w\0"
+        + struct.pack(">HBBHHH", other.getsockname()[1], 72, 0, 6, 5, 1)
+        + b"s"
+        + bytes(2),
+    }
     asked_for = {answer_as_epmd(field, epmd, answers) for _ in answers}
     expect("what EPMD was asked", set(answers), asked_for)
     field.keep(other.accept()[0])
@@ -94,7 +116,11 @@ def misled_stock_nodes(field):
         peer = field.keep(Peer(connect(a.port), f"s{number}@127.0.0.1", hidden=True))
         peer.flags |= MANDATORY
         peer.send(peer.name_frame())
-        until("it is heard", lambda: a.ask("size"), lambda came, number=number: int(came.split()[1]) > number)
+        until(
+            "it is heard",
+            lambda: a.ask("size"),
+            lambda came, number=number: int(came.split()[1]) > number,
+        )
         time.sleep(0.3)
     until("a warning", lambda: a.log("warn stock_node "))
     expect("how many there are", 1, len(a.log("warn stock_node ")))
@@ -109,5 +135,9 @@ def unreadable_link(field):
     peer.send(b"no message")
     peer.await_end()
     await_nodes(node, [])
-    until("why it has ended", lambda: node.log(f"warn down peer={peer.name}"), lambda came: came and came[0].endswith("reason=unreadable"))
+    until(
+        "why it has ended",
+        lambda: node.log(f"warn down peer={peer.name}"),
+        lambda came: came and came[0].endswith("reason=unreadable"),
+    )
     until("the news of its end", lambda: node.untold(rf"! down {peer.name} \d+ unreadable"))

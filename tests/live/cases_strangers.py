@@ -49,7 +49,9 @@ def dripping_stranger(field):
         for byte in b"\x00\xff" + stranger.name_frame() + bytes(200):
             stranger.send_bytes(bytes([byte]))
             time.sleep(0.25)
-            expect_that(seconds_since(began) < 30, "an end of a dripping stranger within 30 s", "none")
+            expect_that(
+                seconds_since(began) < 30, "an end of a dripping stranger within 30 s", "none"
+            )
     except ConnectionError:
         pass
     ended_in_time(stranger, began)
@@ -74,7 +76,11 @@ def name_only_stranger(field):
 def own_name(field):
     """A stranger under the node's own name, or under no name at all, is refused."""
     a = field.node("a@h")
-    for name, rule in (("a@h", "refused 7 OwnName"), ("nobody", "refused 6 BadName"), ("", "refused 6 BadName")):
+    for name, rule in (
+        ("a@h", "refused 7 OwnName"),
+        ("nobody", "refused 6 BadName"),
+        ("", "refused 6 BadName"),
+    ):
         watch = Watch(a)
         stranger = field.keep(Peer(connect(a.port), name))
         stranger.send(stranger.name_frame())
@@ -183,8 +189,12 @@ def false_rows(field):
     peer.sync([("g", 1)])
     await_members(a, [pid, peer.pid(1)])
     own_creation = int(pid.split("/")[1])
-    for kind, row, rule in ((b"J", ("g", 2, "a@h", own_creation), "16 ForeignPid"), (b"J", ("g", 2, "peer@h", 8), "16 ForeignPid"),
-                            (b"L", ("other", 1), "17 NotListed"), (b"?", ("g", 1), "3 BadFrame")):
+    for kind, row, rule in (
+        (b"J", ("g", 2, "a@h", own_creation), "16 ForeignPid"),
+        (b"J", ("g", 2, "peer@h", 8), "16 ForeignPid"),
+        (b"L", ("other", 1), "17 NotListed"),
+        (b"?", ("g", 1), "3 BadFrame"),
+    ):
         watch = Watch(a)
         peer.rows_message(kind, [row])
         watch.await_entry(f"refused {rule}")
@@ -196,14 +206,20 @@ def false_rows(field):
 def half_open_64(field):
     """Behind 64 links that are half open a good peer comes up once their time is over, and an own dial isn't kept from its link for longer."""
     listener = field.listener()
-    a = field.node("a@h", "--setuptime", "3000", "--dial", f"dialled@h=127.0.0.1:{listener.getsockname()[1]}")
+    a = field.node(
+        "a@h", "--setuptime", "3000", "--dial", f"dialled@h=127.0.0.1:{listener.getsockname()[1]}"
+    )
     start(a)
     for source in STRANGERS[:64]:
         field.keep(Peer(connect(a.port, source)))
     began = time.monotonic()
     taker = field.keep(Peer(listener.accept()[0], "dialled@h")).take_hands()
     good = good_peer(field, a, "good@h")
-    expect_that(seconds_since(began) < 30, "both up soon after the strangers' 3 s", f"{seconds_since(began):.1f} s")
+    expect_that(
+        seconds_since(began) < 30,
+        "both up soon after the strangers' 3 s",
+        f"{seconds_since(began):.1f} s",
+    )
     for peer in (taker, good):
         peer.sync([("g", 1)])
     await_members(a, [taker.pid(1), good.pid(1)])

@@ -35,7 +35,9 @@ def silent_peer(field):
     peer.sync([("g", 1)])
     await_members(a, [peer.pid(1)], limit=5)
     when, _ = a.told("! down peer@h 7 silent")
-    expect_that(when - began > 4.5, "a link to last for the tick time of 5 s", f"{when - began:.2f} s")
+    expect_that(
+        when - began > 4.5, "a link to last for the tick time of 5 s", f"{when - began:.2f} s"
+    )
     await_members(a, [])
     peer.await_end()
 
@@ -70,7 +72,11 @@ def long_stop(field):
     a.signal(signal.SIGSTOP)
     try:
         b.told("! down a@h [0-9]+ silent")
-        expect_that(seconds_since(began) < 30, "a loss soon after the tick time of 3 s", f"{seconds_since(began):.1f} s")
+        expect_that(
+            seconds_since(began) < 30,
+            "a loss soon after the tick time of 3 s",
+            f"{seconds_since(began):.1f} s",
+        )
         await_members(b, [])
     finally:
         a.signal(signal.SIGCONT)
@@ -102,7 +108,9 @@ def pauses_begin_anew(field):
     time.sleep(3)
     before = times_dialled(b)
     a.kill()
-    until("three further dials", lambda: times_dialled(b), lambda times: times >= before + 3, limit=4)
+    until(
+        "three further dials", lambda: times_dialled(b), lambda times: times >= before + 3, limit=4
+    )
 
 
 def times_dialled(node):

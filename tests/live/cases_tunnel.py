@@ -30,7 +30,9 @@ def tls(protocol, own, other):
 
 def connect_to_far(port, own="near"):
     """A stream to the far end at this port, as the near end makes it, with this certificate or none."""
-    return tls(ssl.PROTOCOL_TLS_CLIENT, own, "far").wrap_socket(connect(port), server_hostname="far")
+    return tls(ssl.PROTOCOL_TLS_CLIENT, own, "far").wrap_socket(
+        connect(port), server_hostname="far"
+    )
 
 
 class End:
@@ -81,7 +83,9 @@ def carry(one, other):
     """Carries bytes both ways, until one of both ends."""
     onward = {one: other, other: one}
     with contextlib.suppress(OSError):
-        while all(pass_on(stream, onward[stream]) for stream in select.select([one, other], [], [])[0]):
+        while all(
+            pass_on(stream, onward[stream]) for stream in select.select([one, other], [], [])[0]
+        ):
             pass
 
 
@@ -125,7 +129,11 @@ def expect_refusals(field, b, far):
     """That the far end lets nobody through to the node who has no certificate, or another one than the
     near end, which goes through no other far end."""
     for own in (None, "stranger"):
-        expect(f"what is heard with the certificate {own}", None, heard(lambda own=own: connect_to_far(far.port, own)))
+        expect(
+            f"what is heard with the certificate {own}",
+            None,
+            heard(lambda own=own: connect_to_far(far.port, own)),
+        )
     until("why they were refused", lambda: far.refused, [NO_CERTIFICATE, ANOTHER_ONE].__eq__)
     other = field.keep(far_end(b.port, "stranger"))
     near = field.keep(near_end(other.port))
@@ -135,7 +143,11 @@ def expect_refusals(field, b, far):
     asked(b, "nodes", "nodes a@h")
     logged = until("a peer in its log", lambda: [line for line in b.log() if "peer=" in line])
     expect("the peers in its log", ["info up peer=a@h"], [line.split(" at=")[0] for line in logged])
-    expect("what is heard with the near end's certificate", b"sok", heard(lambda: connect_to_far(far.port)))
+    expect(
+        "what is heard with the near end's certificate",
+        b"sok",
+        heard(lambda: connect_to_far(far.port)),
+    )
 
 
 def told_of_a_join(watching, joining):
@@ -148,7 +160,8 @@ def told_of_a_join(watching, joining):
 @case
 def links_through_tls(field):
     """Nodes link through a tunnel with TLS, of which neither knows: each is told of the other and of its
-    joins, and both when the tunnel is cut. Who has no certificate, or another one, gets nothing through."""
+    joins, and both when the tunnel is cut. Who has no certificate, or another one, gets nothing through.
+    """
     b = field.node("b@h")
     far = field.keep(far_end(b.port))
     near = field.keep(near_end(far.port))

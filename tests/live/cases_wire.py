@@ -18,7 +18,7 @@ def conversation(title):
     """The lines below a title, each a mark and the words behind it."""
     with open(os.path.join(HERE, "wire.txt"), encoding="ascii") as file:
         parts = file.read().split("== ")
-    text, = (part for part in parts if part.split("\n")[0] == title)
+    (text,) = (part for part in parts if part.split("\n")[0] == title)
     lines = [line.split("#")[0].strip() for line in text.split("\n")[1:]]
     return [line.split(" ", 1) for line in lines if line]
 

@@ -27,10 +27,14 @@ def archive_behind_a_deaf_client(field):
     for _ in range(9):
         fill(control, pid, 10_000)
     until("a warning", lambda: a.log("warn behind"))
-    until("few entries kept", lambda: int(field_of(control, "kept").split("/")[0]), lambda kept: kept <= 1000)
+    until(
+        "few entries kept",
+        lambda: int(field_of(control, "kept").split("/")[0]),
+        lambda kept: kept <= 1000,
+    )
     expect("the lost entries", "0", field_of(control, "lost"))
     expect("the status after quit", 0, a.quit())
-    (_, numbers), = lives_of(path)
+    ((_, numbers),) = lives_of(path)
     expect_that(numbers == [*range(1, len(numbers) + 1)], "all entries in order", len(numbers))
 
 
@@ -46,7 +50,11 @@ def archive_moved_where_none_can_be_made(field):
     start(control)
     pid = new_pid(control)
     fill(control, pid, 1000)
-    until("entries in the archive", lambda: int(field_of(control, "archived")), lambda count: count > 500)
+    until(
+        "entries in the archive",
+        lambda: int(field_of(control, "archived")),
+        lambda count: count > 500,
+    )
     moved = f"{folder}.moved"
     os.rename(folder, moved)
     asked(control, "reopen")
@@ -55,10 +63,12 @@ def archive_moved_where_none_can_be_made(field):
     fill(control, pid, 1000)
     os.mkdir(folder)
     until("a file at the path", lambda: os.path.exists(path) and os.path.getsize(path) > 0)
-    expect("the size of the file that was moved", held, os.path.getsize(os.path.join(moved, "archive")))
+    expect(
+        "the size of the file that was moved", held, os.path.getsize(os.path.join(moved, "archive"))
+    )
     expect("the status after quit", 0, a.quit())
     os.rename(os.path.join(moved, "archive"), f"{path}.0")
-    (_, numbers), = lives_of(path)
+    ((_, numbers),) = lives_of(path)
     expect("the numbers in the archive", [*range(1, len(numbers) + 1)], numbers)
 
 
@@ -67,16 +77,31 @@ def half_a_line_at_the_end(field):
     """An entry of which the file has only a part when the program ends counts as lost, in its last line and by its status; the line of
     a life is no entry."""
     path = os.path.join(field.folder, "archive")
-    words = [field.program, "a@h", "--cookie-file", field.cookie_file(), "--creation", "5", "--audit", path]
+    words = [
+        field.program,
+        "a@h",
+        "--cookie-file",
+        field.cookie_file(),
+        "--creation",
+        "5",
+        "--audit",
+        path,
+    ]
     script = "start pg\nspawn\nspawn\nquit\n"
     subprocess.run(words, input=script.encode(), capture_output=True, timeout=LIMIT, check=True)
     whole, entries = os.path.getsize(path), len(lines_of(path)) - 1
     for size, lost in ((whole - 10, "1 entry is"), (10, f"{entries} entries are")):
         os.remove(path)
         limited = ["bash", "-c", f'trap "" XFSZ; exec prlimit --fsize={size} "$@"', "bash", *words]
-        done = subprocess.run(limited, input=script.encode(), capture_output=True, timeout=LIMIT, check=False)
+        done = subprocess.run(
+            limited, input=script.encode(), capture_output=True, timeout=LIMIT, check=False
+        )
         expect("the status", 1, done.returncode)
-        expect("the last line", f"error: --audit: {shown(path)}: {lost} not in the file", done.stderr.decode().splitlines()[-1])
+        expect(
+            "the last line",
+            f"error: --audit: {shown(path)}: {lost} not in the file",
+            done.stderr.decode().splitlines()[-1],
+        )
         expect("the size of the file", size, os.path.getsize(path))
 
 
@@ -84,8 +109,20 @@ def half_a_line_at_the_end(field):
 def archive_of_a_program_without_streams(field):
     """A node whose standard streams are closed serves, and nothing that it prints goes to its archive; the next node goes on there."""
     path, control = os.path.join(field.folder, "archive"), os.path.join(field.folder, "control")
-    words = [field.program, "a@h", "--cookie-file", field.cookie_file(), "--listen", "127.0.0.1:0", "--control", control,
-             "--log-level", "info", "--audit", path]
+    words = [
+        field.program,
+        "a@h",
+        "--cookie-file",
+        field.cookie_file(),
+        "--listen",
+        "127.0.0.1:0",
+        "--control",
+        control,
+        "--log-level",
+        "info",
+        "--audit",
+        path,
+    ]
     for _ in range(2):
         with subprocess.Popen(["sh", "-c", 'exec "$@" <&- >&- 2>&-', "sh", *words]) as node:
             until("its control socket", lambda: os.path.exists(control))
@@ -108,7 +145,10 @@ def connected(path):
 def file_of_json_is_no_archive(field):
     """A file of JSON that is none of an archive is left as it is, with and without a line feed at its end."""
     path = os.path.join(field.folder, "package.json")
-    for name, text in (("a@h", json.dumps({"name": "mine"})), ("b@h", json.dumps({"name": "mine"}) + "\n")):
+    for name, text in (
+        ("a@h", json.dumps({"name": "mine"})),
+        ("b@h", json.dumps({"name": "mine"}) + "\n"),
+    ):
         with open(path, "w", encoding="ascii") as file:
             file.write(text)
         node = field.start(name, "--audit", path)

@@ -33,7 +33,9 @@ class Field:
         self.program = program
         self.ask_program = ask_program
         # (the path of a Unix socket has 107 bytes at most, which a folder of TMPDIR may take up)
-        self.folder = tempfile.mkdtemp(prefix="pg_node.", dir="/tmp" if os.access("/tmp", os.W_OK) else None)
+        self.folder = tempfile.mkdtemp(
+            prefix="pg_node.", dir="/tmp" if os.access("/tmp", os.W_OK) else None
+        )
         self.nodes = []
         self._open = []
         self._cookies = {}
@@ -78,7 +80,9 @@ class Field:
 
     def node(self, name, *options, dial=(), **rest):
         """A node that serves, and dials these nodes."""
-        dials = [word for other in dial for word in ("--dial", f"{other.name}=127.0.0.1:{other.port}")]
+        dials = [
+            word for other in dial for word in ("--dial", f"{other.name}=127.0.0.1:{other.port}")
+        ]
         return self.start(name, *dials, *options, **rest).ready()
 
     def control(self, node):

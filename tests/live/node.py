@@ -25,12 +25,22 @@ class Node(Talk):
 
     def __init__(self, program, folder, name, arguments):
         self.name = name
-        self.control_path = os.path.join(folder, f"{name}.control") if "--control" in arguments else None
-        self.serves = [word for word in ("--otp-listen", "--listen", "--control", "--control-read", "--http") if word in arguments]
+        self.control_path = (
+            os.path.join(folder, f"{name}.control") if "--control" in arguments else None
+        )
+        self.serves = [
+            word
+            for word in ("--otp-listen", "--listen", "--control", "--control-read", "--http")
+            if word in arguments
+        ]
         self.errors_path = os.path.join(folder, f"{name}.errors")
         with open(self.errors_path, "ab") as errors:
-            self.process = subprocess.Popen([program, name, *arguments], stdin=subprocess.PIPE, stdout=subprocess.PIPE,
-                                            stderr=errors)
+            self.process = subprocess.Popen(
+                [program, name, *arguments],
+                stdin=subprocess.PIPE,
+                stdout=subprocess.PIPE,
+                stderr=errors,
+            )
         self.port = None
         self.otp_port = None
         self.http_port = None
@@ -75,7 +85,9 @@ class Node(Talk):
 
     def status(self, limit=LIMIT):
         """The status with which it ends."""
-        return until(f"an end of {self.name}", self.process.poll, lambda status: status is not None, limit)
+        return until(
+            f"an end of {self.name}", self.process.poll, lambda status: status is not None, limit
+        )
 
     def signal(self, number):
         self.process.send_signal(number)
@@ -113,7 +125,11 @@ def plain_lines(path):
 def log_lines(path):
     """What a program said on standard error, into this file, each line without its time."""
     with open(path, encoding="ascii", errors="replace") as errors:
-        return [TIME.sub("", line, count=1) for line in errors.read().splitlines() if not WRAPPER.match(line)]
+        return [
+            TIME.sub("", line, count=1)
+            for line in errors.read().splitlines()
+            if not WRAPPER.match(line)
+        ]
 
 
 def new_pid(talk):
@@ -144,7 +160,12 @@ def member(talk, group="g", scope="pg"):
 def await_members(talk, pids, group="g", scope="pg", limit=LIMIT):
     """Until these processes are the members."""
     wanted = sorted(pids, key=pid_order)
-    until(f"members {wanted} of {group} at {talk.who}", lambda: members(talk, group, scope), lambda came: came == wanted, limit)
+    until(
+        f"members {wanted} of {group} at {talk.who}",
+        lambda: members(talk, group, scope),
+        lambda came: came == wanted,
+        limit,
+    )
 
 
 def members(talk, group="g", scope="pg"):
@@ -166,7 +187,12 @@ def nodes(talk):
 
 
 def await_nodes(talk, names, limit=LIMIT):
-    until(f"nodes {sorted(names)} up at {talk.who}", lambda: nodes(talk), lambda came: came == sorted(names), limit)
+    until(
+        f"nodes {sorted(names)} up at {talk.who}",
+        lambda: nodes(talk),
+        lambda came: came == sorted(names),
+        limit,
+    )
 
 
 def size(talk):
@@ -190,8 +216,10 @@ class Watch:
 
     def await_entry(self, text, limit=LIMIT):
         """Until an entry that ends so is there, and gives it."""
+
         def look():
             entries = audit(self.talk, self.seen + 1)
             self.seen += len(entries)
             return [entry for entry in entries if entry.endswith(text)]
+
         return until(f"an entry {text!r} in the audit of {self.talk.who}", look, limit=limit)[0]

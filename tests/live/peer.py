@@ -29,7 +29,9 @@ class Peer:
     """One end of a stream to a node. Bodies go behind lengths of 2 bytes, and once the link is up of 4. Where it knows version 2 of link
     messages it has to meet a node that does, too."""
 
-    def __init__(self, stream, name="peer@h", cookie="password", creation=7, hidden=False, version=1):
+    def __init__(
+        self, stream, name="peer@h", cookie="password", creation=7, hidden=False, version=1
+    ):
         self.stream = stream
         self.stream.settimeout(LIMIT)
         self.stream.setsockopt(socket.IPPROTO_TCP, socket.TCP_NODELAY, 1)
@@ -67,7 +69,9 @@ class Peer:
             except ConnectionError:
                 return None
             except TimeoutError:
-                raise AssertionError(f"expected bytes for {self.name} within {LIMIT} s, came none") from None
+                raise AssertionError(
+                    f"expected bytes for {self.name} within {LIMIT} s, came none"
+                ) from None
             if not piece:
                 return None
             data += piece
@@ -82,7 +86,9 @@ class Peer:
         except ConnectionError:
             pass
         except TimeoutError:
-            raise AssertionError(f"expected the end of {self.name}'s stream within {limit} s, came none") from None
+            raise AssertionError(
+                f"expected the end of {self.name}'s stream within {limit} s, came none"
+            ) from None
 
     def close(self):
         self.stream.close()
@@ -90,10 +96,20 @@ class Peer:
     # The handshake
 
     def name_frame(self):
-        return b"N" + struct.pack(">QI", self.flags, self.creation) + text(2, self.name) + self.behind_the_name()
+        return (
+            b"N"
+            + struct.pack(">QI", self.flags, self.creation)
+            + text(2, self.name)
+            + self.behind_the_name()
+        )
 
     def challenge_frame(self, challenge):
-        return b"N" + struct.pack(">QII", self.flags, challenge, self.creation) + text(2, self.name) + self.behind_the_name()
+        return (
+            b"N"
+            + struct.pack(">QII", self.flags, challenge, self.creation)
+            + text(2, self.name)
+            + self.behind_the_name()
+        )
 
     def behind_the_name(self):
         return VERSION_2 if self.version == 2 else b""
@@ -146,7 +162,11 @@ class Peer:
         self.send_status("ok")
         self.send(self.challenge_frame(own))
         reply = self.receive()
-        expect_that(reply is not None and reply[:1] == b"r" and reply[5:] == digest(self.cookie, own), "a right reply", reply)
+        expect_that(
+            reply is not None and reply[:1] == b"r" and reply[5:] == digest(self.cookie, own),
+            "a right reply",
+            reply,
+        )
         self.send(b"a" + digest(self.cookie, int.from_bytes(reply[1:5], "big")))
         self.width = 4
         return self
@@ -162,7 +182,7 @@ class Peer:
             return self.send(kind + text(1, scope) + self._rows(rows))
         starts = range(0, max(1, len(rows)), MOST_ROWS)
         for number, start in enumerate(starts, 1):
-            self.part(kind, number, number == len(starts), rows[start:start + MOST_ROWS], scope)
+            self.part(kind, number, number == len(starts), rows[start : start + MOST_ROWS], scope)
 
     def part(self, kind, number, is_last, rows, scope="pg"):
         self.send(kind + text(1, scope) + struct.pack(">IB", number, is_last) + self._rows(rows))
@@ -171,7 +191,11 @@ class Peer:
         return struct.pack(">I", len(rows)) + b"".join(self._row(*row) for row in rows)
 
     def _row(self, group, number, name=None, creation=None):
-        return text(1, group) + text(2, name or self.name) + struct.pack(">IQ", creation or self.creation, number)
+        return (
+            text(1, group)
+            + text(2, name or self.name)
+            + struct.pack(">IQ", creation or self.creation, number)
+        )
 
     def sync(self, rows, scope="pg"):
         """All rows of this peer, each a group and the number of a process."""
@@ -194,7 +218,9 @@ class Peer:
                 parts.append(rows)
                 if is_last:
                     return parts
-        raise AssertionError(f"expected a message {kind} for {self.name}, came the end of the stream")
+        raise AssertionError(
+            f"expected a message {kind} for {self.name}, came the end of the stream"
+        )
 
     def await_ticks(self, count):
         """So many ticks, with whatever comes between them."""
@@ -205,12 +231,14 @@ class Peer:
 
     def keep_ticking(self, pause=0.3):
         """Sends a tick now and then, until the stream is closed."""
+
         def tick():
             try:
                 while not stopped.wait(pause):
                     self.send_bytes(TICK)
             except OSError:
                 pass
+
         stopped = threading.Event()
         threading.Thread(target=tick, daemon=True).start()
         return stopped
@@ -226,12 +254,12 @@ def part_of(body, version=1):
 
 def rows_of(body, place):
     """The rows behind their count: (group, process)."""
-    count, place = int.from_bytes(body[place:place + 4], "big"), place + 4
+    count, place = int.from_bytes(body[place : place + 4], "big"), place + 4
     rows = []
     for _ in range(count):
         group, place = cut(body, place, 1)
         name, place = cut(body, place, 2)
-        creation, number = struct.unpack(">IQ", body[place:place + 12])
+        creation, number = struct.unpack(">IQ", body[place : place + 12])
         rows.append((group, f"{name}/{creation}/{number}"))
         place += 12
     return rows

@@ -18,7 +18,9 @@ class OutOfTime(Exception):
 def check_program(program):
     """That it runs; bin/pg_node may build it first."""
     try:
-        done = subprocess.run([program, "--version"], stdin=subprocess.DEVNULL, stdout=subprocess.DEVNULL, check=False)
+        done = subprocess.run(
+            [program, "--version"], stdin=subprocess.DEVNULL, stdout=subprocess.DEVNULL, check=False
+        )
     except OSError as fault:
         sys.exit(f"{program} can't be run: {fault.strerror}")
     if done.returncode != 0:
@@ -74,7 +76,9 @@ def play(case, make_field, limit):
             field.check_errors()
     except OutOfTime:
         return f"expected an end within {limit} s, came none"
-    except Exception as fault:  # whatever a case meets is its failure, and the others are played all the same
+    except (
+        Exception
+    ) as fault:  # whatever a case meets is its failure, and the others are played all the same
         kind = "" if isinstance(fault, AssertionError) else f"{type(fault).__name__}: "
         return " ".join(f"{kind}{fault}".split())
     finally:
@@ -105,7 +109,9 @@ def verdicts(cases, make_field, limit, at_once):
         yield from (judge(case, make_field, limit) for case in cases)
         return
     with multiprocessing.get_context("fork").Pool(at_once, take_signals, (ended,)) as players:
-        yield from players.imap(functools.partial(judge_named, make_field, limit), [case.__name__ for case in cases])
+        yield from players.imap(
+            functools.partial(judge_named, make_field, limit), [case.__name__ for case in cases]
+        )
 
 
 def play_all(cases, make_field, limit, at_once=1):

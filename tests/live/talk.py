@@ -44,7 +44,9 @@ class Talk:
             result = ready()
             if result is None:
                 came = "the end of its lines" if found else "nothing"
-                raise AssertionError(f"expected {what} of {self.who} within {limit} s, came {came} behind {shown(self._last())}")
+                raise AssertionError(
+                    f"expected {what} of {self.who} within {limit} s, came {came} behind {shown(self._last())}"
+                )
             return result
 
     def _last(self):
@@ -70,16 +72,27 @@ class Talk:
 
     def told_all(self, *patterns, limit=LIMIT):
         """The next news that match, of each pattern, in whatever order they come. All up to the last of them count as seen."""
+
         def ready():
             places = [self._place_of(pattern) for pattern in patterns]
             return None if None in places else places
 
         places = self._await(f"news like {patterns}", ready, limit)
         self._told = max(places) + 1
-        return [(self.news[place][0], re.fullmatch(pattern, self.news[place][1])) for place, pattern in zip(places, patterns)]
+        return [
+            (self.news[place][0], re.fullmatch(pattern, self.news[place][1]))
+            for place, pattern in zip(places, patterns)
+        ]
 
     def _place_of(self, pattern):
-        return next((place for place in range(self._told, len(self.news)) if re.fullmatch(pattern, self.news[place][1])), None)
+        return next(
+            (
+                place
+                for place in range(self._told, len(self.news))
+                if re.fullmatch(pattern, self.news[place][1])
+            ),
+            None,
+        )
 
     def untold(self, pattern):
         """The news so far that match, seen or not."""
@@ -90,7 +103,9 @@ class Talk:
         """Until the node has closed its end of the conversation."""
         with self._moved:
             if not self._moved.wait_for(lambda: self.ended, limit):
-                raise AssertionError(f"expected the end of {self.who}'s lines within {limit} s, came {shown(self._last())}")
+                raise AssertionError(
+                    f"expected the end of {self.who}'s lines within {limit} s, came {shown(self._last())}"
+                )
 
 
 class Control(Talk):

@@ -4,8 +4,11 @@ import ast
 import re
 from collections import Counter
 
-OWN = 'b@h'
-REFUSALS = {'leave': 'no process of the list is in the group', 'leaveremote': 'a row of the list is not in the table as often'}
+OWN = "b@h"
+REFUSALS = {
+    "leave": "no process of the list is in the group",
+    "leaveremote": "a row of the list is not in the table as often",
+}
 
 
 def counted(peer, group, numbers):
@@ -13,7 +16,7 @@ def counted(peer, group, numbers):
 
 
 def pid_texts(pids):
-    return ''.join(f' {name}/1/{number}' for name, number in sorted(pids))
+    return "".join(f" {name}/1/{number}" for name, number in sorted(pids))
 
 
 class Table:
@@ -22,19 +25,27 @@ class Table:
 
     def answer(self, deed):
         """What the deed is answered that is printed so, as `Join("g", [2, 1])`."""
-        kind, words = re.fullmatch(r'(\w+)(\(.*\))?', deed).groups()
-        values = ast.literal_eval(words[:-1] + ',)') if words else ()
+        kind, words = re.fullmatch(r"(\w+)(\(.*\))?", deed).groups()
+        values = ast.literal_eval(words[:-1] + ",)") if words else ()
         before, kind = Counter(self.rows), kind.lower()
-        if kind == 'leaving':
-            return 'pids' + pid_texts(pid for _, pid in (self.rows & counted(OWN, *values)).elements())
+        if kind == "leaving":
+            return "pids" + pid_texts(
+                pid for _, pid in (self.rows & counted(OWN, *values)).elements()
+            )
         if (rows := getattr(self, kind)(*values)) is None:
             return REFUSALS[kind]
         self.rows = +rows
-        return 'changes' + ''.join(self.change(group, before) for group in sorted({group for group, _ in before | self.rows}))
+        return "changes" + "".join(
+            self.change(group, before)
+            for group in sorted({group for group, _ in before | self.rows})
+        )
 
     def change(self, group, before):
-        left, joined = (pid_texts(pid for at, pid in rows.elements() if at == group) for rows in (before - self.rows, self.rows - before))
-        return f' {group} left{left} joined{joined}' if left or joined else ''
+        left, joined = (
+            pid_texts(pid for at, pid in rows.elements() if at == group)
+            for rows in (before - self.rows, self.rows - before)
+        )
+        return f" {group} left{left} joined{joined}" if left or joined else ""
 
     def join(self, group, numbers):
         return self.rows + counted(OWN, group, numbers)
@@ -65,9 +76,11 @@ class Table:
     def state(self):
         """What the readers of the table answer, as it is printed."""
         own = self.rows - self.droppeer(OWN)
-        groups = ''.join(f'{group}{pid_texts(self.pids(self.rows, group))} own {len(self.pids(own, group))}; '
-                         for group in sorted({group for group, _ in self.rows}))
-        return f'= {groups}own groups {len({group for group, _ in own})} own rows {own.total()}'
+        groups = "".join(
+            f"{group}{pid_texts(self.pids(self.rows, group))} own {len(self.pids(own, group))}; "
+            for group in sorted({group for group, _ in self.rows})
+        )
+        return f"= {groups}own groups {len({group for group, _ in own})} own rows {own.total()}"
 
     @staticmethod
     def pids(rows, group):

@@ -10,21 +10,34 @@ from model import Model
 from records import record
 from texts import text_of
 
-REFERRING = ('lost', 'take', 'frame', 'demonitor', 'updates', 'audit')
+REFERRING = ("lost", "take", "frame", "demonitor", "updates", "audit")
 MOST_TRIES = 400
 SECONDS = 600
-FRAMES = {'N': 'Name or Challenge', 'r': 'Reply', 'a': 'Ack', 'D': 'Discover', 'S': 'Sync', 'J': 'Join', 'L': 'Leave', 'X': 'Down'}
-EXITS, IN_PARTS, BROKEN_OFF = 'exit told in several scopes', 'message of several parts', 'message broken off'
+FRAMES = {
+    "N": "Name or Challenge",
+    "r": "Reply",
+    "a": "Ack",
+    "D": "Discover",
+    "S": "Sync",
+    "J": "Join",
+    "L": "Leave",
+    "X": "Down",
+}
+EXITS, IN_PARTS, BROKEN_OFF = (
+    "exit told in several scopes",
+    "message of several parts",
+    "message broken off",
+)
 
-Played = record('Played', 'transcript status')
+Played = record("Played", "transcript status")
 
 
 def by_program(program, script, options=()):
-    command = [program, 'run', *options, *script.arguments()]
+    command = [program, "run", *options, *script.arguments()]
     try:
         run = subprocess.run(command, input=script.text(), capture_output=True, timeout=SECONDS)
     except subprocess.TimeoutExpired:
-        return Played('', f'none within {SECONDS} seconds')
+        return Played("", f"none within {SECONDS} seconds")
     return Played(text_of(run.stdout), run.returncode)
 
 
@@ -39,16 +52,20 @@ def played_by(console):
 def forgotten_so(program, script, keep):
     """How many entries are asked for that a run which keeps so many has forgotten; None where it answers otherwise than a run that keeps
     all, or forgets one of those that it keeps."""
-    theirs, ours = by_program(program, script, ['--keep', str(keep)]), script.played()
+    theirs, ours = by_program(program, script, ["--keep", str(keep)]), script.played()
     answers, count, entries = theirs.transcript.splitlines(), 0, 0
     if (len(answers), theirs.status) != (len(ours.answers), ours.status()):
         return None
     for command, answer, wanted in zip(spoken(script.lines), answers, ours.answers):
-        is_forgotten = answer == 'forgotten' and command.startswith('audit ') and 0 < int(command.split(' ')[1]) <= entries - keep
+        is_forgotten = (
+            answer == "forgotten"
+            and command.startswith("audit ")
+            and 0 < int(command.split(" ")[1]) <= entries - keep
+        )
         if answer != wanted and not is_forgotten:
             return None
         count += is_forgotten
-        entries += not command.startswith(('seat ', 'size', 'audit '))
+        entries += not command.startswith(("seat ", "size", "audit "))
     return count
 
 
@@ -77,16 +94,20 @@ def without(script, first, behind):
     for place in kept:
         if numbers[place] is not None:
             renamed[str(numbers[place])] = str(len(renamed) + 1)
-    gone = {str(number) for place, number in enumerate(numbers) if number is not None and first <= place < behind}
+    gone = {
+        str(number)
+        for place, number in enumerate(numbers)
+        if number is not None and first <= place < behind
+    }
     return script.with_lines([renumbered(script.lines[place], renamed, gone) for place in kept])
 
 
 def renumbered(line, renamed, gone):
-    word, *words = line.split(' ')
+    word, *words = line.split(" ")
     if word not in REFERRING or not words:
         return line
-    number = '0' if words[0] in gone else renamed.get(words[0], words[0])
-    return ' '.join([word, number] + words[1:])
+    number = "0" if words[0] in gone else renamed.get(words[0], words[0])
+    return " ".join([word, number] + words[1:])
 
 
 def shortest(script, still_differs):
@@ -108,7 +129,7 @@ def shortest(script, still_differs):
 
 def first_difference(ours, theirs):
     """The place of the first answer that differs, and both answers."""
-    for place, (one, other) in enumerate(zip(ours.split('\n'), theirs.split('\n'))):
+    for place, (one, other) in enumerate(zip(ours.split("\n"), theirs.split("\n"))):
         if one != other:
             return place, one, other
     return None
@@ -119,24 +140,32 @@ def report(program, script, model=None):
     script = shortest(script, lambda shorter: differs(program, shorter, model))
     theirs, ours = by_program(program, script), by_model(script, model)
     lines = [f'{script.title}, shortened: pg_console run {" ".join(script.arguments())}']
-    lines += [f'  | {line[:400]}' for line in script.lines]
+    lines += [f"  | {line[:400]}" for line in script.lines]
     if (found := first_difference(theirs.transcript, ours.transcript)) is not None:
         place, program_says, model_says = found
-        lines += [f'  answer {place + 1} of the program: {program_says[:400]}', f'  answer {place + 1} of the model:   {model_says[:400]}']
+        lines += [
+            f"  answer {place + 1} of the program: {program_says[:400]}",
+            f"  answer {place + 1} of the model:   {model_says[:400]}",
+        ]
     if theirs.status != ours.status:
-        lines.append(f'  status of the program: {theirs.status}, of the model: {ours.status}')
-    return '\n'.join(lines)
+        lines.append(f"  status of the program: {theirs.status}, of the model: {ours.status}")
+    return "\n".join(lines)
 
 
 def kind_of(answer):
     """The kind of an answer line, for the summary."""
-    words = answer.split(' ')
+    words = answer.split(" ")
     match words[0]:
-        case 'refused': return ' '.join(words)
-        case 'up': return f'up {words[-1]}'
-        case 'updates' | 'out' | 'pids' | 'groups': return words[0] if len(words) > 1 else f'{words[0]} of nothing'
-        case word if word.isdecimal(): return 'audit line'
-        case word: return word
+        case "refused":
+            return " ".join(words)
+        case "up":
+            return f"up {words[-1]}"
+        case "updates" | "out" | "pids" | "groups":
+            return words[0] if len(words) > 1 else f"{words[0]} of nothing"
+        case word if word.isdecimal():
+            return "audit line"
+        case word:
+            return word
 
 
 def coverage(console):
@@ -144,9 +173,9 @@ def coverage(console):
     seen = Counter(kind_of(answer) for answer in console.answers)
     for entry in console.entries:
         if entry.rule is None:
-            seen[f'accepted {type(entry.event).__name__}'] += 1
+            seen[f"accepted {type(entry.event).__name__}"] += 1
         if isinstance(entry.answer, Out):
-            seen.update(f'owed {frame_kind(body)}' for body in entry.answer.bodies)
+            seen.update(f"owed {frame_kind(body)}" for body in entry.answer.bodies)
     return seen + Counter({EXITS: exits_in_several_scopes(console)}) + messages_in_parts(console)
 
 
@@ -154,7 +183,9 @@ def exits_in_several_scopes(console):
     """How many exits owe a link a Leave in each of several scopes."""
     count, h = 0, console.history
     while h is not None:
-        count += isinstance(h.said, Exit) and any(len(console.model.exit_owes(h, link)) > 1 for link in console.model.links(h))
+        count += isinstance(h.said, Exit) and any(
+            len(console.model.exit_owes(h, link)) > 1 for link in console.model.links(h)
+        )
         h = h.past
     return count
 
@@ -165,7 +196,10 @@ def messages_in_parts(console):
     while h.past is not None:
         link, said = model.said_on(h)
         seen[IN_PARTS] += completes(said)
-        seen[BROKEN_OFF] += sum(is_broken_off(model, h, other, other == link and completes(said)) for other in model.open_links(h.past))
+        seen[BROKEN_OFF] += sum(
+            is_broken_off(model, h, other, other == link and completes(said))
+            for other in model.open_links(h.past)
+        )
         h = h.past
     return seen
 
@@ -177,11 +211,15 @@ def completes(said):
 def is_broken_off(model, h, link, is_complete):
     """Whether the newest entry breaks off a message that has begun on a link, or ends the link."""
     begun = model.begun(h.past, link)
-    return bool(begun) and not is_complete and not (model.is_open(h, link) and model.begun(h, link)[:len(begun)] == begun)
+    return (
+        bool(begun)
+        and not is_complete
+        and not (model.is_open(h, link) and model.begun(h, link)[: len(begun)] == begun)
+    )
 
 
 def frame_kind(body):
     word = text_of(body[1:])
-    if body[:1] == b's' and word in STATUSES:
-        return f'status {word}'
+    if body[:1] == b"s" and word in STATUSES:
+        return f"status {word}"
     return FRAMES[chr(body[0])]

@@ -15,8 +15,13 @@ class one_leave_removes_all(Model):
         match h.said:
             case Leave(where, group, pids) if where == scope:
                 left = in_group(group, pids)
-                return {row: count for row, count in self.joined(h.past, scope).items() if row not in left}
-            case _: return super().joined(h, scope)
+                return {
+                    row: count
+                    for row, count in self.joined(h.past, scope).items()
+                    if row not in left
+                }
+            case _:
+                return super().joined(h, scope)
 
 
 class drops_a_second_join(Model):
@@ -25,7 +30,8 @@ class drops_a_second_join(Model):
         match h.said:
             case Join(where, group, pids) if where == scope:
                 return self.joined(h.past, scope) | {row: 1 for row in in_group(group, pids)}
-            case _: return super().joined(h, scope)
+            case _:
+                return super().joined(h, scope)
 
 
 class keeps_rows_after_lost(Model):
@@ -43,7 +49,11 @@ class keeps_rows_after_lost(Model):
 
 class lists_over_a_hidden_link(Model):
     def message_checks(self, h, link, message):
-        return [(rule, broken) for rule, broken in super().message_checks(h, link, message) if rule != 'HiddenLink']
+        return [
+            (rule, broken)
+            for rule, broken in super().message_checks(h, link, message)
+            if rule != "HiddenLink"
+        ]
 
     @looks_back
     def listed(self, h, scope):
@@ -56,14 +66,18 @@ class lists_over_a_hidden_link(Model):
 class names_not_listed_before_no_scope(Model):
     def message_checks(self, h, link, message):
         if isinstance(message, Part) and message.kind is RowsLeave:
-            yield 'NotListed', self.names_more_than_listed(h, message.scope, message.rows)
+            yield "NotListed", self.names_more_than_listed(h, message.scope, message.rows)
         yield from super().message_checks(h, link, message)
 
 
 class restart_keeps_monitors(Model):
     @looks_back
     def monitor(self, h, seat, ref):
-        return self.monitor(h.past, seat, ref) if isinstance(h.said, Restart) else super().monitor(h, seat, ref)
+        return (
+            self.monitor(h.past, seat, ref)
+            if isinstance(h.said, Restart)
+            else super().monitor(h, seat, ref)
+        )
 
 
 class restart_keeps_cookies(Model):
@@ -80,13 +94,21 @@ class nets_updates(Model):
             h = h.past
         then = self.listed(h, scope)
         left, joined = taken_away(then, now), taken_away(now, then)
-        return [(word, changed, members_of(rows, changed)) for changed in groups_of({**left, **joined})
-                for word, rows in (('leave', left), ('join', joined)) if group in (None, changed) and members_of(rows, changed)]
+        return [
+            (word, changed, members_of(rows, changed))
+            for changed in groups_of({**left, **joined})
+            for word, rows in (("leave", left), ("join", joined))
+            if group in (None, changed) and members_of(rows, changed)
+        ]
 
 
 class joins_before_told(Model):
     def if_told(self, h, link, kind, scope, rows):
-        return self.if_visible(h, link, kind(scope, rows)) if kind is RowsJoin and rows else super().if_told(h, link, kind, scope, rows)
+        return (
+            self.if_visible(h, link, kind(scope, rows))
+            if kind is RowsJoin and rows
+            else super().if_told(h, link, kind, scope, rows)
+        )
 
 
 class tells_an_exit_in_the_last_scope_first(Model):
@@ -107,9 +129,12 @@ class empty_list_shuts_out(Model):
     @looks_back
     def was_asked(self, h):
         match h.said:
-            case Begin() | Restart(): return False
-            case Allow(): return True
-            case _: return self.was_asked(h.past)
+            case Begin() | Restart():
+                return False
+            case Allow():
+                return True
+            case _:
+                return self.was_asked(h.past)
 
 
 class ends_older_link_at_true(Model):
@@ -117,15 +142,24 @@ class ends_older_link_at_true(Model):
         return self.awaits(h.past, link) is Awaited.ANSWER
 
     def replaces(self, h, other, link):
-        proves = self.is_true(h, other) and self.is_up(h.past, link) and self.peer_of(h, other) == self.peer_of(h.past, link)
+        proves = (
+            self.is_true(h, other)
+            and self.is_up(h.past, link)
+            and self.peer_of(h, other) == self.peer_of(h.past, link)
+        )
         return proves or super().replaces(h, other, link)
 
     @looks_back
     def present_links(self, h):
         match h.said:
             case Frame(link, _) if self.is_true(h, link):
-                return {name: of for name, of in self.present_links(h.past).items() if name != self.peer_of(h, link)}
-            case _: return super().present_links(h)
+                return {
+                    name: of
+                    for name, of in self.present_links(h.past).items()
+                    if name != self.peer_of(h, link)
+                }
+            case _:
+                return super().present_links(h)
 
 
 class takes_another_creation(Model):
@@ -139,10 +173,14 @@ class removes_before_the_missing_row(Model):
     @looks_back
     def said_rows(self, h, link, scope):
         rows = super().said_rows(h, link, scope)
-        if h.past is None or h.entry.rule != 'NotListed' or h.entry.event.link != link:
+        if h.past is None or h.entry.rule != "NotListed" or h.entry.event.link != link:
             return rows
         part = self.read(h.past, link, h.entry.event.body)
-        return {row: count for row, count in rows.items() if row not in part.rows} if part.scope == scope else rows
+        return (
+            {row: count for row, count in rows.items() if row not in part.rows}
+            if part.scope == scope
+            else rows
+        )
 
 
 class drops_frames_at_a_refusal(Model):
@@ -150,7 +188,12 @@ class drops_frames_at_a_refusal(Model):
 
     @looks_back
     def waiting(self, h, link):
-        if h.past is not None and self.is_open(h.past, link) and not self.is_open(h, link) and h.said is None:
+        if (
+            h.past is not None
+            and self.is_open(h.past, link)
+            and not self.is_open(h, link)
+            and h.said is None
+        ):
             return tuple(self.owed(h, link))
         return super().waiting(h, link)
 
@@ -177,7 +220,7 @@ class drops_the_oldest_frame(Model):
 
     @looks_back
     def waiting(self, h, link):
-        return super().waiting(h, link)[-self.most_waiting:]
+        return super().waiting(h, link)[-self.most_waiting :]
 
 
 class ends_a_slow_link_one_event_late(Model):
@@ -206,4 +249,7 @@ class lets_one_frame_more_wait(Model):
 
 
 EDITS = part_edits.EDITS | {
-    name: edit for name, edit in list(globals().items()) if isinstance(edit, type) and issubclass(edit, Model) and edit is not Model}
+    name: edit
+    for name, edit in list(globals().items())
+    if isinstance(edit, type) and issubclass(edit, Model) and edit is not Model
+}

@@ -12,33 +12,134 @@ from texts import pid_text
 
 # The actions of each theme, with their weights.
 LINKS = {
-    'opened': 6, 'dial': 6, 'advance': 24, 'handshake': 10, 'wrong': 5, 'broken': 4, 'take': 9, 'lost': 3, 'disconnect': 3,
-    'allow': 2, 'cookie': 2, 'cookie_for': 2, 'start': 3, 'frame_of_no_link': 2, 'restart': 1, 'audit': 1,
+    "opened": 6,
+    "dial": 6,
+    "advance": 24,
+    "handshake": 10,
+    "wrong": 5,
+    "broken": 4,
+    "take": 9,
+    "lost": 3,
+    "disconnect": 3,
+    "allow": 2,
+    "cookie": 2,
+    "cookie_for": 2,
+    "start": 3,
+    "frame_of_no_link": 2,
+    "restart": 1,
+    "audit": 1,
 }
 ROWS = {
-    'handshake': 2, 'message': 24, 'wrong_message': 6, 'exchange': 8, 'take': 9, 'members': 5, 'groups': 3, 'start': 4, 'stop': 1,
-    'spawn': 4, 'join': 8, 'leave': 6, 'exit': 2, 'lost': 1, 'disconnect': 1, 'monitor': 2, 'updates': 3, 'opened': 1, 'dial': 1,
-    'advance': 3, 'broken': 2, 'told_scopes': 3, 'parts': 8,
+    "handshake": 2,
+    "message": 24,
+    "wrong_message": 6,
+    "exchange": 8,
+    "take": 9,
+    "members": 5,
+    "groups": 3,
+    "start": 4,
+    "stop": 1,
+    "spawn": 4,
+    "join": 8,
+    "leave": 6,
+    "exit": 2,
+    "lost": 1,
+    "disconnect": 1,
+    "monitor": 2,
+    "updates": 3,
+    "opened": 1,
+    "dial": 1,
+    "advance": 3,
+    "broken": 2,
+    "told_scopes": 3,
+    "parts": 8,
 }
 OWN = {
-    'start': 4, 'stop': 2, 'spawn': 6, 'exit': 3, 'join': 16, 'leave': 12, 'members': 8, 'groups': 5, 'monitor': 5, 'updates': 9,
-    'demonitor': 2, 'seat': 3, 'restart': 2, 'audit': 3, 'cookie': 1, 'cookie_for': 1, 'allow': 1, 'handshake': 1, 'exchange': 1,
-    'take': 2, 'told_scopes': 3,
+    "start": 4,
+    "stop": 2,
+    "spawn": 6,
+    "exit": 3,
+    "join": 16,
+    "leave": 12,
+    "members": 8,
+    "groups": 5,
+    "monitor": 5,
+    "updates": 9,
+    "demonitor": 2,
+    "seat": 3,
+    "restart": 2,
+    "audit": 3,
+    "cookie": 1,
+    "cookie_for": 1,
+    "allow": 1,
+    "handshake": 1,
+    "exchange": 1,
+    "take": 2,
+    "told_scopes": 3,
 }
 MONITORS = {
-    'monitor': 8, 'updates': 18, 'updates_of_another': 2, 'demonitor': 3, 'seat': 4, 'start': 3, 'stop': 1, 'spawn': 3, 'join': 8,
-    'leave': 7, 'exit': 2, 'handshake': 2, 'message': 18, 'exchange': 3, 'lost': 1, 'disconnect': 1, 'restart': 1, 'wrong_message': 2, 'parts': 4,
+    "monitor": 8,
+    "updates": 18,
+    "updates_of_another": 2,
+    "demonitor": 3,
+    "seat": 4,
+    "start": 3,
+    "stop": 1,
+    "spawn": 3,
+    "join": 8,
+    "leave": 7,
+    "exit": 2,
+    "handshake": 2,
+    "message": 18,
+    "exchange": 3,
+    "lost": 1,
+    "disconnect": 1,
+    "restart": 1,
+    "wrong_message": 2,
+    "parts": 4,
 }
-EVERYTHING = {action: 3 for theme in (LINKS, ROWS, OWN, MONITORS) for action in theme} | {'restart': 1, 'advance': 12, 'message': 12}
+EVERYTHING = {action: 3 for theme in (LINKS, ROWS, OWN, MONITORS) for action in theme} | {
+    "restart": 1,
+    "advance": 12,
+    "message": 12,
+}
 THEMES = (LINKS, ROWS, OWN, MONITORS, EVERYTHING)
 # What comes between two parts of a message: some of it breaks the message off.
 BETWEEN_PARTS = (
-    'discover', 'down', 'stopped', 'another_part', 'refused_part', 'wrong_message', 'message', 'handshake', 'start', 'lost', 'disconnect',
-    'join', 'take', 'members', 'updates',
+    "discover",
+    "down",
+    "stopped",
+    "another_part",
+    "refused_part",
+    "wrong_message",
+    "message",
+    "handshake",
+    "start",
+    "lost",
+    "disconnect",
+    "join",
+    "take",
+    "members",
+    "updates",
 )
 BEHIND_A_BURST = (
-    'join', 'leave', 'exit', 'start', 'stop', 'exchange', 'exchange', 'message', 'take', 'lost',
-    'disconnect', 'members', 'groups', 'updates', 'updates', 'handshake', 'dial',
+    "join",
+    "leave",
+    "exit",
+    "start",
+    "stop",
+    "exchange",
+    "exchange",
+    "message",
+    "take",
+    "lost",
+    "disconnect",
+    "members",
+    "groups",
+    "updates",
+    "updates",
+    "handshake",
+    "dial",
 )
 # Every so many scripts one has a burst, and another one meets a limit.
 PERIOD = 40
@@ -50,65 +151,86 @@ class Generator(Peers):
     def restart(self):
         """A restart, and at times a question after what was before it."""
         refs = self.refs()
-        self.say('restart')
+        self.say("restart")
         if refs and self.chance(50):
-            self.say('updates', self.one_of(refs))
+            self.say("updates", self.one_of(refs))
         if self.chance(30):
             self.take()
 
     def cookie(self):
-        self.say('cookie', self.one_of(COOKIES))
+        self.say("cookie", self.one_of(COOKIES))
 
     def cookie_for(self):
-        self.say('cookie_for', self.one_of(PEERS + (self.opening.name,)), self.one_of(COOKIES))
+        self.say("cookie_for", self.one_of(PEERS + (self.opening.name,)), self.one_of(COOKIES))
 
     def allow(self):
         if self.chance(15):
-            self.say('allow')
+            self.say("allow")
         else:
-            self.say('allow', *self.rng.sample(PEERS + ('d@h', self.opening.name), self.rng.randint(2, 5)))
+            self.say(
+                "allow",
+                *self.rng.sample(PEERS + ("d@h", self.opening.name), self.rng.randint(2, 5)),
+            )
 
     def start(self):
-        self.say('start', self.one_of(SCOPES))
+        self.say("start", self.one_of(SCOPES))
 
     def stop(self):
-        self.say('stop', self.scope())
+        self.say("stop", self.scope())
 
     def spawn(self):
-        self.say('spawn')
+        self.say("spawn")
 
     def own_pid(self):
         """A process, mostly one that lives; one is spawned first where none lives, mostly."""
         if not self.model.living(self.h) and self.chance(80):
             self.spawn()
-        living = [pid for number in range(1, self.model.spawned(self.h) + 1)
-                  if self.model.lives(self.h, pid := self.model.new_pid(self.h)._replace(number=number))]
+        living = [
+            pid
+            for number in range(1, self.model.spawned(self.h) + 1)
+            if self.model.lives(self.h, pid := self.model.new_pid(self.h)._replace(number=number))
+        ]
         if living and self.chance(85):
             return self.one_of(living)
-        pid = self.model.new_pid(self.h)._replace(number=self.rng.randint(1, self.model.spawned(self.h) + 1))
-        return self.one_of((pid, pid._replace(creation=1), pid._replace(name='a@h'), pid._replace(number=2**64 - 1),
-                            pid._replace(number=0)))
+        pid = self.model.new_pid(self.h)._replace(
+            number=self.rng.randint(1, self.model.spawned(self.h) + 1)
+        )
+        return self.one_of(
+            (
+                pid,
+                pid._replace(creation=1),
+                pid._replace(name="a@h"),
+                pid._replace(number=2**64 - 1),
+                pid._replace(number=0),
+            )
+        )
 
     def own_pids(self):
         return [pid_text(self.own_pid()) for _ in range(self.one_of((0, 1, 1, 1, 2, 2, 3)))]
 
     def exit(self):
-        self.say('exit', pid_text(self.own_pid()))
+        self.say("exit", pid_text(self.own_pid()))
 
     def join(self):
-        self.say('join', self.scope(), self.one_of(GROUPS), *self.own_pids())
+        self.say("join", self.scope(), self.one_of(GROUPS), *self.own_pids())
 
     def leave(self):
         """Takes processes out of a group, mostly such as are in it."""
         scope = self.scope()
         if not self.model.own(self.h, scope) and self.chance(70):
-            self.say('join', scope, self.one_of(GROUPS), pid_text(self.own_pid()))
+            self.say("join", scope, self.one_of(GROUPS), pid_text(self.own_pid()))
         rows = sorted(self.model.own(self.h, scope))
         if not rows or self.chance(15):
-            self.say('leave', scope, self.one_of(GROUPS), *self.own_pids())
+            self.say("leave", scope, self.one_of(GROUPS), *self.own_pids())
             return
         group, pid = self.one_of(rows)
-        self.say('leave', scope, group, *[pid_text(pid)] * self.one_of((1, 1, 1, 2)), *(self.own_pids() if self.chance(30) else []))
+        self.say(
+            "leave",
+            scope,
+            group,
+            *[pid_text(pid)] * self.one_of((1, 1, 1, 2)),
+            *(self.own_pids() if self.chance(30) else []),
+        )
 
     def group(self, scope):
         """A group, mostly one that has members."""
@@ -117,17 +239,17 @@ class Generator(Peers):
 
     def members(self):
         scope = self.scope()
-        self.say(self.one_of(('members', 'members', 'local_members')), scope, self.group(scope))
+        self.say(self.one_of(("members", "members", "local_members")), scope, self.group(scope))
 
     def groups(self):
-        self.say(self.one_of(('groups', 'local_groups')), self.scope())
+        self.say(self.one_of(("groups", "local_groups")), self.scope())
 
     def monitor(self):
         if self.chance(40):
-            self.say('monitor_scope', self.scope())
+            self.say("monitor_scope", self.scope())
         else:
             scope = self.scope()
-            self.say('monitor', scope, self.group(scope))
+            self.say("monitor", scope, self.group(scope))
 
     def ref(self):
         """The number of a monitor, mostly one of the seat that asks, which is made first where there is none."""
@@ -137,46 +259,70 @@ class Generator(Peers):
         untold = [ref for ref in refs if self.model.updates(self.h, self.console.seat, ref)]
         if untold and self.chance(70):
             return self.one_of(untold)
-        return self.one_of(refs) if refs and self.chance(90) else self.rng.randint(0, self.h.number + 1)
+        return (
+            self.one_of(refs)
+            if refs and self.chance(90)
+            else self.rng.randint(0, self.h.number + 1)
+        )
 
     def refs(self):
-        made = [entry.number for entry in self.console.entries if isinstance(entry.event, (Monitor, MonitorScope))]
+        made = [
+            entry.number
+            for entry in self.console.entries
+            if isinstance(entry.event, (Monitor, MonitorScope))
+        ]
         return [ref for ref in made if self.model.monitor(self.h, self.console.seat, ref)]
 
     def demonitor(self):
-        self.say('demonitor', self.ref())
+        self.say("demonitor", self.ref())
 
     def updates(self):
-        self.say('updates', self.ref())
+        self.say("updates", self.ref())
 
     def updates_of_another(self):
         """Another seat asks for what a monitor has to tell, and then its own seat does."""
         ref, seat = self.ref(), self.console.seat
-        self.say('seat', seat + 1 if seat < 5 else 0)
-        self.say('updates', ref)
-        self.say('seat', seat)
-        self.say('updates', ref)
+        self.say("seat", seat + 1 if seat < 5 else 0)
+        self.say("updates", ref)
+        self.say("seat", seat)
+        self.say("updates", ref)
 
     def seat(self):
-        self.say('seat', self.one_of((0, 0, 1, 2, 4_294_967_295)))
+        self.say("seat", self.one_of((0, 0, 1, 2, 4_294_967_295)))
 
     def audit(self):
-        self.say(*self.one_of((('size',), ('audit', self.rng.randint(0, self.h.number + 1)), ('audit', self.h.number))))
+        self.say(
+            *self.one_of(
+                (
+                    ("size",),
+                    ("audit", self.rng.randint(0, self.h.number + 1)),
+                    ("audit", self.h.number),
+                )
+            )
+        )
 
     def opened(self):
-        self.say('opened', self.challenge())
+        self.say("opened", self.challenge())
 
     def dial(self):
-        self.say('dial', self.peer() if self.chance(95) else self.opening.name, self.challenge())
+        self.say("dial", self.peer() if self.chance(95) else self.opening.name, self.challenge())
 
     def frame(self, link, body):
         text = body.hex()
-        self.say('frame', link, text.upper() if self.chance(5) else text)
+        self.say("frame", link, text.upper() if self.chance(5) else text)
 
     def link(self, is_up=None):
         """An open link, of which the handshake is whole or not where that is said, or None."""
-        links = [link for link in self.model.open_links(self.h) if is_up in (None, self.model.is_whole(self.h, link))]
-        visible = [link for link in links if self.model.is_up(self.h, link) and self.model.is_visible(self.h, link)]
+        links = [
+            link
+            for link in self.model.open_links(self.h)
+            if is_up in (None, self.model.is_whole(self.h, link))
+        ]
+        visible = [
+            link
+            for link in links
+            if self.model.is_up(self.h, link) and self.model.is_visible(self.h, link)
+        ]
         if is_up and visible and self.chance(95):
             return self.one_of(visible)
         return self.one_of(links) if links else None
@@ -191,12 +337,16 @@ class Generator(Peers):
         """Opens or dials a link, and brings it up, mostly."""
         self.one_of((self.opened, self.dial))()
         link = self.h.number
-        while self.model.is_open(self.h, link) and not self.model.is_whole(self.h, link) and self.chance(97):
+        while (
+            self.model.is_open(self.h, link)
+            and not self.model.is_whole(self.h, link)
+            and self.chance(97)
+        ):
             self.frame(link, self.right_frame(link))
             if self.model.is_full(self.h):
                 break
             if self.chance(15):
-                self.say('take', link)
+                self.say("take", link)
         return link
 
     def wrong(self):
@@ -208,7 +358,9 @@ class Generator(Peers):
             self.frame(link, self.broken_frame(link))
 
     def frame_of_no_link(self):
-        self.frame(self.rng.randint(0, self.h.number + 1), self.one_of((self.name_frame(), b'sok', b'\0')))
+        self.frame(
+            self.rng.randint(0, self.h.number + 1), self.one_of((self.name_frame(), b"sok", b"\0"))
+        )
 
     def message(self):
         if (link := self.link(is_up=True)) is None:
@@ -244,22 +396,35 @@ class Generator(Peers):
 
     def between_parts(self, link, part):
         match self.one_of(BETWEEN_PARTS):
-            case 'discover': self.frame(link, message_body(Discover(self.one_of((part.scope, self.scope())))))
-            case 'down': self.frame(link, message_body(Down(self.one_of((part.scope, self.scope())))))
-            case 'stopped': self.stop_between(self.one_of((part.scope, self.scope())))
-            case 'another_part': self.frame(link, part_body(self.changed_part(part)))
-            case 'refused_part': self.frame(link, part_body(part._replace(rows=(self.foreign_row(link),))))
-            case action: getattr(self, action)()
+            case "discover":
+                self.frame(link, message_body(Discover(self.one_of((part.scope, self.scope())))))
+            case "down":
+                self.frame(link, message_body(Down(self.one_of((part.scope, self.scope())))))
+            case "stopped":
+                self.stop_between(self.one_of((part.scope, self.scope())))
+            case "another_part":
+                self.frame(link, part_body(self.changed_part(part)))
+            case "refused_part":
+                self.frame(link, part_body(part._replace(rows=(self.foreign_row(link),))))
+            case action:
+                getattr(self, action)()
 
     def stop_between(self, scope):
-        self.say('stop', scope)
+        self.say("stop", scope)
         if self.chance(70):
-            self.say('start', scope)
+            self.say("start", scope)
 
     def changed_part(self, part):
         """A part of another message, or another place of the same one."""
-        return self.one_of((part._replace(kind=Sync), part._replace(scope=self.scope()), part._replace(number=1), part._replace(last=True),
-                            part._replace(number=part.number + 2)))
+        return self.one_of(
+            (
+                part._replace(kind=Sync),
+                part._replace(scope=self.scope()),
+                part._replace(number=1),
+                part._replace(last=True),
+                part._replace(number=part.number + 2),
+            )
+        )
 
     def told_scopes(self):
         """Tells a peer of some scopes, and joins one process in each of them, in any order; mostly it exits."""
@@ -270,16 +435,16 @@ class Generator(Peers):
             self.tell_of(link, scope)
         pid = pid_text(self.own_pid())
         for scope in self.rng.sample(scopes, len(scopes)):
-            self.say('join', scope, self.one_of(GROUPS), *[pid] * self.one_of((1, 1, 2)))
+            self.say("join", scope, self.one_of(GROUPS), *[pid] * self.one_of((1, 1, 2)))
         if self.chance(80):
-            self.say('exit', pid)
+            self.say("exit", pid)
         if self.chance(80):
-            self.say('take', link)
+            self.say("take", link)
 
     def tell_of(self, link, scope):
         """Lets a peer discover a scope that runs, where it hasn't yet."""
         if not self.model.is_running(self.h, scope):
-            self.say('start', scope)
+            self.say("start", scope)
         if not self.model.tells(self.h, link, scope):
             self.frame(link, message_body(Discover(scope)))
 
@@ -290,17 +455,17 @@ class Generator(Peers):
             self.tell_of(link, scope)
             self.send(link, Sync(scope, self.peer_rows(link, 0, 3)))
         if self.chance(60):
-            self.say('take', link)
+            self.say("take", link)
 
     def burst(self):
         """Tells some links of about as many joins as end them, and then whatever may end those that are left."""
-        scope, group, pid = self.scope(100), self.one_of(GROUPS), self.say('spawn').split()[-1]
+        scope, group, pid = self.scope(100), self.one_of(GROUPS), self.say("spawn").split()[-1]
         for _ in range(self.one_of((1, 2, 2, 3))):
             self.told_link(scope)
         if self.chance(70):
             self.monitor()
         for _ in range(self.rng.randint(1020, 1030)):
-            self.say('join', scope, group, pid)
+            self.say("join", scope, group, pid)
             if self.chance(0.05):
                 self.take()
         for action in self.rng.choices(BEHIND_A_BURST, k=20):
@@ -309,23 +474,34 @@ class Generator(Peers):
     def some_link(self):
         """A link, mostly one that is kept."""
         kept = [link for link in self.model.links(self.h) if self.model.is_kept(self.h, link)]
-        return self.one_of(kept) if kept and self.chance(90) else self.rng.randint(0, self.h.number + 1)
+        return (
+            self.one_of(kept)
+            if kept and self.chance(90)
+            else self.rng.randint(0, self.h.number + 1)
+        )
 
     def take(self):
-        self.say('take', self.some_link())
+        self.say("take", self.some_link())
 
     def lost(self):
-        self.say('lost', self.some_link())
+        self.say("lost", self.some_link())
 
     def disconnect(self):
-        self.say('disconnect', self.peer())
+        self.say("disconnect", self.peer())
 
 
 def opening_of(rng):
     creation = rng.choice((1, 1, 4, 7, 0, 4_294_967_294, 4_294_967_295))
     entries = rng.choice((10, 25, 60)) if rng.random() < 0.06 else MOST_ENTRIES
     links = 1 if rng.random() < 0.4 else 2
-    return Opening(rng.choice(('b@h', 'm@h', 'b@h')), rng.choice(('password', 'secret')), rng.random() < 0.06, creation, entries, links)
+    return Opening(
+        rng.choice(("b@h", "m@h", "b@h")),
+        rng.choice(("password", "secret")),
+        rng.random() < 0.06,
+        creation,
+        entries,
+        links,
+    )
 
 
 def write(writer, rng, length):
@@ -342,10 +518,10 @@ def of_theme(rng, title):
     write(writer, rng, rng.randint(30, 130))
     if writer.chance(5):
         for number in range(writer.h.number + 1):
-            writer.say('audit', number)
+            writer.say("audit", number)
     if writer.chance(15):
         writer.say(rng.choice(FAULTS))
-        writer.say('size')
+        writer.say("size")
     return writer.script(title, writer.chance(10))
 
 
@@ -363,25 +539,25 @@ class Filler(Generator):
     def say(self, *words):
         if self.chance(6):
             for _ in range(self.rng.randint(20, 150)):
-                super().say('take', 0)
+                super().say("take", 0)
         return super().say(*words)
 
 
 def of_many_pages(seed, number):
     """A script of more entries than a page, with questions for some of them."""
-    rng = Random(f'{seed}/pages/{number}')
+    rng = Random(f"{seed}/pages/{number}")
     writer = Filler(rng, opening_of(rng)._replace(most_entries=MOST_ENTRIES))
     write(writer, rng, 900)
     for entry in rng.sample(range(writer.h.number + 1), 40):
-        writer.say('audit', entry)
+        writer.say("audit", entry)
     for _ in range(20):
         writer.updates()
-    return writer.script(f'seed {seed}, script {number} of many pages')
+    return writer.script(f"seed {seed}, script {number} of many pages")
 
 
 def script_of(seed, number):
     """The script of a seed with a number; now and then one with a burst, or one that meets a limit."""
-    rng, title = Random(f'{seed}/{number}'), f'seed {seed}, script {number}'
+    rng, title = Random(f"{seed}/{number}"), f"seed {seed}, script {number}"
     if number % PERIOD == 27:
         return with_burst(rng, title)
     if number % PERIOD == 7 and number // PERIOD < len(LIMITS):

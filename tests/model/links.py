@@ -2,7 +2,15 @@
 
 from enum import Enum, auto
 
-from frames import PUBLISHED, READ_SAID, read_ack, read_challenge, read_name, read_reply, read_status
+from frames import (
+    PUBLISHED,
+    READ_SAID,
+    read_ack,
+    read_challenge,
+    read_name,
+    read_reply,
+    read_status,
+)
 from history import Begin, Dial, Disconnect, Frame, Lost, Opened, Restart, Up, looks_back
 
 
@@ -11,8 +19,12 @@ class Awaited(Enum):
 
 
 READERS = {
-    Awaited.NAME: read_name, Awaited.ANSWER: read_status, Awaited.REPLY: read_reply, Awaited.STATUS: read_status,
-    Awaited.CHALLENGE: read_challenge, Awaited.ACK: read_ack,
+    Awaited.NAME: read_name,
+    Awaited.ANSWER: read_status,
+    Awaited.REPLY: read_reply,
+    Awaited.STATUS: read_status,
+    Awaited.CHALLENGE: read_challenge,
+    Awaited.ACK: read_ack,
 }
 
 
@@ -20,17 +32,24 @@ class Sides:
     @looks_back
     def present_links(self, h):
         """The present link of each name that is up."""
-        return {name: link for name, link in self.links_by_event(h).items() if not self.is_slow(h, link)}
+        return {
+            name: link for name, link in self.links_by_event(h).items() if not self.is_slow(h, link)
+        }
 
     def links_by_event(self, h):
         """What the event of the newest entry makes of the present links, whatever it owes."""
         links = {} if h.past is None else self.present_links(h.past)
         match h.said:
-            case Begin() | Restart(): return {}
-            case Frame(link, _) if isinstance(h.entry.answer, Up): return {**links, h.entry.answer.name: link}
-            case Lost(link): return {name: present for name, present in links.items() if present != link}
-            case Disconnect(name): return {other: link for other, link in links.items() if other != name}
-            case _: return links
+            case Begin() | Restart():
+                return {}
+            case Frame(link, _) if isinstance(h.entry.answer, Up):
+                return {**links, h.entry.answer.name: link}
+            case Lost(link):
+                return {name: present for name, present in links.items() if present != link}
+            case Disconnect(name):
+                return {other: link for other, link in links.items() if other != name}
+            case _:
+                return links
 
     def present_link(self, h, name):
         return self.present_links(h).get(name)
@@ -42,17 +61,23 @@ class Sides:
     def links(self, h):
         """The links opened since the last restart, each with the event that opened it."""
         match h.said:
-            case Begin() | Restart(): return {}
-            case Opened() | Dial(): return {**self.links(h.past), h.number: h.said}
-            case _: return self.links(h.past)
+            case Begin() | Restart():
+                return {}
+            case Opened() | Dial():
+                return {**self.links(h.past), h.number: h.said}
+            case _:
+                return self.links(h.past)
 
     @looks_back
     def taken(self, h, link):
         """The accepted frames of a link, the oldest first, each with the history before it."""
         match h.said:
-            case Begin() | Restart(): return ()
-            case Frame(of, body) if of == link: return self.taken(h.past, link) + ((h.past, body),)
-            case _: return self.taken(h.past, link)
+            case Begin() | Restart():
+                return ()
+            case Frame(of, body) if of == link:
+                return self.taken(h.past, link) + ((h.past, body),)
+            case _:
+                return self.taken(h.past, link)
 
     def given(self, h, link):
         """The frame with flags, creation and name of the peer: an acceptor has them from the Name, a dialler from the Challenge."""
@@ -99,7 +124,11 @@ class Sides:
 
     def read(self, h, link, body):
         """What a body says to a link that awaits a frame of the handshake, or a message; None where it isn't that."""
-        reader = READ_SAID[self.version(h, link)] if self.is_whole(h, link) else READERS[self.awaits(h, link)]
+        reader = (
+            READ_SAID[self.version(h, link)]
+            if self.is_whole(h, link)
+            else READERS[self.awaits(h, link)]
+        )
         return reader(body)
 
 
@@ -107,9 +136,12 @@ class Links:
     @looks_back
     def is_open(self, h, link):
         match h.said:
-            case Begin() | Restart(): return False
-            case Opened() | Dial() if h.number == link: return True
-            case _: return self.is_open(h.past, link) and not self.ends(h, link)
+            case Begin() | Restart():
+                return False
+            case Opened() | Dial() if h.number == link:
+                return True
+            case _:
+                return self.is_open(h.past, link) and not self.ends(h, link)
 
     def is_up(self, h, link):
         return self.is_open(h, link) and self.is_whole(h, link)
@@ -120,19 +152,27 @@ class Links:
 
     def is_ended_by_event(self, h, link):
         match h.entry.event, h.said:
-            case Frame(of, _), None: return of == link and not self.is_whole(h.past, link)
-            case _, Frame(of, _): return of != link and self.frame_ends(h, of, link)
-            case _, Lost(of): return of == link
-            case _, Disconnect(name): return self.is_up(h.past, link) and self.peer_of(h.past, link) == name
-            case _: return False
+            case Frame(of, _), None:
+                return of == link and not self.is_whole(h.past, link)
+            case _, Frame(of, _):
+                return of != link and self.frame_ends(h, of, link)
+            case _, Lost(of):
+                return of == link
+            case _, Disconnect(name):
+                return self.is_up(h.past, link) and self.peer_of(h.past, link) == name
+            case _:
+                return False
 
     def frame_ends(self, h, other, link):
         """Whether the newest entry, an accepted frame of another link, ends this one."""
         return self.replaces(h, other, link) or self.gives_up(h, other, link)
 
     def replaces(self, h, other, link):
-        return (self.is_last(h, other) and self.is_up(h.past, link)
-                and self.peer_of(h, other) == self.peer_of(h.past, link))
+        return (
+            self.is_last(h, other)
+            and self.is_up(h.past, link)
+            and self.peer_of(h, other) == self.peer_of(h.past, link)
+        )
 
     def is_last(self, h, link):
         return self.is_whole(h, link) and not self.is_whole(h.past, link)

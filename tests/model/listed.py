@@ -1,7 +1,17 @@
 """What peers have said of their rows, what is listed, what an entry changes of it, and what monitors are told."""
 
 from frames import Discover, Down, Part, RowsJoin, RowsLeave, Sync
-from history import (Begin, Demonitor, Frame, Monitor, MonitorScope, Restart, StopScope, Updates, looks_back)
+from history import (
+    Begin,
+    Demonitor,
+    Frame,
+    Monitor,
+    MonitorScope,
+    Restart,
+    StopScope,
+    Updates,
+    looks_back,
+)
 from own import less, more, spelled, taken_away
 
 
@@ -10,8 +20,10 @@ class Parts:
     def said_on(self, h):
         """The link and what is said there by the newest entry, where that is an accepted frame of an up link."""
         match h.said:
-            case Frame(link, body) if self.is_whole(h.past, link): return link, self.read(h.past, link, body)
-            case _: return None, None
+            case Frame(link, body) if self.is_whole(h.past, link):
+                return link, self.read(h.past, link, body)
+            case _:
+                return None, None
 
     @looks_back
     def begun(self, h, link):
@@ -21,7 +33,11 @@ class Parts:
             return ()
         of, said = self.said_on(h)
         if of == link:
-            return self.parts_up_to(h.past, link, said) if isinstance(said, Part) and not said.last else ()
+            return (
+                self.parts_up_to(h.past, link, said)
+                if isinstance(said, Part) and not said.last
+                else ()
+            )
         parts = self.begun(h.past, link)
         return () if parts and h.said == StopScope(parts[0].scope) else parts
 
@@ -35,7 +51,11 @@ class Parts:
     def is_next(self, h, link, part):
         """Whether a part that isn't the first one goes on with the message that has begun."""
         parts = self.begun(h, link)
-        return bool(parts) and (part.kind, part.scope, part.number) == (parts[-1].kind, parts[-1].scope, parts[-1].number + 1)
+        return bool(parts) and (part.kind, part.scope, part.number) == (
+            parts[-1].kind,
+            parts[-1].scope,
+            parts[-1].number + 1,
+        )
 
 
 class Hearing:
@@ -45,7 +65,11 @@ class Hearing:
         link, said = self.said_on(h)
         if not isinstance(said, Part):
             return link, said
-        return (link, said.kind(said.scope, self.rows_so_far(h.past, link, said))) if said.last else (None, None)
+        return (
+            (link, said.kind(said.scope, self.rows_so_far(h.past, link, said)))
+            if said.last
+            else (None, None)
+        )
 
     @looks_back
     def told(self, h, link, scope):
@@ -77,10 +101,14 @@ class Hearing:
             return {}
         rows = self.said_rows(h.past, link, scope)
         match self.message(h):
-            case of, Sync(where, stated) if (of, where) == (link, scope): return more({}, stated)
-            case of, RowsJoin(where, joined) if (of, where) == (link, scope): return more(rows, joined)
-            case of, RowsLeave(where, left) if (of, where) == (link, scope): return less(rows, left)
-            case _: return rows
+            case of, Sync(where, stated) if (of, where) == (link, scope):
+                return more({}, stated)
+            case of, RowsJoin(where, joined) if (of, where) == (link, scope):
+                return more(rows, joined)
+            case of, RowsLeave(where, left) if (of, where) == (link, scope):
+                return less(rows, left)
+            case _:
+                return rows
 
     def stated(self, h, link, scope):
         return self.said_rows(h, link, scope) if self.hears(h, link, scope) else {}
@@ -98,7 +126,11 @@ class Listed:
         rows = dict(self.own(h, scope))
         for link in self.present_links(h).values():
             if self.is_visible(h, link):
-                rows.update((row, count) for row, count in self.stated(h, link, scope).items() if self.is_from(h, link, row[1]))
+                rows.update(
+                    (row, count)
+                    for row, count in self.stated(h, link, scope).items()
+                    if self.is_from(h, link, row[1])
+                )
         return rows
 
     def members(self, h, scope, group):
@@ -123,7 +155,10 @@ class Listed:
             return []
         before, after = self.listed(h.past, scope), self.listed(h, scope)
         left, joined = taken_away(before, after), taken_away(after, before)
-        return [(group, members_of(left, group), members_of(joined, group)) for group in groups_of({**left, **joined})]
+        return [
+            (group, members_of(left, group), members_of(joined, group))
+            for group in groups_of({**left, **joined})
+        ]
 
 
 class Monitors:
@@ -131,10 +166,14 @@ class Monitors:
     def monitor(self, h, seat, ref):
         """What the seat's monitor of that number watches, a scope and a group or None, or None."""
         match h.said:
-            case Begin() | Restart(): return None
-            case Monitor(scope, group) if (h.number, h.entry.seat) == (ref, seat): return scope, group
-            case MonitorScope(scope) if (h.number, h.entry.seat) == (ref, seat): return scope, None
-            case Demonitor(of) if (of, h.entry.seat) == (ref, seat): return None
+            case Begin() | Restart():
+                return None
+            case Monitor(scope, group) if (h.number, h.entry.seat) == (ref, seat):
+                return scope, group
+            case MonitorScope(scope) if (h.number, h.entry.seat) == (ref, seat):
+                return scope, None
+            case Demonitor(of) if (of, h.entry.seat) == (ref, seat):
+                return None
         watched = self.monitor(h.past, seat, ref)
         return None if watched and h.said == StopScope(watched[0]) else watched
 
@@ -153,12 +192,18 @@ class Monitors:
         told = []
         for changed, left, joined in self.change(h, scope):
             if group in (None, changed):
-                told += [(word, changed, pids) for word, pids in (('leave', left), ('join', joined)) if pids]
+                told += [
+                    (word, changed, pids)
+                    for word, pids in (("leave", left), ("join", joined))
+                    if pids
+                ]
         return told
 
 
 def members_of(rows, group):
-    return [pid for of, pid in spelled({row: count for row, count in rows.items() if row[0] == group})]
+    return [
+        pid for of, pid in spelled({row: count for row, count in rows.items() if row[0] == group})
+    ]
 
 
 def groups_of(rows):

@@ -1,6 +1,19 @@
 """What is the node's own: its creation, its cookies, whom it allows, its scopes, its processes and their memberships."""
 
-from history import (Allow, Begin, Exit, Join, Leave, Restart, SetCookie, SetCookieFor, Spawn, StartScope, StopScope, looks_back)
+from history import (
+    Allow,
+    Begin,
+    Exit,
+    Join,
+    Leave,
+    Restart,
+    SetCookie,
+    SetCookieFor,
+    Spawn,
+    StartScope,
+    StopScope,
+    looks_back,
+)
 from texts import Pid
 
 
@@ -8,25 +21,35 @@ class Admission:
     @looks_back
     def creation(self, h):
         match h.said:
-            case Begin(): return h.opening.creation
-            case Restart(): return self.creation(h.past) + 1
-            case _: return self.creation(h.past)
+            case Begin():
+                return h.opening.creation
+            case Restart():
+                return self.creation(h.past) + 1
+            case _:
+                return self.creation(h.past)
 
     @looks_back
     def own_cookie(self, h):
         match h.said:
-            case Begin() | Restart(): return h.opening.cookie
-            case SetCookie(cookie): return cookie
-            case SetCookieFor(name, cookie) if name == h.opening.name: return cookie
-            case _: return self.own_cookie(h.past)
+            case Begin() | Restart():
+                return h.opening.cookie
+            case SetCookie(cookie):
+                return cookie
+            case SetCookieFor(name, cookie) if name == h.opening.name:
+                return cookie
+            case _:
+                return self.own_cookie(h.past)
 
     @looks_back
     def peer_cookies(self, h):
         """The peers with a cookie of their own, each with it."""
         match h.said:
-            case Begin() | Restart(): return {}
-            case SetCookieFor(name, cookie) if name != h.opening.name: return {**self.peer_cookies(h.past), name: cookie}
-            case _: return self.peer_cookies(h.past)
+            case Begin() | Restart():
+                return {}
+            case SetCookieFor(name, cookie) if name != h.opening.name:
+                return {**self.peer_cookies(h.past), name: cookie}
+            case _:
+                return self.peer_cookies(h.past)
 
     def cookie(self, h, name):
         return self.peer_cookies(h).get(name, self.own_cookie(h))
@@ -34,9 +57,12 @@ class Admission:
     @looks_back
     def allow_list(self, h):
         match h.said:
-            case Begin() | Restart(): return frozenset()
-            case Allow(names): return self.allow_list(h.past) | set(names)
-            case _: return self.allow_list(h.past)
+            case Begin() | Restart():
+                return frozenset()
+            case Allow(names):
+                return self.allow_list(h.past) | set(names)
+            case _:
+                return self.allow_list(h.past)
 
     def allowed(self, h, name):
         names = self.allow_list(h)
@@ -47,10 +73,14 @@ class Own:
     @looks_back
     def running_scopes(self, h):
         match h.said:
-            case Begin() | Restart(): return frozenset()
-            case StartScope(scope): return self.running_scopes(h.past) | {scope}
-            case StopScope(scope): return self.running_scopes(h.past) - {scope}
-            case _: return self.running_scopes(h.past)
+            case Begin() | Restart():
+                return frozenset()
+            case StartScope(scope):
+                return self.running_scopes(h.past) | {scope}
+            case StopScope(scope):
+                return self.running_scopes(h.past) - {scope}
+            case _:
+                return self.running_scopes(h.past)
 
     def is_running(self, h, scope):
         return scope in self.running_scopes(h)
@@ -58,16 +88,22 @@ class Own:
     @looks_back
     def spawned(self, h):
         match h.said:
-            case Begin() | Restart(): return 0
-            case Spawn(): return self.spawned(h.past) + 1
-            case _: return self.spawned(h.past)
+            case Begin() | Restart():
+                return 0
+            case Spawn():
+                return self.spawned(h.past) + 1
+            case _:
+                return self.spawned(h.past)
 
     @looks_back
     def exited(self, h):
         match h.said:
-            case Begin() | Restart(): return frozenset()
-            case Exit(pid): return self.exited(h.past) | {pid}
-            case _: return self.exited(h.past)
+            case Begin() | Restart():
+                return frozenset()
+            case Exit(pid):
+                return self.exited(h.past) | {pid}
+            case _:
+                return self.exited(h.past)
 
     def living(self, h):
         return self.spawned(h) - len(self.exited(h))
@@ -76,7 +112,11 @@ class Own:
         return pid.name == h.opening.name and pid.creation == self.creation(h)
 
     def lives(self, h, pid):
-        return self.is_local(h, pid) and 1 <= pid.number <= self.spawned(h) and pid not in self.exited(h)
+        return (
+            self.is_local(h, pid)
+            and 1 <= pid.number <= self.spawned(h)
+            and pid not in self.exited(h)
+        )
 
     def new_pid(self, h):
         return Pid(h.opening.name, self.creation(h), self.spawned(h) + 1)
@@ -85,12 +125,18 @@ class Own:
     def joined(self, h, scope):
         """How often each process is joined to each group, as a dictionary of rows."""
         match h.said:
-            case Begin() | Restart(): return {}
-            case StartScope(started) if started == scope: return {}
-            case Exit(pid): return without(self.joined(h.past, scope), pid)
-            case Join(where, group, pids) if where == scope: return more(self.joined(h.past, scope), in_group(group, pids))
-            case Leave(where, group, pids) if where == scope: return less(self.joined(h.past, scope), in_group(group, pids))
-            case _: return self.joined(h.past, scope)
+            case Begin() | Restart():
+                return {}
+            case StartScope(started) if started == scope:
+                return {}
+            case Exit(pid):
+                return without(self.joined(h.past, scope), pid)
+            case Join(where, group, pids) if where == scope:
+                return more(self.joined(h.past, scope), in_group(group, pids))
+            case Leave(where, group, pids) if where == scope:
+                return less(self.joined(h.past, scope), in_group(group, pids))
+            case _:
+                return self.joined(h.past, scope)
 
     def own(self, h, scope):
         return self.joined(h, scope) if self.is_running(h, scope) else {}
@@ -130,4 +176,6 @@ def spelled(rows):
 
 def taken_away(before, after):
     """The rows that there were more of before."""
-    return {row: count - after.get(row, 0) for row, count in before.items() if count > after.get(row, 0)}
+    return {
+        row: count - after.get(row, 0) for row, count in before.items() if count > after.get(row, 0)
+    }

@@ -11,7 +11,9 @@ class lists_a_part_before_the_last(Model):
         link, said = self.said_on(h)
         if not isinstance(said, Part):
             return link, said
-        return link, said.kind(said.scope, self.rows_so_far(h.past, link, said) if said.kind is Sync else said.rows)
+        return link, said.kind(
+            said.scope, self.rows_so_far(h.past, link, said) if said.kind is Sync else said.rows
+        )
 
 
 class lists_the_last_part_alone(Model):
@@ -29,16 +31,28 @@ class lets_part_two_follow_a_refusal(Model):
     @looks_back
     def begun(self, h, link):
         match h.past and h.entry.event, h.past and h.entry.rule:
-            case Frame(of, body), str() if of == link and link in self.links(h.past) and self.is_whole(h.past, link):
+            case Frame(of, body), str() if of == link and link in self.links(
+                h.past
+            ) and self.is_whole(h.past, link):
                 said = self.read(h.past, link, body)
-                return self.parts_up_to(h.past, link, said) if isinstance(said, Part) and not said.last else self.begun(h.past, link)
-            case _: return super().begun(h, link)
+                return (
+                    self.parts_up_to(h.past, link, said)
+                    if isinstance(said, Part) and not said.last
+                    else self.begun(h.past, link)
+                )
+            case _:
+                return super().begun(h, link)
 
 
 class breaks_off_at_a_refusal(Model):
     @looks_back
     def begun(self, h, link):
-        refused = h.past is not None and h.entry.rule is not None and isinstance(h.entry.event, Frame) and h.entry.event.link == link
+        refused = (
+            h.past is not None
+            and h.entry.rule is not None
+            and isinstance(h.entry.event, Frame)
+            and h.entry.event.link == link
+        )
         return () if refused else super().begun(h, link)
 
 
@@ -58,7 +72,11 @@ class goes_on_behind_a_down(Model):
     @looks_back
     def begun(self, h, link):
         of, said = self.said_on(h)
-        return self.begun(h.past, link) if of == link and not isinstance(said, Part) else super().begun(h, link)
+        return (
+            self.begun(h.past, link)
+            if of == link and not isinstance(said, Part)
+            else super().begun(h, link)
+        )
 
 
 class breaks_off_at_a_message_of_another_link(Model):
@@ -83,38 +101,46 @@ class goes_on_with_another_kind(Model):
 class takes_any_later_part(Model):
     def is_next(self, h, link, part):
         parts = self.begun(h, link)
-        return bool(parts) and (part.kind, part.scope) == (parts[-1].kind, parts[-1].scope) and part.number > parts[-1].number
+        return (
+            bool(parts)
+            and (part.kind, part.scope) == (parts[-1].kind, parts[-1].scope)
+            and part.number > parts[-1].number
+        )
 
 
 class takes_no_first_part_behind_another(Model):
     def part_checks(self, h, link, part):
-        yield 'PartOrder', part.number == 1 and self.begun(h, link)
+        yield "PartOrder", part.number == 1 and self.begun(h, link)
         yield from super().part_checks(h, link, part)
 
 
 class names_part_order_before_not_heard(Model):
     def part_checks(self, h, link, part):
-        yield 'PartOrder', part.number != 1 and not self.is_next(h, link, part)
+        yield "PartOrder", part.number != 1 and not self.is_next(h, link, part)
         yield from super().part_checks(h, link, part)
 
 
 class names_foreign_pids_before_part_order(Model):
     def part_checks(self, h, link, part):
-        yield 'ForeignPid', not all(self.is_from(h, link, pid) for _, pid in part.rows)
+        yield "ForeignPid", not all(self.is_from(h, link, pid) for _, pid in part.rows)
         yield from super().part_checks(h, link, part)
 
 
 class looks_for_rows_of_each_part_alone(Model):
     def part_checks(self, h, link, part):
         for rule, is_broken in super().part_checks(h, link, part):
-            yield rule, self.names_more_than_listed(h, part.scope, part.rows) if rule == 'NotListed' else is_broken
+            yield rule, self.names_more_than_listed(
+                h, part.scope, part.rows
+            ) if rule == "NotListed" else is_broken
 
 
 class counts_the_rows_of_each_part_alone(Model):
     def part_checks(self, h, link, part):
         for rule, is_broken in super().part_checks(h, link, part):
-            has_many = self.peer_rows(h, link, part.scope) + len(part.rows) > self.link_limit(h, link)
-            yield rule, is_broken and (rule != 'RowsFull' or has_many)
+            has_many = self.peer_rows(h, link, part.scope) + len(part.rows) > self.link_limit(
+                h, link
+            )
+            yield rule, is_broken and (rule != "RowsFull" or has_many)
 
 
 class is_heard_from_the_first_part_on(Model):
@@ -145,7 +171,7 @@ class speaks_the_version_of_the_peer(Model):
 
 class says_no_version(Model):
     def own_name_frame(self, h):
-        return super().own_name_frame(h).removesuffix(b'\x02')
+        return super().own_name_frame(h).removesuffix(b"\x02")
 
 
 class lets_a_link_of_version_2_hear_few_rows(Model):
@@ -156,7 +182,7 @@ class lets_a_link_of_version_2_hear_few_rows(Model):
 class lets_an_old_link_be_told_of_all_rows(Model):
     def message_checks(self, h, link, said):
         for rule, is_broken in super().message_checks(h, link, said):
-            yield rule, is_broken and (rule != 'RowsFull' or isinstance(said, Part))
+            yield rule, is_broken and (rule != "RowsFull" or isinstance(said, Part))
 
 
 class lets_own_rows_rise_beside_an_old_link(Model):
@@ -166,7 +192,13 @@ class lets_own_rows_rise_beside_an_old_link(Model):
 
 class keeps_own_rows_few_beside_an_untold_old_link(Model):
     def own_limit(self, h, scope):
-        return min([super().own_limit(h, scope)] + [self.link_limit(h, link) for link in self.up_links(h)])
+        return min(
+            [super().own_limit(h, scope)] + [self.link_limit(h, link) for link in self.up_links(h)]
+        )
 
 
-EDITS = {name: edit for name, edit in list(globals().items()) if isinstance(edit, type) and issubclass(edit, Model) and edit is not Model}
+EDITS = {
+    name: edit
+    for name, edit in list(globals().items())
+    if isinstance(edit, type) and issubclass(edit, Model) and edit is not Model
+}

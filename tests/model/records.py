@@ -4,7 +4,7 @@ import sys
 from collections import namedtuple
 
 
-def record(name, fields='', defaults=()):
+def record(name, fields="", defaults=()):
     def equals(self, other):
         return type(self) is type(other) and tuple.__eq__(self, other)
 
@@ -12,6 +12,12 @@ def record(name, fields='', defaults=()):
         return not equals(self, other)
 
     # (where the class stands, so that a value can be handed to another process)
-    module = sys._getframe(1).f_globals['__name__']
-    words = {'__slots__': (), '__module__': module, '__eq__': equals, '__ne__': differs, '__hash__': tuple.__hash__}
+    module = sys._getframe(1).f_globals["__name__"]
+    words = {
+        "__slots__": (),
+        "__module__": module,
+        "__eq__": equals,
+        "__ne__": differs,
+        "__hash__": tuple.__hash__,
+    }
     return type(name, (namedtuple(name, fields, defaults=defaults),), words)

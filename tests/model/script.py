@@ -8,17 +8,17 @@ from texts import octets_of
 MOST_ENTRIES = 1_000_000
 
 
-class Script(record('Script', 'title opening lines is_cut')):
+class Script(record("Script", "title opening lines is_cut")):
     """`is_cut` where the last line lacks its line feed."""
 
     def arguments(self):
         name, cookie, hidden, creation, entries, links = self.opening
-        words = [name, cookie, '--creation', str(creation)] + (['--hidden'] if hidden else [])
-        words += ['--entries', str(entries)] if entries != MOST_ENTRIES else []
-        return words + (['--links', str(links)] if links != 1 else [])
+        words = [name, cookie, "--creation", str(creation)] + (["--hidden"] if hidden else [])
+        words += ["--entries", str(entries)] if entries != MOST_ENTRIES else []
+        return words + (["--links", str(links)] if links != 1 else [])
 
     def text(self):
-        return octets_of('\n'.join(self.lines) + ('' if self.is_cut else '\n'))
+        return octets_of("\n".join(self.lines) + ("" if self.is_cut else "\n"))
 
     def played(self, model=None):
         """The console that has played it on a model."""
@@ -44,7 +44,7 @@ class Writer:
         return self.console.history
 
     def say(self, *words):
-        self.lines.append(' '.join(str(word) for word in words))
+        self.lines.append(" ".join(str(word) for word in words))
         return self.console.play(self.lines[-1])
 
     def chance(self, of_100):

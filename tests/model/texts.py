@@ -3,34 +3,38 @@
 from collections import namedtuple
 from hashlib import md5
 
-Pid = namedtuple('Pid', 'name creation number')
+Pid = namedtuple("Pid", "name creation number")
 
 
 def is_text(text):
-    return 1 <= len(text) <= 255 and all('\x21' <= letter <= '\x7e' for letter in text)
+    return 1 <= len(text) <= 255 and all("\x21" <= letter <= "\x7e" for letter in text)
 
 
 def is_name(text):
-    return is_text(text) and text.count('@') == 1 and text[0] != '@' and text[-1] != '@'
+    return is_text(text) and text.count("@") == 1 and text[0] != "@" and text[-1] != "@"
 
 
 def text_of(octets):
-    return octets.decode('latin-1')
+    return octets.decode("latin-1")
 
 
 def octets_of(text):
-    return text.encode('latin-1')
+    return text.encode("latin-1")
 
 
 def number_of(word, limit):
     """The number that a word says, or None."""
-    if not 1 <= len(word) <= 20 or not all('0' <= digit <= '9' for digit in word) or (word[0] == '0' and word != '0'):
+    if (
+        not 1 <= len(word) <= 20
+        or not all("0" <= digit <= "9" for digit in word)
+        or (word[0] == "0" and word != "0")
+    ):
         return None
     return int(word) if int(word) < limit else None
 
 
 def pid_of(word):
-    parts = word.rsplit('/', 2)
+    parts = word.rsplit("/", 2)
     if len(parts) != 3 or not is_name(parts[0]):
         return None
     creation, number = number_of(parts[1], 1 << 32), number_of(parts[2], 1 << 64)
@@ -38,7 +42,7 @@ def pid_of(word):
 
 
 def pid_text(pid):
-    return f'{pid.name}/{pid.creation}/{pid.number}'
+    return f"{pid.name}/{pid.creation}/{pid.number}"
 
 
 def digest_of(cookie, challenge):

@@ -17,12 +17,21 @@ def other_words(stock, node):
     own = new_pid(node)
     asked(node, f"join jobs called {own}")
     until("the process", lambda: stock.members("called"), lambda came: came == [own])
-    came = stock.ask("[W | _] = pg:get_members(jobs, called), W ! {job, 1}, catch gen_server:call(W, hi, 5000)", 20)
+    came = stock.ask(
+        "[W | _] = pg:get_members(jobs, called), W ! {job, 1}, catch gen_server:call(W, hi, 5000)",
+        20,
+    )
     expect_that("noproc" in came, "a call that ends at once", came)
-    came = stock.ask("{_, M} = spawn_monitor(fun() -> link(hd(pg:get_members(jobs, called))), receive after 5000 -> ok end end), "
-                     "receive {'DOWN', M, _, _, R1} -> R1 after 4000 -> none end", 20)
+    came = stock.ask(
+        "{_, M} = spawn_monitor(fun() -> link(hd(pg:get_members(jobs, called))), receive after 5000 -> ok end end), "
+        "receive {'DOWN', M, _, _, R1} -> R1 after 4000 -> none end",
+        20,
+    )
     expect_that("noproc" in came or "noconnection" in came, "a link that ends at once", came)
-    came = stock.ask("R2 = monitor(process, hd(pg:get_members(jobs, called))), receive {'DOWN', R2, _, _, R3} -> R3 after 4000 -> none end", 20)
+    came = stock.ask(
+        "R2 = monitor(process, hd(pg:get_members(jobs, called))), receive {'DOWN', R2, _, _, R3} -> R3 after 4000 -> none end",
+        20,
+    )
     expect_that("noproc" in came, "a monitor that ends at once", came)
     came = stock.ask(f"catch rpc:call('{node.name}', erlang, node, [], 4000)", 20)
     expect_that("badrpc" in came, "a call of rpc that ends at once", came)
@@ -39,7 +48,11 @@ def hidden_node(field):
     expect("the hidden nodes", [node.name], stock.knows("hidden"))
     other_words(stock, node)
     stock.ask(f"erlang:disconnect_node('{node.name}')")
-    until("a line about what was dropped", lambda: node.log("info otp_dropped reason=for_member") or node.log("info otp_dropped reason=unanswered"))
+    until(
+        "a line about what was dropped",
+        lambda: node.log("info otp_dropped reason=for_member")
+        or node.log("info otp_dropped reason=unanswered"),
+    )
 
 
 @case
@@ -63,7 +76,11 @@ def links_are_lost_and_replaced(field):
     node = field.worker(*field.dial(stock))
     await_members(node, [first], "printers", "jobs")
     stock.ask(f"erlang:disconnect_node('{node.name}')")
-    until("the link again", lambda: "down" if not node.log("info down") else members(node, "printers", "jobs"), lambda came: came == [first])
+    until(
+        "the link again",
+        lambda: "down" if not node.log("info down") else members(node, "printers", "jobs"),
+        lambda came: came == [first],
+    )
     same_views("behind a lost link", stock, node)
     stock.process.kill()
     stock.process.wait()
@@ -74,7 +91,11 @@ def links_are_lost_and_replaced(field):
     anew.connect(node.name)
     await_members(node, [second], "printers", "jobs")
     asked(node, f"disconnect {anew.name}")
-    until("the stock node to see the end", lambda: anew.knows("hidden"), lambda came: node.name not in came)
+    until(
+        "the stock node to see the end",
+        lambda: anew.knows("hidden"),
+        lambda came: node.name not in came,
+    )
     anew.connect(node.name)
     await_members(node, [second], "printers", "jobs")
     same_views("anew", anew, node)
@@ -135,11 +156,19 @@ def epmd_has_both(field):
     node = field.worker("--otp-dial", stock.name)
     expect("the port that EPMD has", str(node.otp_port), field.epmd_names().get("w"))
     await_members(node, [first], "printers", "jobs")
-    expect_that(f"epmd@127.0.0.1:{field.epmd_port}" in node.ask("dials"), "the place of a dial", node.ask("dials"))
+    expect_that(
+        f"epmd@127.0.0.1:{field.epmd_port}" in node.ask("dials"),
+        "the place of a dial",
+        node.ask("dials"),
+    )
     epmd.close()
     time.sleep(0.5)
     field.epmd()
-    until("a registration at the next EPMD", lambda: field.epmd_names().get("w"), lambda came: came == str(node.otp_port))
+    until(
+        "a registration at the next EPMD",
+        lambda: field.epmd_names().get("w"),
+        lambda came: came == str(node.otp_port),
+    )
     stock.process.kill()
     stock.process.wait()
     field.stocks.remove(stock)
@@ -156,7 +185,9 @@ def unregistered(field):
     """A stock node at a fixed port is dialled; a dial to one that EPMD doesn't have says so."""
     stock = field.stock("a@127.0.0.1")
     first = stock.member()
-    node = field.worker(*field.dial(stock), "--otp-dial", "nobody@127.0.0.1", listen=False, epmd=True)
+    node = field.worker(
+        *field.dial(stock), "--otp-dial", "nobody@127.0.0.1", listen=False, epmd=True
+    )
     await_members(node, [first], "printers", "jobs")
     until("a dial of nobody", lambda: node.ask("dials"), lambda came: "unregistered" in came)
 
@@ -179,12 +210,16 @@ def strangers(field):
     """A wrong cookie, at either end, and a stock node that isn't allowed: no link. With a cookie of its own it is one."""
     field.epmd()
     wrong = os.path.join(field.folder, "wrong")
-    with open(wrong, "w", encoding="ascii", opener=lambda path, flags: os.open(path, flags, 0o600)) as file:
+    with open(
+        wrong, "w", encoding="ascii", opener=lambda path, flags: os.open(path, flags, 0o600)
+    ) as file:
         file.write("wrong\n")
     stock = field.stock("a@127.0.0.1")
     other = field.stock("b@127.0.0.1")
     own = field.stock("c@127.0.0.1")
-    node = field.worker("--allow", stock.name, "--allow", own.name, "--cookie-for", f"{own.name}={wrong}")
+    node = field.worker(
+        "--allow", stock.name, "--allow", own.name, "--cookie-for", f"{own.name}={wrong}"
+    )
     other.connect(node.name, "false")
     own.connect(node.name, "false")
     own.ask(f"erlang:set_cookie('{node.name}', wrong)")
@@ -192,7 +227,11 @@ def strangers(field):
     stock.ask(f"erlang:set_cookie('{node.name}', wrong)")
     stock.connect(node.name, "false")
     await_nodes(node, [own.name])
-    expect_that("NotAllowed" in node.ask("refusals"), "a refusal of what isn't allowed", node.ask("refusals"))
+    expect_that(
+        "NotAllowed" in node.ask("refusals"),
+        "a refusal of what isn't allowed",
+        node.ask("refusals"),
+    )
 
 
 @case
@@ -206,6 +245,8 @@ def ports_of_others(field):
     expect("no link", [], [word for word in native.ask("nodes").split()[1:]])
     native.quit()
     plain = field.start("p@127.0.0.1", port=0).ready()
-    helper = field.start("d@127.0.0.1", "--otp-dial", f"{plain.name}=127.0.0.1:{plain.port}", port=None).ready()
+    helper = field.start(
+        "d@127.0.0.1", "--otp-dial", f"{plain.name}=127.0.0.1:{plain.port}", port=None
+    ).ready()
     until("a line of the log", lambda: plain.log("warn stock_node"))
     helper.quit()

@@ -14,8 +14,15 @@ LONG = 400
 # How many groups are told as atoms, and how many lines are sent at once.
 MOST_ATOMS = 65_536
 AT_ONCE = 1_024
-GROUPS = (("printers", "printers"), ("scanners", "scanners"), ('<<"b">>', "#b:b"), ("{w,1}", "#x:680277017761" + "01"), ('"str"', "#x:6b0003737472"),
-          ("7", "#x:6107"), ("#{k=>1}", "#x:740000000177016b6101"))
+GROUPS = (
+    ("printers", "printers"),
+    ("scanners", "scanners"),
+    ('<<"b">>', "#b:b"),
+    ("{w,1}", "#x:680277017761" + "01"),
+    ('"str"', "#x:6b0003737472"),
+    ("7", "#x:6107"),
+    ("#{k=>1}", "#x:740000000177016b6101"),
+)
 
 
 def linked(field, *options, stock="a@127.0.0.1", **rest):
@@ -67,7 +74,9 @@ def joins_and_leaves(field):
     stock, node = linked(field)
     first = stock.member()
     await_members(node, [first], "printers", "jobs")
-    stock.ask('pg:join(jobs, printers, [P, P]), pg:join(jobs, <<"bin">>, P), pg:join(jobs, {worker, 1}, P), pg:join(jobs, empty, [])')
+    stock.ask(
+        'pg:join(jobs, printers, [P, P]), pg:join(jobs, <<"bin">>, P), pg:join(jobs, {worker, 1}, P), pg:join(jobs, empty, [])'
+    )
     await_members(node, [first] * 3, "printers", "jobs")
     for group in ("#b:bin", "#x:68027706776f726b65726101"):
         await_members(node, [first], group, "jobs")
@@ -77,7 +86,9 @@ def joins_and_leaves(field):
     stock.await_members([first, own, own], '<<"bin">>')
     stock.await_members([first, own], "{worker, 1}")
     expect("no group of nobody", False, "empty" in node.ask("groups jobs"))
-    stock.ask("Q = spawn(fun ctl:member/0), pg:join(jobs, printers, Q), pg:leave(jobs, printers, [P, Q, P, P, P, P])")
+    stock.ask(
+        "Q = spawn(fun ctl:member/0), pg:join(jobs, printers, Q), pg:leave(jobs, printers, [P, Q, P, P, P, P])"
+    )
     await_members(node, [], "printers", "jobs")
     stock.ask("pg:leave(jobs, nobody, [P]), pg:leave(jobs, [printers], P)")
     client = node.control()
@@ -87,7 +98,11 @@ def joins_and_leaves(field):
     client.close()
     stock.await_members([])
     stock.ask("exit(P, kill)")
-    until("no rows of a process that has ended", lambda: [row for row in pg_view(node) if first in row], lambda came: not came)
+    until(
+        "no rows of a process that has ended",
+        lambda: [row for row in pg_view(node) if first in row],
+        lambda came: not came,
+    )
     asked(node, f"exit {own}")
     same_views("nobody is left", stock, node)
     expect("no rows", [], pg_view(node))
@@ -133,11 +148,15 @@ def play(chance, stock, node, own, steps):
             if kind < 0.05 or step < 3:
                 stock.ask("put(ps, [spawn(fun ctl:member/0) | get(ps)])")
             elif kind < 0.08:
-                stock.ask("case get(ps) of [] -> ok; _ -> (fun() -> X = lists:nth(rand:uniform(length(get(ps))), get(ps)), X ! stop, put(ps, lists:delete(X, get(ps))) "
-                          "end)() end")
+                stock.ask(
+                    "case get(ps) of [] -> ok; _ -> (fun() -> X = lists:nth(rand:uniform(length(get(ps))), get(ps)), X ! stop, put(ps, lists:delete(X, get(ps))) "
+                    "end)() end"
+                )
             else:
                 word = "join" if kind < 0.55 else "leave"
-                stock.ask(f"case get(ps) of [] -> ok; _ -> pg:{word}(jobs, {term}, [lists:nth(rand:uniform(length(get(ps))), get(ps)) || _ <- lists:seq(1, {many})]) end")
+                stock.ask(
+                    f"case get(ps) of [] -> ok; _ -> pg:{word}(jobs, {term}, [lists:nth(rand:uniform(length(get(ps))), get(ps)) || _ <- lists:seq(1, {many})]) end"
+                )
         elif kind < 0.05 or len(own) < 3:
             own.append(new_pid(node))
         elif kind < 0.08:
@@ -173,7 +192,11 @@ def random_steps(field):
         rows = same_views(f"seed {seed}, the scope anew", stock, node)
         expect_that(rows > 0, "some rows", rows)
     refused = node.ask("refusals")
-    expect_that("NotListed" not in refused and "ForeignPid" not in refused, "no message of the stock node refused", refused)
+    expect_that(
+        "NotListed" not in refused and "ForeignPid" not in refused,
+        "no message of the stock node refused",
+        refused,
+    )
 
 
 @case
@@ -189,10 +212,18 @@ def rows_up_to_the_limit(field):
     stock.connect(node.name)
     up(node, stock.name)
     stock.ask("pg:leave(jobs, big, hd(L)), length(pg:get_members(jobs, big))")
-    until("all rows after one has left", lambda: members(node, "big", "jobs"), lambda came: len(came) == 4096 and one in came)
+    until(
+        "all rows after one has left",
+        lambda: members(node, "big", "jobs"),
+        lambda came: len(came) == 4096 and one in came,
+    )
     own = new_pid(node)
     asked(node, f"join jobs big {own}")
-    until("a row of the node's own", lambda: stock.ask("length(pg:get_members(jobs, big))"), lambda came: came == "4097")
+    until(
+        "a row of the node's own",
+        lambda: stock.ask("length(pg:get_members(jobs, big))"),
+        lambda came: came == "4097",
+    )
     stock.ask(f"erlang:disconnect_node('{node.name}')")
     until("a line about too many rows", lambda: node.log("info otp_dropped reason=too_many_rows "))
 
@@ -204,15 +235,37 @@ def rows_in_parts(field):
     stock, node = linked(field, "--links", "2")
     stock.ask("L = [spawn(fun ctl:member/0) || _ <- lists:seq(1, 65536)], ok")
     stock.ask("pg:join(jobs, big, L), ok")
-    until("65,536 rows", lambda: len(members(node, "big", "jobs")), lambda came: came == 65_536, LONG, 1)
+    until(
+        "65,536 rows",
+        lambda: len(members(node, "big", "jobs")),
+        lambda came: came == 65_536,
+        LONG,
+        1,
+    )
     own = [new_pid(node) for _ in range(20)]
     for _ in range(10):
         asked(node, f"join jobs own {' '.join(own * 30)}")
-    until("6,000 rows of the node", lambda: stock.ask("length(pg:get_members(jobs, own))"), lambda came: came == "6000", LONG)
+    until(
+        "6,000 rows of the node",
+        lambda: stock.ask("length(pg:get_members(jobs, own))"),
+        lambda came: came == "6000",
+        LONG,
+    )
     stock.ask(f"erlang:disconnect_node('{node.name}'), timer:sleep(300)")
     stock.connect(node.name)
-    until("65,536 rows in one sync", lambda: len(members(node, "big", "jobs")), lambda came: came == 65_536, LONG, 1)
-    until("6,000 rows in one sync", lambda: stock.ask("length(pg:get_members(jobs, own))"), lambda came: came == "6000", LONG)
+    until(
+        "65,536 rows in one sync",
+        lambda: len(members(node, "big", "jobs")),
+        lambda came: came == 65_536,
+        LONG,
+        1,
+    )
+    until(
+        "6,000 rows in one sync",
+        lambda: stock.ask("length(pg:get_members(jobs, own))"),
+        lambda came: came == "6000",
+        LONG,
+    )
 
 
 @case
@@ -227,7 +280,10 @@ def rows_that_are_not_carried(field):
     await_members(node, [last], "last", "jobs")
     expect("the groups", "groups last printers", node.ask("groups jobs"))
     stock.ask(f"erlang:disconnect_node('{node.name}')")
-    until("a line about rows that aren't carried", lambda: node.log("info otp_dropped reason=unheard "))
+    until(
+        "a line about rows that aren't carried",
+        lambda: node.log("info otp_dropped reason=unheard "),
+    )
 
 
 @case
@@ -238,7 +294,11 @@ def too_many_atoms(field):
     control = field.control(node)
     own = new_pid(control)
     for begin in range(0, MOST_ATOMS, AT_ONCE):
-        lines = [f"{word} jobs g{number:05} {own}" for number in range(begin, begin + AT_ONCE) for word in ("join", "leave")]
+        lines = [
+            f"{word} jobs g{number:05} {own}"
+            for number in range(begin, begin + AT_ONCE)
+            for word in ("join", "leave")
+        ]
         control.socket.sendall("".join(f"{line}\n" for line in lines).encode())
         expect("the answers", {"ok"}, {control.next_answer("an answer", LONG) for _ in lines})
     expect("warnings", [], node.log("warn too_many_atoms "))
@@ -247,4 +307,8 @@ def too_many_atoms(field):
     asked(control, f"join jobs g00000 {own}")
     asked(control, f"join jobs #b:last {own}")
     stock.await_members([own], '<<"last">>')
-    expect("the groups at the stock node", "[g00000,<<\"last\">>]", stock.ask("lists:sort(pg:which_groups(jobs))"))
+    expect(
+        "the groups at the stock node",
+        '[g00000,<<"last">>]',
+        stock.ask("lists:sort(pg:which_groups(jobs))"),
+    )

@@ -44,12 +44,37 @@ class Stock:
 
     def __init__(self, field, name, *arguments, cookie=COOKIE, env=None):
         self.name = name
-        words = ["erl", "-noshell", "-start_epmd", "false", "-name", name, "-setcookie", cookie, "-pa", field.beams(), "-kernel", "inet_dist_use_interface",
-                 "{127,0,0,1}", *arguments, "-s", "ctl", "main"]
-        place = {**os.environ, "ERL_EPMD_PORT": str(field.epmd_port), "HOME": field.folder, "ERL_CRASH_DUMP_BYTES": "0", **(env or {})}
+        words = [
+            "erl",
+            "-noshell",
+            "-start_epmd",
+            "false",
+            "-name",
+            name,
+            "-setcookie",
+            cookie,
+            "-pa",
+            field.beams(),
+            "-kernel",
+            "inet_dist_use_interface",
+            "{127,0,0,1}",
+            *arguments,
+            "-s",
+            "ctl",
+            "main",
+        ]
+        place = {
+            **os.environ,
+            "ERL_EPMD_PORT": str(field.epmd_port),
+            "HOME": field.folder,
+            "ERL_CRASH_DUMP_BYTES": "0",
+            **(env or {}),
+        }
         self.log_path = os.path.join(field.folder, f"{name}.log")
         with open(self.log_path, "ab") as log:
-            self.process = subprocess.Popen(words, stdin=subprocess.PIPE, stdout=subprocess.PIPE, stderr=log, env=place)
+            self.process = subprocess.Popen(
+                words, stdin=subprocess.PIPE, stdout=subprocess.PIPE, stderr=log, env=place
+            )
         self._answers = queue.Queue()
         threading.Thread(target=self._read, daemon=True).start()
         field.keep(self)
@@ -73,10 +98,14 @@ class Stock:
         try:
             answer = self._answers.get(timeout=limit)
         except queue.Empty:
-            raise AssertionError(f"expected a value of {expression[:80]!r} at {self.name} within {limit} s, came none") from None
+            raise AssertionError(
+                f"expected a value of {expression[:80]!r} at {self.name} within {limit} s, came none"
+            ) from None
         if answer is None:
             self._answers.put(None)
-            raise AssertionError(f"expected a value of {expression[:80]!r} at {self.name}, came its end")
+            raise AssertionError(
+                f"expected a value of {expression[:80]!r} at {self.name}, came its end"
+            )
         return answer
 
     def start(self, scope="jobs"):
@@ -113,10 +142,19 @@ class Stock:
         return sorted(self.texts(f"ctl:view({scope})"))
 
     def await_members(self, processes, group="printers", scope="jobs", limit=LIMIT):
-        until(f"members {processes} of {group} at {self.name}", lambda: self.members(group, scope), lambda came: came == sorted(processes), limit)
+        until(
+            f"members {processes} of {group} at {self.name}",
+            lambda: self.members(group, scope),
+            lambda came: came == sorted(processes),
+            limit,
+        )
 
     def connect(self, name, wanted="true", limit=LIMIT):
-        expect(f"{self.name} connected to {name}", wanted, self.ask(f"net_kernel:connect_node('{name}')", limit))
+        expect(
+            f"{self.name} connected to {name}",
+            wanted,
+            self.ask(f"net_kernel:connect_node('{name}')", limit),
+        )
 
     def knows(self, kind=""):
         """The nodes of this kind that it has."""
@@ -124,7 +162,11 @@ class Stock:
 
     def port(self):
         """Where it takes links, as EPMD says."""
-        return int(self.ask("element(2, erl_epmd:port_please(hd(string:split(atom_to_list(node()), \"@\")), \"127.0.0.1\"))"))
+        return int(
+            self.ask(
+                'element(2, erl_epmd:port_please(hd(string:split(atom_to_list(node()), "@")), "127.0.0.1"))'
+            )
+        )
 
     def close(self):
         end(self.process)
@@ -147,7 +189,11 @@ class OtpField(Field):
 
     def epmd(self):
         """Starts EPMD."""
-        process = subprocess.Popen(["epmd", "-port", str(self.epmd_port), "-address", "127.0.0.1"], stdout=subprocess.DEVNULL, stderr=subprocess.DEVNULL)
+        process = subprocess.Popen(
+            ["epmd", "-port", str(self.epmd_port), "-address", "127.0.0.1"],
+            stdout=subprocess.DEVNULL,
+            stderr=subprocess.DEVNULL,
+        )
         self._epmd = self.keep(Process(process))
 
         def answers():
@@ -204,12 +250,15 @@ def pg_view(node, scope="jobs"):
     """All that a pg_node lists, as `Stock.view` has it."""
     rows = []
     for group in node.ask(f"groups {scope}").split()[1:]:
-        rows += [f"{group} {process}" for process in node.ask(f"members {scope} {group}").split()[1:]]
+        rows += [
+            f"{group} {process}" for process in node.ask(f"members {scope} {group}").split()[1:]
+        ]
     return sorted(rows)
 
 
 def same_views(what, stock, node, limit=LIMIT, scope="jobs"):
     """Until both list the same; how many rows that are."""
+
     def both():
         return stock.view(scope), pg_view(node, scope)
 
@@ -219,6 +268,7 @@ def same_views(what, stock, node, limit=LIMIT, scope="jobs"):
 
 def up(node, name, kind=None, limit=LIMIT):
     """Until the link to that stock node is up; its kind."""
+
     def found():
         words = node.ask("links").split()
         return words[words.index(name) + 2] if name in words else None
