@@ -1,8 +1,10 @@
 #!/usr/bin/env python3
-"""What the audit keeps of an entry, in bytes, by kind: the growth of the memory of `pg_console run` (VmRSS) over 100,000 entries, or 500 large ones.
+"""What the audit keeps of an entry, in bytes, by kind: the growth of the memory of `pg_console run`
+(VmRSS) over 100,000 entries, or 500 large ones.
 
-bench/entry_bytes.py [PROGRAM]. What the allocator adds is in it, and so is what the node itself keeps, as which processes live. Texts are short.
-Of a round of entries of several kinds, what is known of the other kinds is taken away."""
+bench/entry_bytes.py [PROGRAM]. What the allocator adds is in it, and so is what the node itself
+keeps, as which processes live. Texts are short. Of a round of entries of several kinds, what is
+known of the other kinds is taken away."""
 
 import os
 import struct
@@ -26,7 +28,8 @@ def message(kind, count=0):
     return f"frame 3 {(kind + struct.pack('>B2sI', 2, b'pg', count) + b''.join(rows)).hex()}"
 
 
-# A process and a scope of the node; and the link 3, which is up, over which each side is told of the other's rows.
+# A process and a scope of the node; and the link 3, which is up, over which each side is told of
+# the other's rows.
 NODE = ["start pg", "spawn"]
 NAME = b"N" + struct.pack(">QIH3s", 1 << 24 | 1, 5, 3, b"p@h")
 PEER = [
@@ -48,7 +51,8 @@ OPENED, TAKE, SPAWN, MADE = (
     "a Spawn",
     "a Join that makes its group, a Leave",
 )
-# By kind: how many entries, the lines before them, those of a round by its number and that of its first entry, and the other kinds in it.
+# By kind: how many entries, the lines before them, those of a round by its number and that of its
+# first entry, and the other kinds in it.
 KINDS = {
     TAKE: (MANY, PEER, lambda turn, first: ["take 3"], []),
     OPENED: (MANY, [], lambda turn, first: ["opened 1", f"lost {first}"], []),

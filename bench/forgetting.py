@@ -1,9 +1,12 @@
 #!/usr/bin/env python3
-"""What a node takes that runs on: joins and leaves at an even rate over several control connections, with peers that are told of them, and
-an archive whose files are looked through as they are full. Memory (VmRSS) once a minute, what was kept and archived, and at the end whether
-each entry is in the archive once and in order. Then how soon news come: from the line of a join on one node to the pushed line on another.
+"""What a node takes that runs on: joins and leaves at an even rate over several control
+connections, with peers that are told of them, and an archive whose files are looked through as they
+are full. Memory (VmRSS) once a minute, what was kept and archived, and at the end whether each
+entry is in the archive once and in order. Then how soon news come: from the line of a join on one
+node to the pushed line on another.
 
-bench/forgetting.py [PROGRAM] [--rate N] [--seconds N] [--peers N]     20,000 events a second for 600 seconds, told to one peer"""
+bench/forgetting.py [PROGRAM] [--rate N] [--seconds N] [--peers N]
+                              20,000 events a second for 600 seconds, told to one peer"""
 
 import glob
 import os
@@ -23,7 +26,8 @@ from field import Field
 from pg_node import Lines, Table, a_member, begin_own, join_to_news, memory, watchers
 
 CONNECTIONS = 4
-# Seconds between two bundles of lines of a connection, and how many of its lines may wait for their answers.
+# Seconds between two bundles of lines of a connection, and how many of its lines may wait for
+# their answers.
 TICK = 0.02
 AHEAD = 20_000
 FILE_BYTES = 50_000_000
@@ -145,7 +149,8 @@ def run_on(field, said):
     for driver in drivers:
         driver.begin()
     print(
-        f"{'seconds':>8} {'events':>12} {'a second':>9} {'kept':>8} {'archived':>12} {'lost':>6} {'KiB':>9} {'KiB of a peer':>14}",
+        f"{'seconds':>8} {'events':>12} {'a second':>9} {'kept':>8} {'archived':>12} {'lost':>6}"
+        f" {'KiB':>9} {'KiB of a peer':>14}",
         flush=True,
     )
     first, last = None, None
@@ -164,7 +169,8 @@ def run_on(field, said):
     print(f"memory at the end over that behind the first minute: {last / first:.3f}")
     print(f"answers other than ok: {strange[:3]}; warnings: {node.errors()[:3]}; lives: {lives}")
     print(
-        f"the archive: {archive.last} entries of {entries} and more, {archive.bytes / 1e6:.0f} MB in {archive.files} files,"
+        f"the archive: {archive.last} entries of {entries} and more,"
+        f" {archive.bytes / 1e6:.0f} MB in {archive.files} files,"
         f" {archive.fault or 'each once and in order'}"
     )
     return (
@@ -181,8 +187,8 @@ def show(node, others, watching, before, began):
     count = int(now["entries"].split("/")[0]) - before
     held, peer = memory(node), max(map(memory, others), default=0)
     print(
-        f"{seconds:>8.0f} {count:>12,} {count / seconds:>9,.0f} {now['kept'].split('/')[0]:>8} {now['archived']:>12} {now['lost']:>6}"
-        f" {held:>9,} {peer:>14,}",
+        f"{seconds:>8.0f} {count:>12,} {count / seconds:>9,.0f} {now['kept'].split('/')[0]:>8}"
+        f" {now['archived']:>12} {now['lost']:>6} {held:>9,} {peer:>14,}",
         flush=True,
     )
     return held

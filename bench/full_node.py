@@ -1,7 +1,7 @@
 #!/usr/bin/env python3
-"""What a call of one row costs on a node with one peer of 64 rows, and on a full one: 60 peers, each
-with 4,096 rows in 4,096 groups of one scope, or with as many as `--rows` says, to 65,536 over links
-of version 2.
+"""What a call of one row costs on a node with one peer of 64 rows, and on a full one: 60 peers,
+each with 4,096 rows in 4,096 groups of one scope, or with as many as `--rows` says, to 65,536 over
+links of version 2.
 
 bench/full_node.py [PROGRAM] [--rows N]. Processor time of `pg_console run`, the reading of lines
 and the writing of answers in it, in microseconds an operation: the least of 15 rounds, in which
@@ -157,7 +157,8 @@ def main():
     said = words()
     nodes = [Node(said.program, 1, 64), Node(said.program, 60, said.rows)]
     print(
-        f"{'microseconds':<38} {'1 peer, 64 rows':>16} {f'60 peers, {said.rows:,} rows each':>27} {'ratio':>6}"
+        f"{'microseconds':<38} {'1 peer, 64 rows':>16}"
+        f" {f'60 peers, {said.rows:,} rows each':>27} {'ratio':>6}"
     )
     for title, times, lines in MEASURES:
         # The nodes take turns, so that both have a processor of the same speed.

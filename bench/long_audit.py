@@ -1,8 +1,10 @@
 #!/usr/bin/env python3
-"""What a long audit costs: `pg_console run` over joins and leaves of one process, each an entry, with its processor time and memory (VmRSS) behind
-each tenth of them. The last tenth is played by turns with the first one of another node, so that both have the same machine, and compared with it.
+"""What a long audit costs: `pg_console run` over joins and leaves of one process, each an entry,
+with its processor time and memory (VmRSS) behind each tenth of them. The last tenth is played by
+turns with the first one of another node, so that both have the same machine, and compared with it.
 
-bench/long_audit.py [PROGRAM] [--entries N]     N is 10,000,000 where it isn't given, which takes some 3 GB
+bench/long_audit.py [PROGRAM] [--entries N]     N is 10,000,000 where it isn't given, which takes
+                                                some 3 GB
 bench/long_audit.py [PROGRAM] --keep N          the node forgets, and keeps N entries
 bench/long_audit.py [PROGRAM] --archive FILE    writes an archive too, which is then played again"""
 
@@ -136,7 +138,8 @@ def main():
     if said.archive is not None:
         again = replay(said)
         print(
-            f"played again: {again / said.entries * 1e6:.2f} microseconds an entry, {spent / again:.2f} times as fast as the run"
+            f"played again: {again / said.entries * 1e6:.2f} microseconds an entry,"
+            f" {spent / again:.2f} times as fast as the run"
         )
 
 

@@ -1,8 +1,10 @@
 #!/usr/bin/env python3
-"""What a log at info and a scrape a second cost a node: looking_on.py [PROGRAM] [--changes N] [--rounds N].
+"""What a log at info and a scrape a second cost a node:
+looking_on.py [PROGRAM] [--changes N] [--rounds N].
 
-A node with a peer joins and leaves, as fast as it answers, once with `--log none`, and once with `--log text`, `--http` and who asks
-for its metrics each second; in turns. It prints the processor time of both for each change, and the ratio of the medians."""
+A node with a peer joins and leaves, as fast as it answers, once with `--log none`, and once with
+`--log text`, `--http` and who asks for its metrics each second; in turns. It prints the processor
+time of both for each change, and the ratio of the medians."""
 
 import contextlib
 import os
@@ -132,7 +134,8 @@ def main():
         looked_at.append(play(wanted.program, wanted.changes, True))
     for name, times in (("alone", alone), ("looked at", looked_at)):
         print(
-            f"{name}: {statistics.median(times) * 1e6:.2f} us a change ({min(times) * 1e6:.2f} to {max(times) * 1e6:.2f})"
+            f"{name}: {statistics.median(times) * 1e6:.2f} us a change"
+            f" ({min(times) * 1e6:.2f} to {max(times) * 1e6:.2f})"
         )
     print(f"ratio: {statistics.median(looked_at) / statistics.median(alone):.3f}")
 

@@ -1,9 +1,10 @@
 #!/usr/bin/env python3
-"""Figures of pg_node over real sockets on this machine, beside OTP's own pg with two nodes where `escript` is installed, all from this one run.
+"""Figures of pg_node over real sockets on this machine, beside OTP's own pg with two nodes where
+`escript` is installed, all from this one run.
 
-They are by the clock of this script, which writes lines to Unix sockets and reads them, those of pg_node and those of a node of OTP alike
-(pg_node.escript): its own time is in both columns. A word names another program than the one that bin/build makes.
-"""
+They are by the clock of this script, which writes lines to Unix sockets and reads them, those of
+pg_node and those of a node of OTP alike (pg_node.escript): its own time is in both columns. A word
+names another program than the one that bin/build makes."""
 
 import os
 import re
@@ -68,7 +69,10 @@ class Otp:
         self.name, self.control_path = f"{name}@127.0.0.1", os.path.join(
             field.folder, f"{name}.otp"
         )
-        flags = f"-name {self.name} -setcookie bench -connect_all false -kernel inet_dist_use_interface {{127,0,0,1}}"
+        flags = (
+            f"-name {self.name} -setcookie bench -connect_all false"
+            " -kernel inet_dist_use_interface {127,0,0,1}"
+        )
         words = [
             "escript",
             os.path.join(HERE, "pg_node.escript"),
@@ -157,7 +161,8 @@ def await_members(watching, count):
 
 
 def join_to_news(field, begin, pause):
-    """Milliseconds from the line of a join on one node to the pushed line on another: median, and the least that 95 of 100 keep to."""
+    """Milliseconds from the line of a join on one node to the pushed line on another: median, and
+    the least that 95 of 100 keep to."""
     hub, others = linked(field, begin, 1)
     joining, pid = a_member(hub)
     (watching,) = watchers(others, "g")
@@ -176,7 +181,8 @@ def join_to_news(field, begin, pause):
 
 
 def joins_told(field, begin, peers):
-    """Joins and leaves a second that reach this many peers, until the last of them was pushed the last line."""
+    """Joins and leaves a second that reach this many peers, until the last of them was pushed
+    the last line."""
     hub, others = linked(field, begin, peers)
     joining, pid = a_member(hub)
     watching = watchers(others, "last")
@@ -231,7 +237,8 @@ def calls_beside_lists(field, begin):
 
 
 def start_to_up(field, begin):
-    """Milliseconds from the start of a process to the news of its link at the other end, the median."""
+    """Milliseconds from the start of a process to the news of its link at the other
+    end, the median."""
     hub = begin(field, "hub").ready()
     watching = Lines(hub)
     watching.ask("size")
@@ -257,7 +264,8 @@ def link_memory(field, begin):
 
 
 class Table:
-    """The rows as they are measured: each in a field of its own, so that no nodes of one row are there in the next."""
+    """The rows as they are measured: each in a field of its own, so that no nodes of one row are
+    there in the next."""
 
     def __init__(self, program, has_otp):
         self.program, self.has_otp = program, has_otp

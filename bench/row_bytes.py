@@ -64,7 +64,8 @@ def row(group, number):
 
 
 class Console:
-    """The node `b@h` behind lines, with the scope `pg` and the link 2, which is up and heard with no rows."""
+    """The node `b@h` behind lines, with the scope `pg` and the link 2, which is up and
+    heard with no rows."""
 
     def __init__(self, program, counting):
         words = [program, "run", "b@h", "password", "--links", "2", "--entries", "1000"]

@@ -5,8 +5,7 @@ It hands each line of its standard input to a worker (worker.py), in turn to eac
 behind the control socket CONTROL lists now, and prints the answer, or `nobody`. It prints
 `here HOST:PORT` and `gone HOST:PORT` when a worker comes or goes. At the end of its input it ends
 with status 0; when the node ends, or doesn't say who is listed, with a line on standard error and
-status 1. Where no node is there yet it says so, and waits for one.
-"""
+status 1. Where no node is there yet it says so, and waits for one."""
 
 import collections
 import os

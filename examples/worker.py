@@ -5,8 +5,7 @@ It does jobs that come as lines at HOST:PORT. Through the pg_node behind the con
 it is listed as a process in the group jobs/HOST:PORT of the scope jobs. The node ends that process
 when the connection closes, in whatever way the worker ended. When the node ends, or doesn't list
 it, the worker ends, too, with a line on standard error and status 1. Where no node is there yet it
-says so, and waits for one.
-"""
+says so, and waits for one."""
 
 import contextlib
 import os

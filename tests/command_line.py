@@ -8,16 +8,17 @@ ROOT = os.path.realpath(os.path.join(os.path.dirname(os.path.realpath(__file__))
 
 
 def from_1(text):
-    """A number on a command line that is 1 or more: of 0 scripts, turns or processes nothing would be tried."""
+    """A number on a command line that is 1 or more: of 0 scripts, turns or processes nothing
+    would be tried."""
     if not (text.isascii() and text.isdecimal() and int(text) > 0):
         raise argparse.ArgumentTypeError(f"no number from 1: {text}")
     return int(text)
 
 
 class CommandLine(argparse.ArgumentParser):
-    """Reads the words of a test before it does anything. `--help` prints the test's page; a word that the test doesn't know ends it with
-    status 2, and with one line on standard error, which names that word and those that the test takes.
-    """
+    """Reads the words of a test before it does anything. `--help` prints the test's page; a word
+    that the test doesn't know ends it with status 2, and with one line on standard error, which
+    names that word and those that the test takes."""
 
     def __init__(self, page):
         super().__init__(

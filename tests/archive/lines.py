@@ -1,9 +1,11 @@
-"""Reads an archive without a word of the program's, and holds it beside the run that it tells of."""
+"""Reads an archive without a word of the program's, and holds it beside the run
+that it tells of."""
 
 import json
 from collections import Counter
 
-# The event that each command asks for, and the fields of its arguments; the last of a list is a list.
+# The event that each command asks for, and the fields of its arguments; the last of a
+# list is a list.
 EVENTS = {
     "restart": ("Restart", []),
     "cookie": ("SetCookie", []),

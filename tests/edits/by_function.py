@@ -1,6 +1,7 @@
-"""Plays rows in one copy of the repository, function by function: rows that change different functions are made at once, and those functions are
-checked. What isn't refused so is made with others once more, and alone in the end; what none of its functions refuses, or what is in no function, the
-whole crate has to refuse."""
+"""Plays rows in one copy of the repository, function by function: rows that change different
+functions are made at once, and those functions are checked. What isn't refused so is made with
+others once more, and alone in the end; what none of its functions refuses, or what is in no
+function, the whole crate has to refuse."""
 
 import os
 import shutil
@@ -38,7 +39,8 @@ def copy_of_repository(to):
 
 
 def groups(crate, rows_left):
-    """These rows, each with the functions that it changes, in groups in which no two change one function. A row that changes anything else stands in none."""
+    """These rows, each with the functions that it changes, in groups in which no two change one
+    function. A row that changes anything else stands in none."""
     found = []
     for row in rows_left:
         names = changed_functions(crate.folder, row)
@@ -56,7 +58,8 @@ def groups(crate, rows_left):
 
 
 def made_together(crate, group):
-    """The rows of a group that can be made beside each other; what a check of their functions comes to, and its lines. The crate is as before then."""
+    """The rows of a group that can be made beside each other; what a check of their functions comes
+    to, and its lines. The crate is as before then."""
     before, made = {}, []
     try:
         for row, names in group:
@@ -77,9 +80,9 @@ def made_together(crate, group):
 
 
 def tried_together(crate, group):
-    """The rows of a group that the prover refuses, each by a function that it changes, with that function and the line that says so. Where a function
-    has another name the others are tried, and where they can't be compiled, or came to nothing, each half.
-    """
+    """The rows of a group that the prover refuses, each by a function that it changes, with that
+    function and the line that says so. Where a function has another name the others are tried, and
+    where they can't be compiled, or came to nothing, each half."""
     if not group:
         return {}
     made, kind, lines = made_together(crate, group)
@@ -103,7 +106,8 @@ def tried_together(crate, group):
 
 
 def tried(crate, row):
-    """What a row comes to in a crate of the copy, by which function, and the line that says so. The crate is as before then."""
+    """What a row comes to in a crate of the copy, by which function, and the line that says so. The
+    crate is as before then."""
     texts, fault = row.edited(crate.folder)
     if fault:
         return UNSURE, "", fault
@@ -123,9 +127,9 @@ def tried(crate, row):
 
 
 def verdicts(crate, rows_left):
-    """What each of these rows comes to, by which function, and the line that says so, as soon as that is known. A function that isn't refused for what
-    it is itself may rest on another one that was made at once, so what is left is made together again, as long as that finds any.
-    """
+    """What each of these rows comes to, by which function, and the line that says so, as soon as
+    that is known. A function that isn't refused for what it is itself may rest on another one that
+    was made at once, so what is left is made together again, as long as that finds any."""
     left, found = list(rows_left), True
     with all_taken(crate):
         while found and left:
@@ -141,8 +145,9 @@ def verdicts(crate, rows_left):
 
 
 def count_of(crate, wanted):
-    """How many of these rows of a crate are refused, and how many not; says a line for each. Where the crate isn't proved without them none is refused: it
-    is checked first, unless `rt ci` has just proved it."""
+    """How many of these rows of a crate are refused, and how many not; says a line for each. Where
+    the crate isn't proved without them none is refused: it is checked first, unless `rt ci` has
+    just proved it."""
     kind, said, _ = check(crate) if not crate.is_behind_ci else (PROVED, "", [])
     if kind != PROVED:
         say(f"{crate.name}: it isn't proved without any edit: {kind}: {said}")
@@ -155,8 +160,9 @@ def count_of(crate, wanted):
 
 
 def count_by_function(names, copy, is_wanted, are_behind_ci):
-    """How many rows are refused, and how many not; a line for each. Behind `rt ci` there is a crate on each processor, those with most rows first; else
-    one after the other, since `rt check` works on one crate of a repository at a time."""
+    """How many rows are refused, and how many not; a line for each. Behind `rt ci` there is a crate
+    on each processor, those with most rows first; else one after the other, since `rt check` works
+    on one crate of a repository at a time."""
     wanted = {name: [row for row in rows(name) if is_wanted(row)] for name in names}
     left = sorted(filter(wanted.get, names), key=lambda name: -len(wanted[name]))
     with ThreadPoolExecutor(len(os.sched_getaffinity(0)) if are_behind_ci else 1) as lanes:

@@ -16,9 +16,11 @@ RUNNING, ENDS = set(), threading.Event()
 REFUSED, PROVED, UNKNOWN = "refused", "NOT REFUSED", "no such function"
 COMPILE, LIMIT, UNSURE = "COMPILE ERROR", "ONLY A LIMIT", "NOT TRIED"
 LIMITS = re.compile(
-    r"antt ran out of (stack|the (steps|memory) )|(outgrew the memory limit|stopped at the step limit) \("
+    r"antt ran out of (stack|the (steps|memory) )"
+    r"|(outgrew the memory limit|stopped at the step limit) \("
 )
-# How the prover says that it can't read a text: the fault has no function, or is one of names and of grammar.
+# How the prover says that it can't read a text: the fault has no function, or is one of names
+# and of grammar.
 READING = re.compile(
     r"is not in scope|has no field|is no name|operand is missing|expected the end|cannot continue"
 )
@@ -36,7 +38,8 @@ class Crate(namedtuple("Crate", "folder is_behind_ci")):
 
     @property
     def stands_on_ci(self):
-        """Whether the libraries below it are those that `rt ci` left, of the files as they stand."""
+        """Whether the libraries below it are those that `rt ci` left, of the files
+        as they stand."""
         libraries = below(self.name)
         return bool(libraries) and all(is_left_by_ci(name, self.is_behind_ci) for name in libraries)
 
@@ -67,7 +70,8 @@ def library(crate):
 
 
 def is_left_by_ci(crate, has_just_run):
-    """Whether the crate's library is one that `rt ci` left, of its files as they stand: one that `rt check` builds has a stamp beside it."""
+    """Whether the crate's library is one that `rt ci` left, of its files as they stand: one that
+    `rt check` builds has a stamp beside it."""
     is_there = os.path.isdir(library(crate)) and not os.path.exists(
         os.path.join(os.path.dirname(library(crate)), "stamp")
     )
@@ -90,9 +94,9 @@ def is_newest(crate):
 
 
 def command(crate):
-    """The words that check a crate, over what earlier checks kept in its folder. Over the libraries that `rt ci` left those of the prover itself, as
-    `rt ci` runs it: `rt check` would first prove all of them again. Else `rt check`, which begins with what was proved on this machine.
-    """
+    """The words that check a crate, over what earlier checks kept in its folder. Over the libraries
+    that `rt ci` left those of the prover itself, as `rt ci` runs it: `rt check` would first prove
+    all of them again. Else `rt check`, which begins with what was proved on this machine."""
     if not crate.stands_on_ci:
         return ["rt", "check"]
     libraries = below(crate.name)
@@ -131,14 +135,16 @@ def command(crate):
 
 
 def check(crate, functions=(), flags=()):
-    """What a check of a crate comes to, or of some functions of it; the line that says so, and all lines."""
+    """What a check of a crate comes to, or of some functions of it; the line that says so,
+    and all lines."""
     only = [word for name in functions for word in ("--only", f"{crate.name}::{name}")]
     status, lines = output([*command(crate), *only, *flags], crate.folder)
     return *judged(status, lines), lines
 
 
 def output(words, folder):
-    """The status of a command that is run in a folder, None where it takes too long, and its lines. It ends with all that it started."""
+    """The status of a command that is run in a folder, None where it takes too long, and its lines.
+    It ends with all that it started."""
     if ENDS.is_set():
         raise InterruptedError("the run is at its end")
     with subprocess.Popen(
@@ -175,7 +181,8 @@ def end_all():
 
 
 def cannot_read(line):
-    """Whether the prover says so of a text of src/ or specs/, where a wrong deed leaves what can be read, and is false."""
+    """Whether the prover says so of a text of src/ or specs/, where a wrong deed leaves what can be
+    read, and is false."""
     fault = FAULT.match(line)
     return bool(fault) and (not fault[2] or bool(READING.search(re.sub(r"`[^`]*`", "", fault[3]))))
 
@@ -209,9 +216,10 @@ def judged(status, lines):
 
 
 def refused_functions(name, lines):
-    """The functions of the crate of this name that the prover refuses for what they are themselves, by their names in it, each with the line that says so. Who calls one
-    that isn't proved isn't proved either, and a proof by hand may rest on one. A closure stands for the function that has it.
-    """
+    """The functions of the crate of this name that the prover refuses for what they are
+    themselves, by their names in it, each with the line that says so. Who calls one that isn't
+    proved isn't proved either, and a proof by hand may rest on one. A closure stands for the
+    function that has it."""
     found = {}
     faults = [
         line

@@ -1,5 +1,6 @@
-"""Finds the functions that a row changes, by the names that a check gives to them. The sources are as `rt fmt` leaves them: a function, and
-an `impl`, end with a line that closes them where they began."""
+"""Finds the functions that a row changes, by the names that a check gives to them. The
+sources are as `rt fmt` leaves them: a function, and an `impl`, end with a line that closes
+them where they began."""
 
 import os
 import re
@@ -8,7 +9,8 @@ from functools import cache
 
 from rows import text_of
 
-# A function's name, as `kept::Kept::dial` or `pid::PidTryClone::try_clone`, its text and where that stands.
+# A function's name, as `kept::Kept::dial` or `pid::PidTryClone::try_clone`, its text and
+# where that stands.
 Function = namedtuple("Function", "name text first behind")
 FN = re.compile(r"^( *)(?:pub(?:\([a-z]+\))? )?(?:const )?fn (\w+)", re.MULTILINE)
 TYPE = re.compile(r"^(?:pub(?:\([a-z]+\))? )?(?:struct|enum) (\w+)", re.MULTILINE)
@@ -28,13 +30,15 @@ def functions(crate, file):
 
 
 def module_of(file):
-    """The path of a file's module in its crate: none of src/lib.rt, `tables::told` of src/tables/told.rt."""
+    """The path of a file's module in its crate: none of src/lib.rt, `tables::told` of
+    src/tables/told.rt."""
     words = file.removeprefix("src/").removesuffix(".rt").split("/")
     return [] if words[-1] in ("lib", "main") else [word for word in words if word != "mod"]
 
 
 def home_of(crate, owner, module):
-    """The path by which a function's owner is named: that of the module that declares the type, else of the one where its `impl` stands."""
+    """The path by which a function's owner is named: that of the module that declares the type,
+    else of the one where its `impl` stands."""
     homes = types(crate).get(owner[0], []) if owner else []
     return homes[0] if len(homes) == 1 else module
 
@@ -50,7 +54,8 @@ def types(crate):
 
 
 def end_of(text, start, indent):
-    """Where what begins here ends: behind the first line that is closed as far in as it began, or its only line."""
+    """Where what begins here ends: behind the first line that is closed as far in as it began, or
+    its only line."""
     line = text[start:].split("\n", 1)[0]
     if line.endswith(("}", ";")):
         return start + len(line)
@@ -61,7 +66,8 @@ def end_of(text, start, indent):
 
 
 def owner_of(text, place):
-    """The type that a function belongs to, behind which stand the trait and its types where it is one's: `Pid`, or `PidTryClone`."""
+    """The type that a function belongs to, behind which stand the trait and its types where it is
+    one's: `Pid`, or `PidTryClone`."""
     impl = [match for match in IMPL.finditer(text, 0, place)][-1:]
     words = impl[0].group(1) if impl else ""
     trait, _, owner = words.rpartition(" for ")
@@ -85,8 +91,9 @@ def plain(words):
 
 
 def changed_functions(crate, row):
-    """The names of the functions that a row changes, or that it names; of a constant, of those that use it. None where it changes anything else, as a
-    type or a definition, which only a check of the whole crate looks at."""
+    """The names of the functions that a row changes, or that it names; of a constant, of those that
+    use it. None where it changes anything else, as a type or a definition, which only a check of
+    the whole crate looks at."""
     if row.by:
         return row.by
     names = []
@@ -100,7 +107,8 @@ def changed_functions(crate, row):
 
 
 def enclosing(crate, file, old):
-    """The function around a text, as a list of one, or none, as where only another change of the row makes that text."""
+    """The function around a text, as a list of one, or none, as where only another change of the
+    row makes that text."""
     place = text_of(os.path.join(crate, file)).find(old)
     place += len(old) - len(old.lstrip()) if place >= 0 else 0
     return [

@@ -11,8 +11,9 @@ BREAK = "⏎"
 
 
 class Row:
-    """A wrong deed: its name, the pairs of a text and what stands in its place, each with the file that has it, the functions that have to refuse it,
-    where the row names some, and whether the gate tries it."""
+    """A wrong deed: its name, the pairs of a text and what stands in its place, each with the file
+    that has it, the functions that have to refuse it, where the row names some, and whether the
+    gate tries it."""
 
     def __init__(self, line, in_gate):
         cells = [
@@ -31,7 +32,8 @@ class Row:
         self.pairs = list(zip(files * (len(olds) // len(files)), olds, news))
 
     def edited(self, folder):
-        """The texts of the files that it changes in this crate, and why it can't be made, or None."""
+        """The texts of the files that it changes in this crate, and why it can't be
+        made, or None."""
         texts = {}
         for file, old, new in self.pairs:
             path = os.path.join(folder, file)

@@ -1,5 +1,6 @@
-"""Takes the functions of a crate at their word, in a copy, where `rt ci` has just proved the crate: each has no body, and a hole in place of its proof,
-so that a check of others costs what they cost themselves. What each promises stays, and is what its callers are proved by."""
+"""Takes the functions of a crate at their word, in a copy, where `rt ci` has just proved the crate:
+each has no body, and a hole in place of its proof, so that a check of others costs what they cost
+themselves. What each promises stays, and is what its callers are proved by."""
 
 import json
 import os
@@ -11,7 +12,8 @@ import functions as source
 from checks import is_left_by_ci, library
 from rows import ROOT, text_of
 
-# A closure, as `accepting::fn::accept_links::scope`, and the end of a value, as `policy_audit++page++Page+Destruct::drop` or `Destruct++array::drop`.
+# A closure, as `accepting::fn::accept_links::scope`, and the end of a value, as
+# `policy_audit++page++Page+Destruct::drop` or `Destruct++array::drop`.
 OF_BODIES = re.compile(r"(?:^|::)fn::|(?:^|\+)Destruct(?:\+|::)")
 FILES = ("Proof.antt", "Invariants.antt", "Answers.antt")
 # What stands for each proof: one hole, so that it is told once.
@@ -48,7 +50,8 @@ def all_taken(crate):
 
 @contextmanager
 def proved(crate, names):
-    """Has these functions proved, beside those that are taken at their word, and gives the flags for a check of them."""
+    """Has these functions proved, beside those that are taken at their word, and gives the flags
+    for a check of them."""
     if not can_take(crate):
         yield []
         return
@@ -78,8 +81,8 @@ def proved(crate, names):
 
 
 def functions(crate):
-    """The names of a crate's functions, as `rt ci` wrote them down for the crates above: but those that are proved by hand, and closures and the ends of
-    values, which come and go with bodies."""
+    """The names of a crate's functions, as `rt ci` wrote them down for the crates above: but those
+    that are proved by hand, and closures and the ends of values, which come and go with bodies."""
     with open(os.path.join(library(crate.name), "lang/antt/made.json"), encoding="utf-8") as lines:
         written = [
             json.loads(line)
@@ -105,7 +108,8 @@ def emptied(text, stated, names):
 
 
 def without_body(text):
-    """A function whose body is never come to; as it is where it has none, stands on one line, or is worked out by the compiler."""
+    """A function whose body is never come to; as it is where it has none, stands on one line, or is
+    worked out by the compiler."""
     lines = text.split("\n")
     indent = lines[-1].removesuffix("}")
     if len(lines) == 1 or indent.strip() or "const fn" in lines[0]:

@@ -37,8 +37,8 @@ def fill(talk, pid, count):
 
 
 def files_of(path):
-    """The files of an archive, in the order of what they have: those that were full, by the creation and the number in their names,
-    and then the one that is written to."""
+    """The files of an archive, in the order of what they have: those that were full, by the
+    creation and the number in their names, and then the one that is written to."""
     full = [
         name for name in glob.glob(f"{path}.*") if name[len(path) + 1 :].replace(".", "").isdigit()
     ]
@@ -87,8 +87,8 @@ def settled(talk, path):
 
 @case
 def archive_in_order(field):
-    """The archive holds each entry once and in order, over several files, none larger than it may be and each named by its first
-    entry; its files are their owner's alone."""
+    """The archive holds each entry once and in order, over several files, none larger than it may
+    be and each named by its first entry; its files are their owner's alone."""
     path = os.path.join(field.folder, "archive")
     a = field.node(
         "a@h", "--entries", KEPT, "--audit", path, "--audit-size", "50000", "--creation", "7"
@@ -136,8 +136,8 @@ def check_files(path):
 
 @case
 def archive_after_a_kill(field):
-    """What a node that was killed has written stays, a torn last line is cut off at the next start and that is said once, and the next
-    life's lines stand behind it."""
+    """What a node that was killed has written stays, a torn last line is cut off at the next start
+    and that is said once, and the next life's lines stand behind it."""
     path = os.path.join(field.folder, "archive")
     a = field.node("a@h", "--entries", KEPT, "--audit", path, "--creation", "1")
     start(a)
@@ -174,7 +174,8 @@ def archive_after_a_kill(field):
 
 @case
 def archive_killed_at_any_time(field):
-    """A node that is killed while it writes leaves whole lines and at most one torn one, which the next start cuts off."""
+    """A node that is killed while it writes leaves whole lines and at most one torn one, which the
+    next start cuts off."""
     path = os.path.join(field.folder, "archive")
     for creation in range(1, 6):
         a = field.node("a@h", "--entries", KEPT, "--audit", path, "--creation", creation)
@@ -209,7 +210,8 @@ def send_on(talk, lines):
 
 @case
 def archive_of_something_else(field):
-    """A file that begins or ends otherwise than an archive is left as it is, and the node says so and ends."""
+    """A file that begins or ends otherwise than an archive is left as it is, and the node
+    says so and ends."""
     path = os.path.join(field.folder, "archive")
     texts = b"a diary\nof somebody", b"a-cookie\n", b'{"life":"a@h"}\nof somebody'
     for name, text in zip(("a@h", "b@h", "c@h"), texts):
@@ -236,7 +238,8 @@ def archive_of_a_pipe(field):
 
 @case
 def archive_of_another_node(field):
-    """One node writes to a file: another one that is given the same says so and ends, and may have it once the first one is gone."""
+    """One node writes to a file: another one that is given the same says so and ends, and may have
+    it once the first one is gone."""
     path = os.path.join(field.folder, "archive")
     a = field.node("a@h", "--audit", path)
     start(a)
@@ -255,7 +258,8 @@ def archive_of_another_node(field):
 
 @case
 def archive_on_a_full_device(field):
-    """A full disk ends nothing: it is said once, entries wait and are then let go and counted, and the last line says how many."""
+    """A full disk ends nothing: it is said once, entries wait and are then let go and counted, and
+    the last line says how many."""
     a = field.node("a@h", "--entries", "256", "--audit", "/dev/full")
     control = field.control(a)
     start(control)
@@ -285,8 +289,9 @@ def archive_on_a_full_device(field):
 
 @case
 def archive_on_a_full_disk(field):
-    """Where a file can't grow in the midst of a line, what is whole stays and no line is torn in the midst of the file: once there is
-    room again the rest follows at that very byte, and nothing is lost."""
+    """Where a file can't grow in the midst of a line, what is whole stays and no line is torn in
+    the midst of the file: once there is room again the rest follows at that very byte, and
+    nothing is lost."""
     path = os.path.join(field.folder, "archive")
     a = limited_node(field, path)
     start(a)
@@ -309,7 +314,8 @@ def limited_node(field, path):
     program = os.path.join(field.folder, "limited")
     with open(program, "w", encoding="ascii") as file:
         file.write(
-            f'#!/bin/bash\ntrap "" XFSZ\nexec prlimit --fsize=20001:unlimited {field.program} "$@"\n'
+            '#!/bin/bash\ntrap "" XFSZ\n'
+            f'exec prlimit --fsize=20001:unlimited {field.program} "$@"\n'
         )
     os.chmod(program, 0o700)
     before, field.program = field.program, program
@@ -321,8 +327,8 @@ def limited_node(field, path):
 
 @case
 def archive_moved_by_a_tool(field):
-    """Once a tool has moved the file away, `reopen` lets the node begin a new one at its path; all files together have each entry
-    once."""
+    """Once a tool has moved the file away, `reopen` lets the node begin a new one at its path; all
+    files together have each entry once."""
     path = os.path.join(field.folder, "archive")
     a = field.node("a@h", "--entries", KEPT, "--audit", path)
     control = field.control(a)
@@ -349,8 +355,8 @@ def archive_moved_by_a_tool(field):
 
 @case
 def archive_over_lives(field):
-    """A node whose entries have few numbers begins anew with another life, and the archive has all of both, each behind the line of its
-    life."""
+    """A node whose entries have few numbers begins anew with another life, and the archive has all
+    of both, each behind the line of its life."""
     path = os.path.join(field.folder, "archive")
     a = field.node(
         "a@h", "--entries", "1000", "--last-entry", "2000", "--audit", path, "--creation", "41"
@@ -373,7 +379,8 @@ def archive_over_lives(field):
 
 @case
 def archive_replays(field):
-    """The archive of two linked nodes agrees with the written policy: a replay gives each entry's verdict, reply and change."""
+    """The archive of two linked nodes agrees with the written policy: a replay gives each entry's
+    verdict, reply and change."""
     path = os.path.join(field.folder, "archive")
     a = field.node(
         "a@h", "--entries", "1000", "--audit", path, "--audit-size", "100000", "--creation", "7"

@@ -59,7 +59,8 @@ def expect_asked(field, words, lines, status):
 
 @case
 def asked_from_a_shell(field):
-    """pg_ask prints the answer alone, and ends with status 0, with 1 where a rule refuses it, with 2 at a fault."""
+    """pg_ask prints the answer alone, and ends with status 0, with 1 where a rule refuses it,
+    with 2 at a fault."""
     a = field.node("a@h")
     b = field.node("b@h", dial=[a])
     await_nodes(a, ["b@h"])
@@ -81,7 +82,8 @@ def asked_from_a_shell(field):
 
 @case
 def asked_by_a_line_on_standard_input(field):
-    """With - pg_ask says the line on its standard input, as a cookie that no other user is to see; it takes no second one."""
+    """With - pg_ask says the line on its standard input, as a cookie that no other user is to see;
+    it takes no second one."""
     a = field.node("a@h")
     for text, status, said in (
         (b"cookie_for b@h secret\n", 0, ""),
@@ -112,7 +114,8 @@ def asked_by_a_line_on_standard_input(field):
 
 @case
 def asked_where_no_node_answers(field):
-    """Where no node answers, or not in time, pg_ask ends with status 3 and a line that says so; at a fault of its words with 2."""
+    """Where no node answers, or not in time, pg_ask ends with status 3 and a line that says so; at
+    a fault of its words with 2."""
     a = field.node("a@h")
     for words, status, reason in (
         (["--timeout", "500", a.control_path, "nodes"], 3, "error: no answer within 500 ms"),
@@ -150,7 +153,8 @@ def asked_of_a_full_node(field):
 
 @case
 def asked_for_json(field):
-    """With --json each line is an object: the first word is the answer, or the news, and the others are values."""
+    """With --json each line is an object: the first word is the answer, or the news, and the
+    others are values."""
     a = field.node("a@h", "--creation", "7")
     pid = member(a, group='"g"')
     for words, wanted in (
@@ -173,7 +177,8 @@ def asked_for_json(field):
 
 @case
 def followed_from_a_shell(field):
-    """With --follow pg_ask prints what comes unasked, at once, until the node is gone, and ends with status 3."""
+    """With --follow pg_ask prints what comes unasked, at once, until the node is gone, and ends
+    with status 3."""
     a = field.node("a@h")
     start(a)
     following = Asking(field, "--follow", "--timeout", "5000", a.control_path, "monitor", "pg", "g")
@@ -191,7 +196,8 @@ def followed_from_a_shell(field):
 
 @case
 def held_from_a_shell(field):
-    """`pg_ask hold` is a process in a group until its standard input ends, also where the scope didn't run; then it is gone at once."""
+    """`pg_ask hold` is a process in a group until its standard input ends, also where the scope
+    didn't run; then it is gone at once."""
     a = field.node("a@h")
     holding = Asking(field, a.control_path, "hold", "jobs", "printers", stdin=subprocess.PIPE)
     pid = re.fullmatch("pid (.*)", holding.line())[1]
@@ -208,8 +214,9 @@ def held_from_a_shell(field):
 
 @case
 def held_through_turns_and_stops(field):
-    """`pg_ask hold` joins again as a new process where the node begins anew, and where the scope was stopped; it ends with status 3
-    where the node is gone, and with 1 where a rule refuses it."""
+    """`pg_ask hold` joins again as a new process where the node begins anew, and where the
+    scope was stopped; it ends with status 3 where the node is gone, and with 1 where a
+    rule refuses it."""
     a = field.node("a@h", "--last-entry", "100", "--creation", "41")
     holding = Asking(field, a.control_path, "hold", "jobs", "printers", stdin=subprocess.PIPE)
     expect("its process", "pid a@h/41/1", holding.line())
@@ -231,7 +238,8 @@ def held_through_turns_and_stops(field):
 
 @case
 def held_while_it_is_followed(field):
-    """`pg_ask hold` joins again where it shows what comes unasked, too, as lines and as JSON; the process that a stop has left alone exits."""
+    """`pg_ask hold` joins again where it shows what comes unasked, too, as lines and as JSON; the
+    process that a stop has left alone exits."""
     a = field.node("a@h", "--creation", "41")
     for number, words in enumerate(((), ("--follow",), ("--follow", "--json"))):
         group = f"g{number}"
@@ -280,7 +288,8 @@ def held_through_stops_in_a_row(field):
 
 @case
 def answer_that_is_read_slowly(field):
-    """The time for an answer ends when it has come: a long one is printed whole, however slowly it is read."""
+    """The time for an answer ends when it has come: a long one is printed whole, however
+    slowly it is read."""
     a = field.node("a@h")
     start(a)
     pid = a.ask("spawn").split()[1]
@@ -294,7 +303,8 @@ def answer_that_is_read_slowly(field):
 
 @case
 def held_for_a_program_that_is_killed(field):
-    """The shell's line of the page ties a group to a program: when the program is killed, its process has left."""
+    """The shell's line of the page ties a group to a program: when the program is killed, its
+    process has left."""
     a = field.node("a@h")
     start(a, "jobs")
     line = 'sh -c "echo \\$\\$ > \\"$3\\"; exec sleep 600" 3>&1 >&2 | "$1" "$2" hold jobs printers'

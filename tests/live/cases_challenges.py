@@ -1,4 +1,5 @@
-"""That each link is opened with a challenge of its own: who heard the answer to one can't use it for another."""
+"""That each link is opened with a challenge of its own: who heard the answer to one can't use
+it for another."""
 
 from field import case
 from node import await_nodes
@@ -10,7 +11,8 @@ IN_TURN, AT_ONCE, DIALLED = 10, 5, 5
 
 @case
 def challenges_of_their_own(field):
-    """Of twenty links, of which peers open fifteen and the node dials five, no two are opened with the same challenge."""
+    """Of twenty links, of which peers open fifteen and the node dials five, no two are opened with
+    the same challenge."""
     names = [f"dialled{number}@h" for number in range(DIALLED)]
     listeners = [field.listener() for _ in names]
     dials = [word for name, listener in zip(names, listeners) for word in dial_of(name, listener)]

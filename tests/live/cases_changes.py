@@ -12,8 +12,8 @@ from waiting import expect, expect_that, until
 
 @case
 def dialled_while_it_runs(field):
-    """A peer is dialled from `dial` on, at its new place where it is said again, also behind a turn, and no more behind `undial`; a
-    link that is up stays. None of that is an entry."""
+    """A peer is dialled from `dial` on, at its new place where it is said again, also behind a
+    turn, and no more behind `undial`; a link that is up stays. None of that is an entry."""
     a, b = field.node("a@h"), field.node("b@h", "--last-entry", "150")
     before = size(b)
     asked(b, "dial a@h=127.0.0.1:1")
@@ -50,7 +50,8 @@ def undialled_before_it_is_up(field):
 
 @case
 def undialled_while_it_waits_for_a_lane(field):
-    """A dial that waits for a lane ends at `undial`, though none is free: its connection is closed, and nothing of it is an entry."""
+    """A dial that waits for a lane ends at `undial`, though none is free: its connection is closed,
+    and nothing of it is an entry."""
     b = field.node("b@h", "--setuptime", "60000")
     for _ in range(64):
         field.keep(connect(b.port))
@@ -67,8 +68,8 @@ def undialled_while_it_waits_for_a_lane(field):
 
 @case
 def faults_of_dials(field):
-    """What names no peer to dial is a fault that says what is wrong with it, but for bytes that a terminal shouldn't be given, and makes
-    no entry. An IPv6 address stands in brackets."""
+    """What names no peer to dial is a fault that says what is wrong with it, but for bytes that a
+    terminal shouldn't be given, and makes no entry. An IPv6 address stands in brackets."""
     a = field.node("a@h")
     before = size(a)
     for line, fault in (
@@ -104,7 +105,8 @@ def faults_of_dials(field):
 
 
 def first_answer(node):
-    """What a new client of the node is answered, or None where there is no room for it, or nobody."""
+    """What a new client of the node is answered, or None where there is no room for
+    it, or nobody."""
     try:
         client = node.control()
     except OSError:
@@ -119,8 +121,8 @@ def first_answer(node):
 
 @case
 def drained(field):
-    """`drain` ends a node without a loss: all processes exit, of all connections, peers are told so before the link is down, and
-    who asked is answered `ok` then. Meanwhile nobody is let in."""
+    """`drain` ends a node without a loss: all processes exit, of all connections, peers are told so
+    before the link is down, and who asked is answered `ok` then. Meanwhile nobody is let in."""
     audit = os.path.join(field.folder, "audit")
     a = field.node("a@h", "--creation", "7", "--audit", audit)
     b = field.node("b@h", dial=[a])
@@ -148,7 +150,8 @@ def drained(field):
 
 @case
 def drained_by_its_operator(field):
-    """`drain` on standard input ends a node as well, also one without a control socket, and one that dials a peer that is away."""
+    """`drain` on standard input ends a node as well, also one without a control socket, and one
+    that dials a peer that is away."""
     a = field.node("a@h", "--dial", "x@h=127.0.0.1:1", control=False)
     new_pid(a)
     asked(a, "drain")
@@ -157,7 +160,8 @@ def drained_by_its_operator(field):
 
 @case
 def ended_while_it_drains(field):
-    """`quit` on standard input ends a node that drains at once, and no other line is answered then."""
+    """`quit` on standard input ends a node that drains at once, and no other line is
+    answered then."""
     a = field.node("a@h")
     client, watcher = field.control(a), field.control(a)
     for _ in range(4_000):

@@ -53,7 +53,8 @@ class Client:
         self.expect_errors([words])
 
     def expect_errors(self, wanted):
-        """That its lines on standard error that weren't read yet have these words, a line each; it has ended."""
+        """That its lines on standard error that weren't read yet have these words, a line
+        each; it has ended."""
         lines = self.process.stderr.read().splitlines()
         expect("how many lines on standard error", len(wanted), len(lines))
         for words, line in zip(wanted, lines):
@@ -66,7 +67,8 @@ class Client:
 
 @case
 def worker_and_router(field):
-    """A router sends work only to workers that are listed now, and knows within a second that one was killed."""
+    """A router sends work only to workers that are listed now, and knows within a second that
+    one was killed."""
     a = field.node("a@h")
     b = field.node("b@h", dial=[a])
     await_nodes(a, ["b@h"])
@@ -120,8 +122,9 @@ def work_goes_on(field):
 
 @case
 def ends_of_examples(field):
-    """Worker and router say so, and end with status 1, when their node dies, also while a job's connection is open, or has no room; and a
-    worker whose port is taken. Without words they say how they are used."""
+    """Worker and router say so, and end with status 1, when their node dies, also while a job's
+    connection is open, or has no room; and a worker whose port is taken. Without words they say how
+    they are used."""
     a = field.node("a@h", "--clients", "2", port=None)
     port = field.free_port()
     address = f"127.0.0.1:{port}"
@@ -152,8 +155,8 @@ def ends_of_examples(field):
 
 @case
 def examples_that_are_refused(field):
-    """A worker that can't be listed, for want of rows or at a socket for reads, ends with status 1 and the node's answer, and so does a
-    router that can't be told who is."""
+    """A worker that can't be listed, for want of rows or at a socket for reads, ends with status 1
+    and the node's answer, and so does a router that can't be told who is."""
     reading = os.path.join(field.folder, "reading")
     a = field.node("a@h", "--control-read", reading, port=None)
     address = f"127.0.0.1:{field.free_port()}"
@@ -194,8 +197,8 @@ def examples_wait(field):
 
 @case
 def router_at_its_end(field):
-    """A router ends with status 0 at the end of its input, whose last line may have no line feed; groups that name no worker, or one that
-    can't be there, don't hold it up."""
+    """A router ends with status 0 at the end of its input, whose last line may have no line feed;
+    groups that name no worker, or one that can't be there, don't hold it up."""
     a = field.node("a@h", port=None)
     router = Client(field, "router.py", a.control_path)
     router.send("one")

@@ -25,7 +25,8 @@ from waiting import LIMIT, expect, expect_that, until
 
 @case
 def control_dies(field):
-    """When a control connection closes, its processes are gone here and elsewhere, and those of others stay."""
+    """When a control connection closes, its processes are gone here and elsewhere, and those
+    of others stay."""
     a = field.node("a@h")
     b = field.node("b@h", dial=[a])
     start(b)
@@ -71,7 +72,8 @@ time.sleep(600)
 
 @case
 def hundred_controls(field):
-    """100 control connections at once are served; one too many is told so and closed; seats of closed ones are free again."""
+    """100 control connections at once are served; one too many is told so and closed; seats of
+    closed ones are free again."""
     a = field.node("a@h")
     start(a)
     for _ in range(2):
@@ -106,7 +108,8 @@ def served(field, node):
 
 @case
 def not_yours(field):
-    """A process of another connection can't be made to exit, join or leave; the refused line makes no entry."""
+    """A process of another connection can't be made to exit, join or leave; the refused line
+    makes no entry."""
     a = field.node("a@h")
     start(a)
     one, other = field.control(a), field.control(a)
@@ -122,7 +125,8 @@ def not_yours(field):
 
 @case
 def lines_that_cannot_be_read(field):
-    """A line that can't be read is answered `fault ..`, makes no entry, and the connection goes on; so are commands that speak for a link."""
+    """A line that can't be read is answered `fault ..`, makes no entry, and the connection goes on;
+    so are commands that speak for a link."""
     a = field.node("a@h")
     start(a)
     control = field.control(a)
@@ -162,7 +166,8 @@ def lines_that_cannot_be_read(field):
 
 @case
 def cut_lines(field):
-    """Lines may come in any pieces, many at once too, the last without its line feed; all are answered, also to who sends no more."""
+    """Lines may come in any pieces, many at once too, the last without its line feed; all are
+    answered, also to who sends no more."""
     a = field.node("a@h")
     control = field.control(a)
     for byte in b"size\nsize\n":
@@ -178,7 +183,8 @@ def cut_lines(field):
 
 @case
 def endless_line(field):
-    """A line of 32 MB is answered `fault ..`, and neither the connection nor much memory is lost by it."""
+    """A line of 32 MB is answered `fault ..`, and neither the connection nor much memory
+    is lost by it."""
     a = field.node("a@h")
     control = field.control(a)
     memory, _ = a.memory()
@@ -192,7 +198,8 @@ def endless_line(field):
 
 @case
 def client_that_never_reads(field):
-    """A client that watches and doesn't read its news holds nobody up, and not the end of the node."""
+    """A client that watches and doesn't read its news holds nobody up, and not the
+    end of the node."""
     a = field.node("a@h")
     group = "g" * 255
     pid = member(a)
@@ -230,8 +237,8 @@ def reads_without_entries(field):
 
 @case
 def reports_without_entries(field):
-    """`self`, `status`, `links`, `dials`, `scopes`, `allowed`, `clients` and `refusals` tell what is so now, and make no entry; in a
-    new life, too."""
+    """`self`, `status`, `links`, `dials`, `scopes`, `allowed`, `clients` and `refusals` tell what
+    is so now, and make no entry; in a new life, too."""
     a = field.node(
         "a@h",
         "--creation",
@@ -270,7 +277,11 @@ def reports_without_entries(field):
     )
     asked(a, "dials", "dials")
     status = a.ask("status")
-    wanted = rf"status name=a@h creation=41 version=\S+ seconds=\d+ lives=1 links=1/64 otp_links=0 clients=2/7 entries={before} kept={before}/180 lost=0 archived=0 refused=0 told=\d+ bytes=\d+"
+    wanted = (
+        r"status name=a@h creation=41 version=\S+ seconds=\d+ lives=1 links=1/64 otp_links=0"
+        rf" clients=2/7 entries={before} kept={before}/180 lost=0 archived=0 refused=0"
+        r" told=\d+ bytes=\d+"
+    )
     expect_that(re.fullmatch(wanted, status), wanted, status)
     links = b.ask("links")
     expect_that(
@@ -305,7 +316,8 @@ def reports_without_entries(field):
 
 @case
 def dials_say_why(field):
-    """`dials` says of each peer that isn't up why its last dial has failed, and when it is dialled again."""
+    """`dials` says of each peer that isn't up why its last dial has failed, and when it is
+    dialled again."""
     a = field.node("a@h", cookie="another")
     dials = {"a@h": f"127.0.0.1:{a.port}", "c@h": "127.0.0.1:1", "d@h": "nohost.invalid:1"}
     b = field.node(
@@ -324,9 +336,9 @@ def dials_say_why(field):
 
 @case
 def refusals_say_why(field):
-    """`refusals` says of a wrong cookie, of a name that isn't allowed at either end, and of a wrong name in --dial, which rule it was,
-    which peer, and its address; of strangers that say no name a dash; and no more than the last 16.
-    """
+    """`refusals` says of a wrong cookie, of a name that isn't allowed at either end, and of a wrong
+    name in --dial, which rule it was, which peer, and its address; of strangers that say no name a
+    dash; and no more than the last 16."""
     a = field.node("a@h", "--allow", "b@h", "--allow", "d@h")
     b = field.node("b@h", "--dial", f"a@h=127.0.0.1:{a.port}", cookie="another")
     field.node("c@h", dial=[a])
@@ -367,7 +379,8 @@ def refusals_say_why(field):
 
 @case
 def monitors_end(field):
-    """A monitor that ended is told nothing more, and another seat's number is no monitor of this one."""
+    """A monitor that ended is told nothing more, and another seat's number is no
+    monitor of this one."""
     a = field.node("a@h")
     start(a)
     one, other = field.control(a), field.control(a)
@@ -383,7 +396,8 @@ def monitors_end(field):
 
 @case
 def monitors_of_a_stopped_scope(field):
-    """Monitors of a scope that stops with processes listed are told that they ended, once, and the audit stays as it is then."""
+    """Monitors of a scope that stops with processes listed are told that they ended, once, and the
+    audit stays as it is then."""
     a = field.node("a@h")
     member(a)
     watching = field.control(a)
@@ -402,7 +416,8 @@ def monitors_of_a_stopped_scope(field):
 
 @case
 def news_in_order(field):
-    """A burst of joins and leaves is told whole and in order, between the answers of a connection that asks all the while."""
+    """A burst of joins and leaves is told whole and in order, between the answers of a connection
+    that asks all the while."""
     a = field.node("a@h")
     pid = member(a, "first")
     watching = field.control(a)
@@ -421,7 +436,8 @@ def news_in_order(field):
 
 @case
 def socket_of_the_owner(field):
-    """The control socket is its owner's alone, a stale one is replaced, and one that answers isn't."""
+    """The control socket is its owner's alone, a stale one is replaced, and one that
+    answers isn't."""
     a = field.node("a@h")
     expect(
         "the mode of the control socket",
@@ -438,7 +454,8 @@ def socket_of_the_owner(field):
 
 @case
 def quit_and_end(field):
-    """`quit`, or the end of standard input where there is no control socket, ends a node with status 0; peers see it at once."""
+    """`quit`, or the end of standard input where there is no control socket, ends a node with
+    status 0; peers see it at once."""
     a = field.node("a@h")
     b = field.node("b@h", dial=[a], control=False)
     await_nodes(a, ["b@h"])
@@ -474,7 +491,8 @@ def quit_of_one_that_is_gone(field):
 
 @case
 def half_open_at_the_end(field):
-    """A node with a link up, another half open and a client connected ends at `quit` without waiting for them."""
+    """A node with a link up, another half open and a client connected ends at `quit` without
+    waiting for them."""
     a = field.node("a@h")
     b = field.node("b@h", dial=[a])
     await_nodes(b, ["a@h"])
@@ -488,7 +506,8 @@ def half_open_at_the_end(field):
 
 @case
 def stdout_closed(field):
-    """A node whose standard output was closed ends by itself at its next answer, with one line and status 1."""
+    """A node whose standard output was closed ends by itself at its next answer, with one
+    line and status 1."""
     words = ["--cookie-file", field.cookie_file(), "--listen", "127.0.0.1:0"]
     errors = os.path.join(field.folder, "errors")
     with open(errors, "wb") as file:

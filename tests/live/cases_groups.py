@@ -72,7 +72,8 @@ def kill_9(field):
 
 @case
 def started_again(field):
-    """A node that is started again at its port is dialled again, and is another one: its creation differs, its old rows are gone."""
+    """A node that is started again at its port is dialled again, and is another one: its creation
+    differs, its old rows are gone."""
     port = field.free_port()
     a = field.node("a@h", port=port)
     b = field.node("b@h", dial=[a])
@@ -95,7 +96,8 @@ def started_again(field):
 
 @case
 def both_dial(field):
-    """Two nodes that dial each other at once have one link, and list each other's processes once, each time."""
+    """Two nodes that dial each other at once have one link, and list each other's processes
+    once, each time."""
     for _ in range(5):
         ports = field.free_port(), field.free_port()
         a = field.start("a@h", "--dial", f"b@h=127.0.0.1:{ports[1]}", port=ports[0])
@@ -126,7 +128,8 @@ def disconnected(field):
 
 @case
 def scopes_apart(field):
-    """What is joined in one scope isn't seen in another, and a scope that is stopped takes its rows along."""
+    """What is joined in one scope isn't seen in another, and a scope that is stopped takes
+    its rows along."""
     a = field.node("a@h")
     b = field.node("b@h", dial=[a])
     first, second = member(a, scope="first"), member(a, scope="second")

@@ -51,7 +51,8 @@ def page(port, path):
 
 
 def metrics(port):
-    """All samples, by name and labels, of a text that keeps to Prometheus's text format, version 0.0.4."""
+    """All samples, by name and labels, of a text that keeps to Prometheus's text format,
+    version 0.0.4."""
     status, headers, body = get(port, "/metrics")
     expect("the status of /metrics", 200, status)
     expect("its kind", "text/plain; version=0.0.4; charset=utf-8", headers["content-type"])
@@ -120,8 +121,8 @@ def http_node(field, name, *options, **rest):
 
 @case
 def metrics_of_a_node(field):
-    """`/metrics` tells links, clients, entries, rows by scope, what waits by link, what was refused by which rule, lines told, new
-    lives and memory, in Prometheus's format."""
+    """`/metrics` tells links, clients, entries, rows by scope, what waits by link, what was refused
+    by which rule, lines told, new lives and memory, in Prometheus's format."""
     a = http_node(
         field, "a@h", "--creation", "7", "--entries", "180", "--last-entry", "200", "--clients", "9"
     )
@@ -201,7 +202,8 @@ def metrics_of_a_node(field):
 
 @case
 def texts_of_others_are_text(field):
-    """What others say is shown in the page, and nothing of it is read as markup; in labels and JSON it stands as it is."""
+    """What others say is shown in the page, and nothing of it is read as markup; in labels and JSON
+    it stands as it is."""
     a = http_node(field, "a@h")
     for odd in ODD_GROUPS:
         member(a, odd)
@@ -230,8 +232,8 @@ def texts_of_others_are_text(field):
 
 @case
 def page_for_people(field):
-    """`/` shows links, dials with their last errors, scopes with groups and counts, and the last 50 lines of the log; no more than
-    200 groups."""
+    """`/` shows links, dials with their last errors, scopes with groups and counts, and the last 50
+    lines of the log; no more than 200 groups."""
     a = http_node(field, "a@h", "--dial", "x@h=127.0.0.1:1")
     b = field.node("b@h", "--creation", "5", dial=[a])
     await_nodes(a, ["b@h"])
@@ -272,8 +274,8 @@ def page_for_people(field):
 
 @case
 def only_reads_by_http(field):
-    """GET and HEAD alone are taken; unknown paths, long requests, long bodies and what is no HTTP are refused by name; the node goes
-    on."""
+    """GET and HEAD alone are taken; unknown paths, long requests, long bodies and what is no HTTP
+    are refused by name; the node goes on."""
     a = http_node(field, "a@h")
     for method in ("POST", "PUT", "DELETE", "OPTIONS"):
         status, headers, _ = get(a.http_port, "/", method)
@@ -306,9 +308,9 @@ def only_reads_by_http(field):
 
 @case
 def hosts_of_this_machine(field):
-    """At a loopback address a request is told 421 whose `Host` is neither an address nor `localhost`, so that no page of another place
-    reads the node by a name that was made to mean this machine; at other addresses it is answered.
-    """
+    """At a loopback address a request is told 421 whose `Host` is neither an address nor
+    `localhost`, so that no page of another place reads the node by a name that was made to mean
+    this machine; at other addresses it is answered."""
     a = http_node(field, "a@h")
     for host in (
         b"localhost",
@@ -371,7 +373,8 @@ def said_by_http(port, words):
 
 @case
 def slow_reader_of_the_page(field):
-    """Who asks for the page and doesn't read it holds up neither lines nor the end of the node; and has ten seconds."""
+    """Who asks for the page and doesn't read it holds up neither lines nor the end of the node; and
+    has ten seconds."""
     a = http_node(field, "a@h")
     pid = member(a)
     for number in range(150):
@@ -396,8 +399,8 @@ def slow_reader_of_the_page(field):
 
 @case
 def many_who_look_on(field):
-    """Sixteen connections are served at once; a further one is told that there is no room, and one is served again once one of the
-    sixteen has ended, ten seconds after it began at the latest."""
+    """Sixteen connections are served at once; a further one is told that there is no room, and one
+    is served again once one of the sixteen has ended, ten seconds after it began at the latest."""
     a = http_node(field, "a@h")
     idle = []
     for _ in range(16):
@@ -420,7 +423,8 @@ def many_who_look_on(field):
 
 @case
 def health_while_draining(field):
-    """`/healthz` is 503 while the node drains, and the page says so; and a link that comes then isn't taken."""
+    """`/healthz` is 503 while the node drains, and the page says so; and a link that comes
+    then isn't taken."""
     audit = os.path.join(field.folder, "audit")
     a = http_node(field, "a@h", "--audit", audit)
     client, watcher = field.control(a), field.control(a)
@@ -453,7 +457,8 @@ def nodes_ascend(field):
 
 @case
 def page_in_a_browser(field):
-    """The page in headless Chromium: the odd groups are text, and no script runs. Without Chromium this case only says so."""
+    """The page in headless Chromium: the odd groups are text, and no script runs. Without Chromium
+    this case only says so."""
     if CHROMIUM is None:
         print("     (no Chromium here: page_in_a_browser tries nothing)", flush=True)
         return

@@ -15,8 +15,8 @@ from waiting import LIMIT, expect, expect_that, until
 
 ROUTER = os.path.join(os.path.dirname(os.path.realpath(__file__)), "../../examples/router.py")
 
-# How many entries the nodes are to keep here, and the most that they keep for who isn't told, but for
-# what comes between two looks.
+# How many entries the nodes are to keep here, and the most that they keep for who isn't told, but
+# for what comes between two looks.
 KEPT = 1000
 MOST = 120_000
 
@@ -93,7 +93,8 @@ def await_kept(talk, most=KEPT):
 
 
 def many_events(node, busy, pid):
-    """The events of a case: the most entries that were kept at any time, and the memory behind a fifth of them."""
+    """The events of a case: the most entries that were kept at any time, and the memory behind a
+    fifth of them."""
     most, memory = 0, None
     for begin in range(0, events(), 10_000):
         refused(busy, 9_600)
@@ -106,8 +107,9 @@ def many_events(node, busy, pid):
 
 @case
 def runs_on(field):
-    """Through 300,000 events a node that keeps 1,000 entries goes on: its clients, a router, monitors of quiet groups and its links stay
-    and are told, it begins no new life, old entries are forgotten, and its memory stays."""
+    """Through 300,000 events a node that keeps 1,000 entries goes on: its clients, a router,
+    monitors of quiet groups and its links stay and are told, it begins no new life, old entries are
+    forgotten, and its memory stays."""
     a = field.node("a@h", "--entries", KEPT)
     b = field.node("b@h", "--entries", KEPT, dial=[a])
     await_nodes(a, ["b@h"])
@@ -148,7 +150,8 @@ def runs_on(field):
 
 @case
 def forgets_when_quiet(field):
-    """A burst behind which nothing comes is forgotten, too, though a monitor of a quiet group would need it."""
+    """A burst behind which nothing comes is forgotten, too, though a monitor of a quiet group
+    would need it."""
     a = field.node("a@h", "--entries", KEPT)
     quiet, busy = field.control(a), field.control(a)
     start(quiet)
@@ -161,7 +164,8 @@ def forgets_when_quiet(field):
 
 @case
 def runs_on_beside_many_monitors(field):
-    """Monitors of groups where nothing happens keep a node from forgetting for a while alone, and tell what happens there later."""
+    """Monitors of groups where nothing happens keep a node from forgetting for a while alone, and
+    tell what happens there later."""
     a = field.node("a@h", "--entries", KEPT)
     watching, busy = field.control(a), field.control(a)
     start(watching)
@@ -178,8 +182,8 @@ def runs_on_beside_many_monitors(field):
 
 @case
 def turn_knows_what_was_forgotten(field):
-    """Where a node comes to the last of its numbers it begins anew: its cookies, names and scopes hold still, though it has forgotten
-    the entries that set them."""
+    """Where a node comes to the last of its numbers it begins anew: its cookies, names and scopes
+    hold still, though it has forgotten the entries that set them."""
     a = field.node("a@h", "--entries", "100", "--last-entry", "4000", "--creation", "8")
     control = field.control(a)
     for line in ("cookie another", "cookie_for c@h third", "allow b@h", "allow c@h"):
@@ -220,8 +224,8 @@ def unread(field, node, lines):
 
 @case
 def ended_that_does_not_read(field):
-    """A connection that reads nothing is ended before the node keeps more than 100,000 entries for it, and what it had ends with it;
-    others are served meanwhile."""
+    """A connection that reads nothing is ended before the node keeps more than 100,000 entries for
+    it, and what it had ends with it; others are served meanwhile."""
     a = field.node("a@h", "--entries", KEPT)
     busy = field.control(a)
     start(busy)
@@ -262,8 +266,8 @@ def told_that_it_is_behind(field):
 
 @case
 def output_that_is_read_late(field):
-    """Where nobody reads standard output for too long its monitors alone end, with `! behind`; then the lines of standard input are
-    answered, and it is told what comes, as before."""
+    """Where nobody reads standard output for too long its monitors alone end, with `! behind`; then
+    the lines of standard input are answered, and it is told what comes, as before."""
     a, b = Silent(field, "--entries", KEPT), field.node("b@h")
     first = [say(a, line) for line in ("", "start pg", "monitor_scope pg")]
     expect("the first answers", [f"control {a.control_path}", "ok", "ref 2"], first)
@@ -296,7 +300,8 @@ def output_that_is_read_late(field):
 
 
 def say(node, line):
-    """Says a line on the node's standard input, if any, and gives the next one of its standard output."""
+    """Says a line on the node's standard input, if any, and gives the next one of its
+    standard output."""
     if line:
         node.process.stdin.write(line.encode() + b"\n")
         node.process.stdin.flush()
@@ -327,7 +332,8 @@ class Slowly:
 
 @case
 def status_of_a_node_that_forgets(field):
-    """`status` says how many entries there are, are kept, lost and in the archive; what the archive has is what isn't kept, in order."""
+    """`status` says how many entries there are, are kept, lost and in the archive; what the archive
+    has is what isn't kept, in order."""
     path = os.path.join(field.folder, "archive")
     a = field.node("a@h", "--entries", "64", "--audit", path)
     busy = field.control(a)
@@ -337,7 +343,10 @@ def status_of_a_node_that_forgets(field):
     # All but the last page, which is part of 256 entries, and those that are kept.
     await_kept(a, 512)
     status = until("an archive that is up to date", lambda: a.ask("status"), is_archived)
-    wanted = r"status name=a@h .* clients=1/100 entries=\d+ kept=\d+/64 lost=0 archived=\d+ refused=2000 told=\d+ bytes=\d+"
+    wanted = (
+        r"status name=a@h .* clients=1/100 entries=\d+ kept=\d+/64 lost=0"
+        r" archived=\d+ refused=2000 told=\d+ bytes=\d+"
+    )
     expect_that(re.fullmatch(wanted, status), wanted, status)
     asked(busy, "audit 0", "none")
     asked(busy, "audit 1", "forgotten")

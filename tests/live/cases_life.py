@@ -191,8 +191,8 @@ def output_read_late(field):
 
 @case
 def no_refusal_at_a_turn(field):
-    """While many clients ask without end a node whose entries have few numbers begins anew again and
-    again: no call is answered that the audit is full."""
+    """While many clients ask without end a node whose entries have few numbers begins anew again
+    and again: no call is answered that the audit is full."""
     a = field.node("a@h", "--last-entry", "80")
     b = field.node("b@h", dial=[a])
     asked(a, "start pg")
@@ -213,8 +213,8 @@ def no_refusal_at_a_turn(field):
 
 
 def are_listed(controls, other):
-    """Whether processes of these connections that join now are listed at the other node: not where a
-    turn comes between."""
+    """Whether processes of these connections that join now are listed at the other node: not where
+    a turn comes between."""
     pids = [new_pid(control) for control in controls]
     if any(control.ask(f"join pg last {pid}") != "ok" for control, pid in zip(controls, pids)):
         return False

@@ -64,7 +64,8 @@ def mesh_of_64(field):
 
 @case
 def full_node(field):
-    """A node with 64 links says so once a minute at most; a further peer waits, and comes up when one has gone."""
+    """A node with 64 links says so once a minute at most; a further peer waits, and comes up
+    when one has gone."""
     a = field.node("a@h")
     peers = [good_peer(field, a, f"peer{number}@h") for number in range(64)]
     until("a word that the node is full", lambda: said(a, FULL), limit=10)
@@ -83,7 +84,8 @@ def full_node(field):
 
 @case
 def dialled_once_a_thread_can_be_made(field):
-    """A peer for which no thread can be made for a moment is dialled once one can; the log says it once."""
+    """A peer for which no thread can be made for a moment is dialled once one can; the
+    log says it once."""
     a, b = field.node("a@h"), field.node("b@h")
     # (all that it begins with have begun: 64 of them wait for peers)
     until("its threads", lambda: b.memory()[1], lambda count: count >= 75)

@@ -1,4 +1,5 @@
-"""The log of what a node decides, and the faults of a first hour, each found in it or by one command."""
+"""The log of what a node decides, and the faults of a first hour, each found in it or
+by one command."""
 
 import json
 import os
@@ -13,14 +14,15 @@ from waiting import LIMIT, expect, expect_that, until
 
 # A line of the log: time, level, what, and fields, whose values are a word or stand between quotes.
 LINE = re.compile(
-    TIME.pattern
-    + r'(error|warn|info) [a-z_]+( [a-z_]+=([!#-<>-\[\]-~]+|"([ !#-\[\]-~]|\\["\\]|\\x[0-9a-f]{2})*"))*'
+    TIME.pattern + r"(error|warn|info) [a-z_]+"
+    r'( [a-z_]+=([!#-<>-\[\]-~]+|"([ !#-\[\]-~]|\\["\\]|\\x[0-9a-f]{2})*"))*'
 )
 WRONG = "another_secret"
 
 
 def raw(node):
-    """Its lines on standard error as they stand there, but for those of the script that found the program."""
+    """Its lines on standard error as they stand there, but for those of the script that
+    found the program."""
     with open(node.errors_path, encoding="utf-8", errors="surrogateescape") as file:
         return [line for line in file.read().splitlines() if not line.startswith("pg_node: ")]
 
@@ -35,8 +37,9 @@ def logged(node, pattern):
 
 @case
 def log_of_a_node(field):
-    """A node logs that it begins and ends, links that come up and go down, with names, addresses and reasons, what it refuses, and
-    what an operator changes; each line has the form of the page."""
+    """A node logs that it begins and ends, links that come up and go down, with names,
+    addresses and reasons, what it refuses, and what an operator changes; each line has the
+    form of the page."""
     a = field.node("a@h", "--creation", "3", "--last-entry", "200")
     b = field.node("b@h", "--creation", "5", dial=[a])
     c = field.node("c@h", dial=[a], cookie=WRONG)
@@ -75,8 +78,8 @@ def log_of_a_node(field):
 
 @case
 def log_as_json(field):
-    """With `--log json` each line is an object; with `--log none` nothing is logged, and of the levels that below `--log-level`
-    isn't; the reason of an end is a plain line always."""
+    """With `--log json` each line is an object; with `--log none` nothing is logged, and of the
+    levels that below `--log-level` isn't; the reason of an end is a plain line always."""
     a = field.node("a@h", "--log", "json")
     b = field.node("b@h", "--log-level", "warn", dial=[a])
     silent = field.node("s@h", "--log", "none", dial=[a], cookie=WRONG)
@@ -115,7 +118,8 @@ def log_as_json(field):
 
 @case
 def log_of_many_strangers(field):
-    """Of strangers at one address that break one rule a line a second is logged at most; the others are counted in the next."""
+    """Of strangers at one address that break one rule a line a second is logged at most; the others
+    are counted in the next."""
     a = field.node("a@h")
     began = time.monotonic()
     for _ in range(60):
@@ -176,8 +180,9 @@ def log_is_plain(field):
 
 @case
 def first_hour(field):
-    """Why a peer isn't up, or isn't any more, stands in the log of one of both, and one command says it: another cookie, a name that
-    isn't allowed at either end, another name, port or host in --dial, a peer that is away."""
+    """Why a peer isn't up, or isn't any more, stands in the log of one of both, and one command
+    says it: another cookie, a name that isn't allowed at either end, another name, port or host in
+    --dial, a peer that is away."""
     a = field.node("a@h", "--allow", "b@h", "--allow", "g@h")
     free = field.free_port()
     cases = (

@@ -18,8 +18,8 @@ JOINS_A_SECOND = 50
 
 @case
 def audit_turn(field):
-    """A node whose entries have come to the last of their numbers begins anew with its links: its processes are gone, and all are told;
-    it goes on serving."""
+    """A node whose entries have come to the last of their numbers begins anew with its links: its
+    processes are gone, and all are told; it goes on serving."""
     path = os.path.join(field.folder, "audit")
     a = field.node("a@h", "--last-entry", "400", "--audit", path, "--creation", "41")
     b = field.node("b@h", dial=[a])
@@ -60,7 +60,8 @@ def audit_turn(field):
 
 
 def fill(control, pid):
-    """Joins and leaves until the node begins anew; an answer may then be a refusal of the old process."""
+    """Joins and leaves until the node begins anew; an answer may then be a refusal of
+    the old process."""
     for _ in range(1000):
         for word in ("join", "leave"):
             answer = control.ask(f"{word} pg g {pid}")
@@ -85,7 +86,8 @@ def lives_of(path):
 
 @case
 def turn_with_commands(field):
-    """What was set by commands before the turn of an audit holds behind it: scopes, cookies, the allow list."""
+    """What was set by commands before the turn of an audit holds behind it: scopes, cookies,
+    the allow list."""
     a = field.node("a@h", "--last-entry", "300")
     asked(a, "cookie another")
     asked(a, "allow b@h")
@@ -105,7 +107,8 @@ def turn_with_commands(field):
 
 @case
 def busy_turns(field):
-    """While eight clients ask all the time a node begins anew several times: each line has an answer, and who is listed in the end is right."""
+    """While eight clients ask all the time a node begins anew several times: each line has an
+    answer, and who is listed in the end is right."""
     a = field.node("a@h", "--last-entry", "3000", "--creation", "1")
     b = field.node("b@h", dial=[a])
     start(a)
@@ -131,7 +134,8 @@ def busy_turns(field):
 
 
 def ask_much(control, strange):
-    """Spawns, joins and exits; what is answered must be what can be, also where the node began anew between two lines."""
+    """Spawns, joins and exits; what is answered must be what can be, also where the node began anew
+    between two lines."""
     for _ in range(400):
         answer = control.ask("spawn")
         pid = answer.removeprefix("pid ")
@@ -143,7 +147,8 @@ def ask_much(control, strange):
 
 @case
 def storm(field):
-    """Five nodes that are killed, stand still, disconnect and begin anew, with clients that come and go, agree in the end on who is there."""
+    """Five nodes that are killed, stand still, disconnect and begin anew, with clients that come
+    and go, agree in the end on who is there."""
     chance = random.Random(5)
     ports = [field.free_port() for _ in range(5)]
     sites = [Site(field, number, ports) for number in range(5)]
@@ -204,7 +209,8 @@ class Site:
         self.node.signal(signal.SIGCONT)
 
     def work(self, client, chance):
-        """Processes join, and most of them leave; whatever is answered where the node begins anew meanwhile."""
+        """Processes join, and most of them leave; whatever is answered where the node begins
+        anew meanwhile."""
         for _ in range(chance.randrange(10)):
             pid = new_pid(client)
             for line in (
@@ -217,7 +223,8 @@ class Site:
 
 @case
 def soak(field):
-    """60 seconds with 50 joins a second, clients that come and go: memory grows as the audit does, and threads stay."""
+    """60 seconds with 50 joins a second, clients that come and go: memory grows as the audit does,
+    and threads stay."""
     a = field.node("a@h")
     b = field.node("b@h", dial=[a])
     start(b)
@@ -244,7 +251,8 @@ def soak(field):
         memory, threads, entries = before[node.name]
         memory_now, threads_now, entries_now = (*node.memory(), size(node))
         expect_that(threads_now <= threads + 2, f"{threads} threads of {node.name}", threads_now)
-        # An entry with its copies takes less than 2 KiB, and what was freed may stay with the process.
+        # An entry with its copies takes less than 2 KiB, and what was freed may stay
+        # with the process.
         room = 2 * (entries_now - entries) + 8192
         expect_that(
             memory_now - memory < room,
@@ -254,7 +262,8 @@ def soak(field):
 
 
 def turns(field, node, joining, pid, seconds):
-    """Joins and leaves at that pace for so many seconds, with a client now and then; gives the number of joins."""
+    """Joins and leaves at that pace for so many seconds, with a client now and then; gives the
+    number of joins."""
     began = time.monotonic()
     joins = 0
     while (now := time.monotonic() - began) < seconds:

@@ -1,4 +1,5 @@
-"""News are whole: why a peer is down, that each that came up goes down before it comes up again, and that a scope was stopped."""
+"""News are whole: why a peer is down, that each that came up goes down before it comes up again,
+and that a scope was stopped."""
 
 import re
 import threading
@@ -12,7 +13,8 @@ from waiting import expect, until
 
 @case
 def reasons_of_downs(field):
-    """Why a peer is down is told with its creation: it closed, a newer link took its place, or this node disconnected it."""
+    """Why a peer is down is told with its creation: it closed, a newer link took its place, or this
+    node disconnected it."""
     a = field.node("a@h")
     watching = field.control(a)
     good_peer(field, a, "p@h").close()
@@ -32,7 +34,8 @@ def reasons_of_downs(field):
 
 @case
 def down_of_an_older_peer(field):
-    """A connection that came behind a peer isn't told that it is up, but with which creation it went, and why."""
+    """A connection that came behind a peer isn't told that it is up, but with which creation it
+    went, and why."""
     a = field.node("a@h")
     peer = good_peer(field, a, "p@h", creation=77)
     await_nodes(a, ["p@h"])
@@ -45,7 +48,8 @@ def down_of_an_older_peer(field):
 
 @case
 def stopped_scope(field):
-    """A scope that somebody stops: each connection with a member there is told, and no other; it may join again."""
+    """A scope that somebody stops: each connection with a member there is told, and no other; it
+    may join again."""
     a = field.node("a@h")
     joined, left, watching = field.control(a), field.control(a), field.control(a)
     pid, other = member(joined), member(left)
@@ -66,8 +70,8 @@ def stopped_scope(field):
 
 @case
 def told_beside_a_flood(field):
-    """Beside changes without end a connection without monitors is told of a peer that comes and goes,
-    and of a scope that stops, and its first monitor tells the next change."""
+    """Beside changes without end a connection without monitors is told of a peer that comes and
+    goes, and of a scope that stops, and its first monitor tells the next change."""
     a = field.node("a@h")
     start(a)
     quiet = field.control(a)
@@ -86,7 +90,8 @@ def told_beside_a_flood(field):
 
 @case
 def downs_at_a_turn(field):
-    """Under load, each peer that a connection was told up is told down before the new life, and before it is up again."""
+    """Under load, each peer that a connection was told up is told down before the new life, and
+    before it is up again."""
     a = field.node("a@h", "--last-entry", "4000")
     peers = [field.node(f"p{number}@h", dial=[a]) for number in range(3)]
     await_nodes(a, [peer.name for peer in peers])
@@ -123,7 +128,8 @@ def load(control, turns):
 
 
 def check_peers(talk):
-    """That no peer is told up twice with no down between, and none is up where a new life is told."""
+    """That no peer is told up twice with no down between, and none is up where a
+    new life is told."""
     up = {}
     for line in talk.untold("! (up|down|restarted) .*"):
         if found := re.fullmatch("! up (.*) ([0-9]+) visible", line):

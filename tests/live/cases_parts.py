@@ -16,7 +16,8 @@ LINKS_2 = ("--links", 2)
 LONG_GROUP = "g" * 255
 # The most rows of a scope.
 MOST_IN_PARTS = 65_536
-# How many full parts a peer begins with that never ends a message, and how many such peers there are.
+# How many full parts a peer begins with that never ends a message, and how many such
+# peers there are.
 BEGUN, PEERS = 6, 4
 # KiB that a row takes at most while it is kept, with the frame that brought it in the audit.
 ROW_SIZE = 0.4
@@ -52,9 +53,9 @@ def full_part(number, of):
 
 @case
 def all_rows_or_none(field):
-    """65,536 rows of a node are listed at another one at once, and its monitor is told once. A third
-    one is told of them while the first is killed, so that some parts come there and the last doesn't:
-    it lists none."""
+    """65,536 rows of a node are listed at another one at once, and its monitor is told once. A
+    third one is told of them while the first is killed, so that some parts come there and the last
+    doesn't: it lists none."""
     a = field.node("a@h", *LINKS_2)
     b, c = (field.node(name, *LINKS_2, dial=[a]) for name in ("b@h", "c@h"))
     start(b)
@@ -111,8 +112,9 @@ def watched(node, ending, count):
 
 @case
 def parts_that_never_end(field):
-    """Admitted peers that begin with many rows and never end take no more memory than these rows, and
-    are listed nowhere; others are served meanwhile. A stranger that sends a part is turned away."""
+    """Admitted peers that begin with many rows and never end take no more memory than these
+    rows, and are listed nowhere; others are served meanwhile. A stranger that sends a part
+    is turned away."""
     a = field.node("a@h", *LINKS_2)
     pid = member(a)
     before, entries = a.memory()[0], size(a)
@@ -145,8 +147,9 @@ def parts_that_never_end(field):
 
 @case
 def told_in_parts(field):
-    """A peer of version 2 is told of 4,097 rows in two parts, and of those that leave with a process
-    in two. One of version 1 isn't told of so many: its Discover is refused, until they are few."""
+    """A peer of version 2 is told of 4,097 rows in two parts, and of those that leave with
+    a process in two. One of version 1 isn't told of so many: its Discover is refused,
+    until they are few."""
     a = field.node("a@h", *LINKS_2)
     pid = many_rows(a, MOST_ROWS + 1)
     new, old = good_peer(field, a, "new@h", version=2), good_peer(field, a, "old@h")
@@ -168,8 +171,8 @@ def told_in_parts(field):
 
 @case
 def old_and_new_nodes(field):
-    """A node that knows version 1 alone and one that knows both list each other's processes, and the
-    one that knows both has few rows where the other is told."""
+    """A node that knows version 1 alone and one that knows both list each other's processes, and
+    the one that knows both has few rows where the other is told."""
     a = field.node("a@h", *LINKS_2)
     b = field.node("b@h", dial=[a])
     pids = [member(node) for node in (a, b)]
@@ -195,7 +198,8 @@ def next_life_knows_version_2(field):
 
 
 class Reading:
-    """Reads what a peer is told of rows: parts, and messages of one part, which are counted alone."""
+    """Reads what a peer is told of rows: parts, and messages of one part, which are
+    counted alone."""
 
     def __init__(self, peer):
         """Begins."""
@@ -241,9 +245,9 @@ class Reading:
 
 @case
 def exit_of_the_most_parts(field):
-    """An exit that owes a link 1,024 parts, as many as may wait, isn't made while another frame waits
-    for a peer that reads: beside a client that changes a row as fast as it can it ends no link, and
-    the peer is told all."""
+    """An exit that owes a link 1,024 parts, as many as may wait, isn't made while another frame
+    waits for a peer that reads: beside a client that changes a row as fast as it can it ends no
+    link, and the peer is told all."""
     a = field.node("a@h", *LINKS_2, "--ticktime", TICK_TIME)
     leaver = field.control(a)
     pid = new_pid(leaver)

@@ -88,8 +88,8 @@ def client_line_without_memory(field):
 
 @case
 def reads_without_memory(field):
-    """A read, or a monitor, that finds no memory for its answer is answered so: neither the client's
-    connection nor anything of others ends by it."""
+    """A read, or a monitor, that finds no memory for its answer is answered so: neither the
+    client's connection nor anything of others ends by it."""
     reading = os.path.join(field.folder, "reading")
     with one_arena():
         a = field.node("a@h", "--control-read", reading)

@@ -1,4 +1,5 @@
-"""What a node is started with: by its command line, by a file of settings, at a socket for reads."""
+"""What a node is started with: by its command line, by a file of settings, at a
+socket for reads."""
 
 import os
 import re
@@ -13,7 +14,8 @@ from waiting import LIMIT, expect, expect_that
 
 @case
 def settings_in_a_file(field):
-    """`--config` says options by their names; the command line goes first; what is wrong in the file is told with its line."""
+    """`--config` says options by their names; the command line goes first; what is wrong in the
+    file is told with its line."""
     cookie = field.cookie_file(mode=0o440)
     file = os.path.join(field.folder, "node.toml")
 
@@ -22,7 +24,8 @@ def settings_in_a_file(field):
             settings.write(text)
 
     write(
-        f'# a node\ncookie-file = "{cookie}"\ncreation = 5\nentries = 128\nallow = ["b@h", "c@h"]\nhidden = true\nlog-level = "warn"\n'
+        f'# a node\ncookie-file = "{cookie}"\ncreation = 5\nentries = 128\n'
+        'allow = ["b@h", "c@h"]\nhidden = true\nlog-level = "warn"\n'
     )
     done = subprocess.run(
         [field.program, "a@h", "--config", file, "--creation", "6"],
@@ -82,7 +85,10 @@ def settings_in_a_file(field):
     )
     expect("the status without the file", 1, done.returncode)
     write('cookie = "c"\n')
-    open_to_others = f"error: --config: {shown(file)}: line 1: others can read this file, or its group write it (chmod 600): cookie"
+    open_to_others = (
+        f"error: --config: {shown(file)}: line 1: others can read this file,"
+        " or its group write it (chmod 600): cookie"
+    )
     for mode, said in ((0o644, [open_to_others]), (0o660, [open_to_others]), (0o640, [])):
         os.chmod(file, mode)
         done = subprocess.run(
@@ -102,8 +108,8 @@ def settings_in_a_file(field):
 
 @case
 def modes_of_files(field):
-    """The control socket has the mode of `--control-mode`, the socket for reads that of `--control-read-mode`; a file of a cookie may
-    be read by its group, and by nobody else."""
+    """The control socket has the mode of `--control-mode`, the socket for reads that of
+    `--control-read-mode`; a file of a cookie may be read by its group, and by nobody else."""
     reading = os.path.join(field.folder, "reading")
     a = field.node(
         "a@h", "--control-mode", "0666", "--control-read", reading, "--control-read-mode", "640"
@@ -162,8 +168,8 @@ def modes_of_files(field):
 
 @case
 def socket_for_reads(field):
-    """At the socket of `--control-read` all that reads and watches is answered as ever, and nothing else is: no entry but those of
-    monitors."""
+    """At the socket of `--control-read` all that reads and watches is answered as ever, and nothing
+    else is: no entry but those of monitors."""
     reading = os.path.join(field.folder, "reading")
     a = field.node("a@h", "--control-read", reading)
     pid = member(a)
@@ -215,7 +221,8 @@ def socket_for_reads(field):
 
 @case
 def seat_for_the_operator(field):
-    """Who may only read doesn't take the last seat of a node: at the other socket, if there is one, it is left."""
+    """Who may only read doesn't take the last seat of a node: at the other socket, if there is
+    one, it is left."""
     path = os.path.join(field.folder, "reads")
     a = field.node("a@h", "--clients", "2", "--control-read", path)
     reader = field.keep(Control(path))
@@ -248,7 +255,8 @@ def usual_values(field):
 
 @case
 def faults_of_the_command_line(field):
-    """A fault of the command line is told in plain words, with a status that isn't 0, and nothing is served."""
+    """A fault of the command line is told in plain words, with a status that isn't 0, and
+    nothing is served."""
     readable = field.cookie_file(mode=0o644)
     two_lines = field.cookie_file(cookie="one\ntwo\n")
     cases = [
@@ -284,9 +292,10 @@ def faults_of_the_command_line(field):
 
 @case
 def options_that_do_not_fit(field):
-    """A peer that is given twice, a mode without its socket, one path for both sockets, a path that is too long, an IPv6 address without
-    brackets, a level that isn't one, a size without an archive, and what is said of a page or of stock nodes where there are none: each is
-    told by its option, and nothing is served."""
+    """A peer that is given twice, a mode without its socket, one path for both sockets, a path that
+    is too long, an IPv6 address without brackets, a level that isn't one, a size without an
+    archive, and what is said of a page or of stock nodes where there are none: each is told by its
+    option, and nothing is served."""
     long = os.path.join(field.folder, "x" * 104)
     for words, fault in (
         (
@@ -323,8 +332,8 @@ def options_that_do_not_fit(field):
 
 @case
 def most_names_and_peers(field):
-    """1,024 names may be allowed and 1,024 peers have a cookie of their own, each counted once; one more is told by its option, with
-    status 2."""
+    """1,024 names may be allowed and 1,024 peers have a cookie of their own, each counted once; one
+    more is told by its option, with status 2."""
     cookie = field.cookie_file()
 
     def started_with(option, *values):
@@ -364,7 +373,8 @@ def most_names_and_peers(field):
 
 @case
 def open_to_all(field):
-    """A node that listens at all addresses warns of it, be it for nodes of this program or for stock nodes: once of each."""
+    """A node that listens at all addresses warns of it, be it for nodes of this program or for
+    stock nodes: once of each."""
     words = [
         "--cookie-file",
         field.cookie_file(),

@@ -1,4 +1,5 @@
-"""Links and places for stock nodes of Erlang/OTP, as far as that needs none: the other end is written by hand."""
+"""Links and places for stock nodes of Erlang/OTP, as far as that needs none: the other end is
+written by hand."""
 
 import struct
 import threading
@@ -26,7 +27,8 @@ def stock_peer(field, node, name="s@127.0.0.1"):
 
 @case
 def quit_beside_a_silent_epmd(field):
-    """`quit` doesn't wait for an EPMD that takes a connection and says nothing; nor is that logged as a fault."""
+    """`quit` doesn't wait for an EPMD that takes a connection and says nothing; nor is that
+    logged as a fault."""
     epmd = field.listener()
     node = field.start(
         "w@127.0.0.1", "--otp-listen", "127.0.0.1:0", f"--epmd={epmd.getsockname()[1]}", port=None
@@ -61,7 +63,8 @@ def dripping_epmd(field):
 
 
 def drip(listener):
-    """Answers that a name is there, and then says a byte every 0.3 seconds, to the first who asks."""
+    """Answers that a name is there, and then says a byte every 0.3 seconds, to the
+    first who asks."""
     link, _ = listener.accept()
     with link:
         try:
@@ -75,7 +78,8 @@ def drip(listener):
 
 @case
 def found_by_epmd(field):
-    """A node is registered at EPMD, whose connection stays, and dials a stock node at the port that EPMD says."""
+    """A node is registered at EPMD, whose connection stays, and dials a stock node at the port
+    that EPMD says."""
     epmd, other = field.listener(), field.listener()
     words = [
         "--otp-listen",
@@ -110,7 +114,8 @@ def answer_as_epmd(field, epmd, answers):
 
 @case
 def misled_stock_nodes(field):
-    """Stock nodes that connect where nodes of this program do are one line a minute, however often they come."""
+    """Stock nodes that connect where nodes of this program do are one line a minute, however
+    often they come."""
     a = field.node("a@h")
     for number in range(3):
         peer = field.keep(Peer(connect(a.port), f"s{number}@127.0.0.1", hidden=True))
@@ -128,7 +133,8 @@ def misled_stock_nodes(field):
 
 @case
 def unreadable_link(field):
-    """A stock node that says what is no message loses its link, and connections and the log are told why."""
+    """A stock node that says what is no message loses its link, and connections and the
+    log are told why."""
     node = field.start("w@127.0.0.1", "--otp-listen", "127.0.0.1:0", port=None).ready()
     asked(node, "start jobs")
     peer = stock_peer(field, node)

@@ -111,7 +111,8 @@ def random_bytes(field):
 
 @case
 def long_handshakes(field):
-    """Of handshake frames that are far too long only a beginning is read: the link is lost at once, and little stays in memory."""
+    """Of handshake frames that are far too long only a beginning is read: the link is lost at once,
+    and little stays in memory."""
     a = field.node("a@h", "--setuptime", "60000")
     memory, _ = a.memory()
     for source in STRANGERS[:200]:
@@ -128,7 +129,8 @@ def long_handshakes(field):
 
 @case
 def flood(field):
-    """40 loops of strangers that connect and go for five seconds leave few entries; a peer that is up is served meanwhile, another behind."""
+    """40 loops of strangers that connect and go for five seconds leave few entries; a peer that is
+    up is served meanwhile, another behind."""
     a = field.node("a@h")
     pid = member(a)
     up = good_peer(field, a, "up@h")
@@ -150,7 +152,8 @@ def flood(field):
         ended.set()
         for loop in loops:
             loop.join()
-    # 64 lanes rest 100 ms, then twice as long, up to 5 seconds: some 7 connections each, when a fast machine could serve thousands
+    # 64 lanes rest 100 ms, then twice as long, up to 5 seconds: some 7 connections each, when a
+    # fast machine could serve thousands
     opened = sum(" Opened " in entry for entry in audit(a, before + 1))
     expect_that(opened < 64 * 15, "few connections taken in", opened)
     serves(field, a)
@@ -182,7 +185,8 @@ def huge_length(field):
 
 @case
 def false_rows(field):
-    """A peer that lists processes of others, or takes away what it never listed, changes nothing and stays up."""
+    """A peer that lists processes of others, or takes away what it never listed, changes
+    nothing and stays up."""
     a = field.node("a@h")
     pid = member(a)
     peer = good_peer(field, a)
@@ -204,7 +208,8 @@ def false_rows(field):
 
 @case
 def half_open_64(field):
-    """Behind 64 links that are half open a good peer comes up once their time is over, and an own dial isn't kept from its link for longer."""
+    """Behind 64 links that are half open a good peer comes up once their time is over, and an own
+    dial isn't kept from its link for longer."""
     listener = field.listener()
     a = field.node(
         "a@h", "--setuptime", "3000", "--dial", f"dialled@h=127.0.0.1:{listener.getsockname()[1]}"
@@ -227,7 +232,8 @@ def half_open_64(field):
 
 @case
 def reflecting_peer(field):
-    """A peer that hands the node's own challenge back to it gets no digest for it: its link is lost, and one line says so."""
+    """A peer that hands the node's own challenge back to it gets no digest for it: its link is
+    lost, and one line says so."""
     listener = field.listener()
     a = field.node("a@h", "--dial", f"mirror@h=127.0.0.1:{listener.getsockname()[1]}")
     dialled = field.keep(Peer(listener.accept()[0], "mirror@h", cookie="unknown"))
@@ -246,7 +252,8 @@ def reflecting_peer(field):
 
 @case
 def never_reads(field):
-    """A peer that ticks and never reads is lost once writes to it stand still for the tick time; meanwhile all others are served."""
+    """A peer that ticks and never reads is lost once writes to it stand still for the tick time;
+    meanwhile all others are served."""
     a = field.node("a@h", "--ticktime", "3000")
     pid = member(a)
     peer = field.keep(Peer(connect(a.port, receive_buffer=4096))).shake_hands()
@@ -264,7 +271,8 @@ def never_reads(field):
         told += 2
         return a.untold("! down peer@h 7 slow")
 
-    # (each is told by a quarter of a megabyte, and the kernel holds some of them: a busy machine needs a while to fill it)
+    # (each is told by a quarter of a megabyte, and the kernel holds some of them: a busy machine
+    # needs a while to fill it)
     until("the loss of a peer that doesn't read", tell_more, limit=150, pause=0.1)
     stopped.set()
     await_nodes(a, [])

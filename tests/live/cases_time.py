@@ -11,7 +11,8 @@ from waiting import expect, expect_that, seconds_since, until
 
 @case
 def ticks(field):
-    """Peers that tick stay up for longer than the tick time, and are sent ticks themselves, though no scope runs."""
+    """Peers that tick stay up for longer than the tick time, and are sent ticks themselves, though
+    no scope runs."""
     a = field.node("a@h", "--ticktime", "6000")
     began = time.monotonic()
     peers = [good_peer(field, a, f"peer{number}@h") for number in range(20)]
@@ -61,7 +62,8 @@ def short_stop(field):
 
 @case
 def long_stop(field):
-    """A node that stands still for longer than the tick time is lost with its rows, and is back when it goes on."""
+    """A node that stands still for longer than the tick time is lost with its rows, and is back
+    when it goes on."""
     a = field.node("a@h", "--ticktime", "3000")
     b = field.node("b@h", "--ticktime", "3000", dial=[a])
     start(b)
@@ -99,7 +101,8 @@ def dial_to_nobody(field):
 
 @case
 def pauses_begin_anew(field):
-    """A peer that was up by a link of its own is dialled again at once, and then after short pauses, though dials had failed before."""
+    """A peer that was up by a link of its own is dialled again at once, and then after short
+    pauses, though dials had failed before."""
     b = field.node("b@h", "--dial", f"a@h=127.0.0.1:{field.free_port()}")
     until("three dials", lambda: times_dialled(b), lambda times: times >= 3)
     a = field.node("a@h", dial=[b])

@@ -18,8 +18,8 @@ NO_CERTIFICATE, ANOTHER_ONE = "PEER_DID_NOT_RETURN_A_CERTIFICATE", "CERTIFICATE_
 
 
 def tls(protocol, own, other):
-    """TLS that takes the other's certificate alone, and shows an own one, if any. A key stands in the
-    file of its certificate."""
+    """TLS that takes the other's certificate alone, and shows an own one, if any. A key stands in
+    the file of its certificate."""
     context = ssl.SSLContext(protocol)
     context.verify_mode = ssl.CERT_REQUIRED
     context.load_verify_locations(os.path.join(CERTIFICATES, f"{other}.pem"))
@@ -29,18 +29,20 @@ def tls(protocol, own, other):
 
 
 def connect_to_far(port, own="near"):
-    """A stream to the far end at this port, as the near end makes it, with this certificate or none."""
+    """A stream to the far end at this port, as the near end makes it, with this
+    certificate or none."""
     return tls(ssl.PROTOCOL_TLS_CLIENT, own, "far").wrap_socket(
         connect(port), server_hostname="far"
     )
 
 
 class End:
-    """An end of a tunnel: it makes a connection onward for each one that comes, and carries bytes both
-    ways. One of both is TLS."""
+    """An end of a tunnel: it makes a connection onward for each one that comes, and carries bytes
+    both ways. One of both is TLS."""
 
     def __init__(self, take, make):
-        """Begins; `take` gives the stream of a connection that comes, and `make` that of one onward."""
+        """Begins; `take` gives the stream of a connection that comes, and `make` that
+        of one onward."""
         self.listener = socket.create_server(("127.0.0.1", 0))
         self.port = self.listener.getsockname()[1]
         self.take, self.make = take, make
@@ -55,7 +57,8 @@ class End:
                 threading.Thread(target=self._serve, args=(stream,), daemon=True).start()
 
     def _serve(self, stream):
-        """Carries what one connection says and is told; or notes why TLS refuses it, or the one onward."""
+        """Carries what one connection says and is told; or notes why TLS refuses it, or
+        the one onward."""
         stream.settimeout(LIMIT)
         try:
             with self.take(stream) as came, self.make() as made:
@@ -90,8 +93,8 @@ def carry(one, other):
 
 
 def pass_on(stream, onward):
-    """Passes on what has come: a whole record, where that is TLS, so that none waits where select doesn't
-    see it. Whether there may be more."""
+    """Passes on what has come: a whole record, where that is TLS, so that none waits where select
+    doesn't see it. Whether there may be more."""
     stream.settimeout(0)
     try:
         piece = stream.recv(65_536)
@@ -115,7 +118,8 @@ def far_end(port, own="far"):
 
 
 def heard(make):
-    """What a peer hears that says its name over the stream that this makes; None where that is refused."""
+    """What a peer hears that says its name over the stream that this makes; None where
+    that is refused."""
     try:
         with make() as stream:
             peer = Peer(stream, "c@h")
@@ -126,8 +130,8 @@ def heard(make):
 
 
 def expect_refusals(field, b, far):
-    """That the far end lets nobody through to the node who has no certificate, or another one than the
-    near end, which goes through no other far end."""
+    """That the far end lets nobody through to the node who has no certificate, or another one than
+    the near end, which goes through no other far end."""
     for own in (None, "stranger"):
         expect(
             f"what is heard with the certificate {own}",
@@ -159,9 +163,9 @@ def told_of_a_join(watching, joining):
 
 @case
 def links_through_tls(field):
-    """Nodes link through a tunnel with TLS, of which neither knows: each is told of the other and of its
-    joins, and both when the tunnel is cut. Who has no certificate, or another one, gets nothing through.
-    """
+    """Nodes link through a tunnel with TLS, of which neither knows: each is told of the other and
+    of its joins, and both when the tunnel is cut. Who has no certificate, or another one, gets
+    nothing through."""
     b = field.node("b@h")
     far = field.keep(far_end(b.port))
     near = field.keep(near_end(far.port))

@@ -1,5 +1,5 @@
-"""The archive of a node where writing is the trouble: pages that come faster than they are written, a file that can't be opened
-anew, half a line at the end, streams that are closed."""
+"""The archive of a node where writing is the trouble: pages that come faster than they are written,
+a file that can't be opened anew, half a line at the end, streams that are closed."""
 
 import json
 import os
@@ -15,8 +15,8 @@ from waiting import LIMIT, expect, expect_that, until
 
 @case
 def archive_behind_a_deaf_client(field):
-    """However few entries a node keeps, none is lost where its file takes what it is given: also of those that it kept for a client
-    that doesn't read, and that all go at once when it is ended."""
+    """However few entries a node keeps, none is lost where its file takes what it is given: also of
+    those that it kept for a client that doesn't read, and that all go at once when it is ended."""
     path = os.path.join(field.folder, "archive")
     a = field.node("a@h", "--entries", "64", "--audit", path)
     control, deaf = field.control(a), field.keep(socket.socket(socket.AF_UNIX))
@@ -40,8 +40,8 @@ def archive_behind_a_deaf_client(field):
 
 @case
 def archive_moved_where_none_can_be_made(field):
-    """Where the file can't be opened anew that is said, and entries wait: once it can they follow there, without another `reopen`,
-    and none goes to the file that was moved."""
+    """Where the file can't be opened anew that is said, and entries wait: once it can they follow
+    there, without another `reopen`, and none goes to the file that was moved."""
     folder = os.path.join(field.folder, "d")
     os.mkdir(folder)
     path = os.path.join(folder, "archive")
@@ -74,8 +74,8 @@ def archive_moved_where_none_can_be_made(field):
 
 @case
 def half_a_line_at_the_end(field):
-    """An entry of which the file has only a part when the program ends counts as lost, in its last line and by its status; the line of
-    a life is no entry."""
+    """An entry of which the file has only a part when the program ends counts as lost, in its last
+    line and by its status; the line of a life is no entry."""
     path = os.path.join(field.folder, "archive")
     words = [
         field.program,
@@ -107,7 +107,8 @@ def half_a_line_at_the_end(field):
 
 @case
 def archive_of_a_program_without_streams(field):
-    """A node whose standard streams are closed serves, and nothing that it prints goes to its archive; the next node goes on there."""
+    """A node whose standard streams are closed serves, and nothing that it prints goes to its
+    archive; the next node goes on there."""
     path, control = os.path.join(field.folder, "archive"), os.path.join(field.folder, "control")
     words = [
         field.program,
@@ -143,7 +144,8 @@ def connected(path):
 
 @case
 def file_of_json_is_no_archive(field):
-    """A file of JSON that is none of an archive is left as it is, with and without a line feed at its end."""
+    """A file of JSON that is none of an archive is left as it is, with and without a line
+    feed at its end."""
     path = os.path.join(field.folder, "package.json")
     for name, text in (
         ("a@h", json.dumps({"name": "mine"})),

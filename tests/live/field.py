@@ -68,7 +68,8 @@ class Field:
         return self._cookies[cookie, mode]
 
     def start(self, name, *options, cookie=COOKIE, port=0, control=True):
-        """A node that was started, and may not have said anything yet. Without a port it takes no connections of peers."""
+        """A node that was started, and may not have said anything yet. Without a port it takes no
+        connections of peers."""
         words = ["--cookie-file", self.cookie_file(cookie)]
         if port is not None:
             words += ["--listen", f"127.0.0.1:{port}"]
@@ -89,7 +90,8 @@ class Field:
         return self.keep(node.control())
 
     def free_port(self):
-        """A port that nobody had a moment ago. It is none of those that the system gives to who connects, which are higher."""
+        """A port that nobody had a moment ago. It is none of those that the system gives to who
+        connects, which are higher."""
         while True:
             port = random.choice(PORTS)
             try:

@@ -11,7 +11,8 @@ from waiting import LIMIT, expect, expect_that, until
 # How a line of the log begins, up to its level.
 TIME = re.compile(r"\d{4}-\d\d-\d\dT\d\d:\d\d:\d\d\.\d{3}Z ")
 
-# What bin/pg_node and bin/pg_ask themselves say on standard error, where the program isn't proved yet.
+# What bin/pg_node and bin/pg_ask themselves say on standard error, where the program
+# isn't proved yet.
 WRAPPER = re.compile(r"pg_(node|ask): (this build isn't proved|building without proofs)")
 
 
@@ -21,7 +22,8 @@ def shown(path):
 
 
 class Node(Talk):
-    """A node with its standard streams. Commands may be asked of it, as of each control connection."""
+    """A node with its standard streams. Commands may be asked of it, as of each
+    control connection."""
 
     def __init__(self, program, folder, name, arguments):
         self.name = name
@@ -76,7 +78,8 @@ class Node(Talk):
         return Control(self.control_path)
 
     def errors(self):
-        """Its lines on standard error, those of its log that are no warnings left out, each without its time."""
+        """Its lines on standard error, those of its log that are no warnings left out, each
+        without its time."""
         return plain_lines(self.errors_path)
 
     def log(self, begin=""):
@@ -109,7 +112,8 @@ class Node(Talk):
 
 
 def limit_space(process, more):
-    """The process gets so many bytes of address space more than it has, and no further ones: its limits before."""
+    """The process gets so many bytes of address space more than it has, and no further ones: its
+    limits before."""
     with open(f"/proc/{process}/statm", encoding="ascii") as sizes:
         have = int(sizes.read().split()[0]) * resource.getpagesize()
     before = resource.prlimit(process, resource.RLIMIT_AS)
@@ -118,7 +122,8 @@ def limit_space(process, more):
 
 
 def plain_lines(path):
-    """What a program said on standard error, into this file, but for what its log has that is no warning."""
+    """What a program said on standard error, into this file, but for what its log has that
+    is no warning."""
     return [line for line in log_lines(path) if not line.startswith("info ")]
 
 

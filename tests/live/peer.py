@@ -26,8 +26,8 @@ def text(width, words):
 
 
 class Peer:
-    """One end of a stream to a node. Bodies go behind lengths of 2 bytes, and once the link is up of 4. Where it knows version 2 of link
-    messages it has to meet a node that does, too."""
+    """One end of a stream to a node. Bodies go behind lengths of 2 bytes, and once the link is up
+    of 4. Where it knows version 2 of link messages it has to meet a node that does, too."""
 
     def __init__(
         self, stream, name="peer@h", cookie="password", creation=7, hidden=False, version=1
@@ -205,7 +205,8 @@ class Peer:
         return f"{self.name}/{self.creation}/{number}"
 
     def await_message(self, kind, limit=LIMIT):
-        """The next message of this kind, those before it dropped: the texts of its processes, by group."""
+        """The next message of this kind, those before it dropped: the texts of its
+        processes, by group."""
         return [row for rows in self.await_parts(kind, limit) for row in rows]
 
     def await_parts(self, kind, limit=LIMIT):

@@ -1,5 +1,5 @@
-"""Plays cases, one after another or beside each other. One that fails is played once more, since a busy machine may be late for a promise
-of time; its line says so."""
+"""Plays cases, one after another or beside each other. One that fails is played once more, since a
+busy machine may be late for a promise of time; its line says so."""
 
 import functools
 import multiprocessing
@@ -104,7 +104,8 @@ def judge_named(make_field, limit, name):
 
 
 def verdicts(cases, make_field, limit, at_once):
-    """Whether each case passes, and its line, in their order; where several are played beside each other, each in a process of its own."""
+    """Whether each case passes, and its line, in their order; where several are played beside each
+    other, each in a process of its own."""
     if at_once == 1:
         yield from (judge(case, make_field, limit) for case in cases)
         return
@@ -115,7 +116,8 @@ def verdicts(cases, make_field, limit, at_once):
 
 
 def play_all(cases, make_field, limit, at_once=1):
-    """Plays cases, each in a new field and in so many seconds, and prints their lines and `N passed, M failed`. The status of the program."""
+    """Plays cases, each in a new field and in so many seconds, and prints their lines and
+    `N passed, M failed`. The status of the program."""
     take_signals()
     passed = failed = 0
     for has_passed, line in verdicts(cases, make_field, limit, at_once):

@@ -1,4 +1,5 @@
-"""Lines to a node and from it: one answer for each line sent, and news, which begin with `! ` and come unasked."""
+"""Lines to a node and from it: one answer for each line sent, and news, which begin with `! `
+and come unasked."""
 
 import re
 import socket
@@ -45,7 +46,8 @@ class Talk:
             if result is None:
                 came = "the end of its lines" if found else "nothing"
                 raise AssertionError(
-                    f"expected {what} of {self.who} within {limit} s, came {came} behind {shown(self._last())}"
+                    f"expected {what} of {self.who} within {limit} s,"
+                    f" came {came} behind {shown(self._last())}"
                 )
             return result
 
@@ -71,7 +73,8 @@ class Talk:
         return self.told_all(pattern, limit=limit)[0]
 
     def told_all(self, *patterns, limit=LIMIT):
-        """The next news that match, of each pattern, in whatever order they come. All up to the last of them count as seen."""
+        """The next news that match, of each pattern, in whatever order they come. All up to the
+        last of them count as seen."""
 
         def ready():
             places = [self._place_of(pattern) for pattern in patterns]
@@ -104,7 +107,8 @@ class Talk:
         with self._moved:
             if not self._moved.wait_for(lambda: self.ended, limit):
                 raise AssertionError(
-                    f"expected the end of {self.who}'s lines within {limit} s, came {shown(self._last())}"
+                    f"expected the end of {self.who}'s lines within {limit} s,"
+                    f" came {shown(self._last())}"
                 )
 
 

@@ -1,4 +1,5 @@
-"""Waiting without fixed sleeps: something is asked again and again until it holds, up to a generous limit."""
+"""Waiting without fixed sleeps: something is asked again and again until it holds, up to a
+generous limit."""
 
 import time
 

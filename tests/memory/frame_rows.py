@@ -1,4 +1,5 @@
-"""What the readers, the decoders and the writers of frames answer, by the page of formats: a row for each deed of the part `frames`."""
+"""What the readers, the decoders and the writers of frames answer, by the page of formats: a row
+for each deed of the part `frames`."""
 
 TEXT, BAD_TEXT, COPY, DONE = "Text(Ok(()))", "Text(Err({}))", "Copied(true)", "Done"
 
@@ -39,7 +40,10 @@ def join_read(scope, rows):
 
 
 def part_read(kind, scope, number, last, rows):
-    return f"ReadPart(Part {{ kind: {kind}, scope: {scope_text(scope)}, number: {number}, last: {last}, rows: {rows} }})"
+    return (
+        f"ReadPart(Part {{ kind: {kind}, scope: {scope_text(scope)}, number: {number},"
+        f" last: {last}, rows: {rows} }})"
+    )
 
 
 def row_body(number):

@@ -1,4 +1,5 @@
-"""Runs a program while its allocations are refused. Needs cc, and a program that is linked with the C library at the run."""
+"""Runs a program while its allocations are refused. Needs cc, and a program that is linked with the
+C library at the run."""
 
 import os
 import re
@@ -32,7 +33,8 @@ def build(folder, program):
 
 
 def without_memory(library, call, is_on=False):
-    """What a program is run with of which that allocation is refused, or that and all later ones; none where it is 0."""
+    """What a program is run with of which that allocation is refused, or that and all later ones;
+    none where it is 0."""
     return (
         os.environ
         | {"LD_PRELOAD": library, "REFUSED_CALL": str(call)}
@@ -46,5 +48,6 @@ def allocations(told):
 
 
 def only_kept_room(told):
-    """Whether what was refused was to give back spare room, which stays then, and which nobody needs to tell of."""
+    """Whether what was refused was to give back spare room, which stays then, and which nobody
+    needs to tell of."""
     return bool(re.search(r"^calls \d+ shrinks [1-9]", told, re.MULTILINE))

@@ -1,4 +1,5 @@
-"""The scripts that are played without memory. They are written with the model of tests/model, which knows links and digests."""
+"""The scripts that are played without memory. They are written with the model of tests/model, which
+knows links and digests."""
 
 import os
 from functools import cache
@@ -121,7 +122,8 @@ def told_peers():
 
 
 def rows_in_parts():
-    """Messages of a peer of version 2 in parts, some of them refused or broken off, beside a peer of version 1; both are told."""
+    """Messages of a peer of version 2 in parts, some of them refused or broken off, beside a peer
+    of version 1; both are told."""
     story = Story(NODE_2)
     story.tell(
         "start pg", "start s", "spawn", "spawn", "join pg g b@h/1/1 b@h/1/2", "monitor_scope pg"
@@ -160,7 +162,8 @@ def rows_in_parts():
 
 
 def say_parts(story, link, kind, *rows):
-    """A message of these parts, each of which is said at the place behind the last that was accepted."""
+    """A message of these parts, each of which is said at the place behind the last
+    that was accepted."""
     number = 1
     for place, some in enumerate(rows, 1):
         number += (
@@ -236,7 +239,8 @@ def every_event():
 
 
 def fill(story, link, scopes, pids):
-    """Lets processes exit that are in all scopes, and join, until no more frames may wait for a link."""
+    """Lets processes exit that are in all scopes, and join, until no more frames may
+    wait for a link."""
     while (free := MOST_WAITING - len(story.model.waiting(story.h, link))) > 0:
         story.say("exit", pids.pop()) if free >= len(scopes) else story.say(
             "join", "s0", "own", pids[0]
@@ -245,8 +249,8 @@ def fill(story, link, scopes, pids):
 
 @cache
 def slow_ends():
-    """Six links of peers with rows that take nothing: one more frame is too many for two of them at a leave, for one at a start, for one
-    at a stop, and for two at an exit."""
+    """Six links of peers with rows that take nothing: one more frame is too many for two of them at
+    a leave, for one at a start, for one at a stop, and for two at an exit."""
     story, scopes = Story(), [f"s{number}" for number in range(16)]
     pids = [f"b@h/1/{number}" for number in range(1, 65)]
     story.tell(

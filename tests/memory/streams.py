@@ -1,5 +1,6 @@
-"""Links whose reader or writer fails: what comes on them or is owed to them, and what their workers do then, by the pages of FORMATS and of
-node_threads. What each frame is answered is asked of the model of tests/model."""
+"""Links whose reader or writer fails: what comes on them or is owed to them, and what their workers
+do then, by the pages of FORMATS and of node_threads. What each frame is answered is asked of the
+model of tests/model."""
 
 from console import is_silent
 from frames import (
@@ -21,7 +22,8 @@ from scripts import NODE_2
 from story import FLAGS, Story, row
 from texts import digest_of
 
-# What a link has behind a script: for a reader the bytes that come, for a writer those that are owed.
+# What a link has behind a script: for a reader the bytes that come, for a writer those
+# that are owed.
 Scene = record("Scene", "title story link octets")
 MOST_BODY = 4_194_304
 
@@ -117,7 +119,8 @@ def told_link():
 
 
 def refused_dial():
-    """A dialled link that a wrong digest has ended. Behind its last byte the link is gone, which one byte more shows."""
+    """A dialled link that a wrong digest has ended. Behind its last byte the link is gone, which
+    one byte more shows."""
     story = Story(NODE_2)
     link = story.dials("a@h")
     for body in (status_body("ok"), challenge_body(FLAGS, 9, 1, "a@h"), b"a" + bytes(16)):

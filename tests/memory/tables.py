@@ -1,4 +1,5 @@
-"""The table of a scope of `b@h`, as counts of rows: what each deed of the part `tables` is answered, and what the table has then."""
+"""The table of a scope of `b@h`, as counts of rows: what each deed of the part `tables` is
+answered, and what the table has then."""
 
 import ast
 import re

@@ -1,4 +1,5 @@
-"""Two nodes of the model of tests/model and the wires between them: what each step is answered, as the page of pg_world has it."""
+"""Two nodes of the model of tests/model and the wires between them: what each step is answered, as
+the page of pg_world has it."""
 
 import re
 

@@ -1,4 +1,5 @@
-"""The rules of each event in their order, the answers, and the entry that the policy makes of an event."""
+"""The rules of each event in their order, the answers, and the entry that the policy
+makes of an event."""
 
 from collections import Counter
 
@@ -51,7 +52,8 @@ MOST_ROWS_IN_PARTS = 65_536
 
 
 class FrameChecks:
-    """The rules of frames. Each rule stands before what breaks it; the first that is broken counts."""
+    """The rules of frames. Each rule stands before what breaks it; the first that is
+    broken counts."""
 
     @looks_back
     def kept_links(self, h):
@@ -268,7 +270,8 @@ class Checks(FrameChecks):
         return next((rule for rule, is_broken in self.checks(h, seat, event) if is_broken), None)
 
     def entry_of(self, h, seat, event):
-        """The entry that the policy makes of an event after a history; none where the audit is full."""
+        """The entry that the policy makes of an event after a history; none where the
+        audit is full."""
         if self.is_full(h):
             return None
         rule = self.first_broken(h, seat, event)

@@ -1,4 +1,5 @@
-"""Plays a script through the program and through a model, and finds the shortest script that the two still answer differently."""
+"""Plays a script through the program and through a model, and finds the shortest script that the
+two still answer differently."""
 
 import subprocess
 from collections import Counter
@@ -50,8 +51,8 @@ def played_by(console):
 
 
 def forgotten_so(program, script, keep):
-    """How many entries are asked for that a run which keeps so many has forgotten; None where it answers otherwise than a run that keeps
-    all, or forgets one of those that it keeps."""
+    """How many entries are asked for that a run which keeps so many has forgotten; None where it
+    answers otherwise than a run that keeps all, or forgets one of those that it keeps."""
     theirs, ours = by_program(program, script, ["--keep", str(keep)]), script.played()
     answers, count, entries = theirs.transcript.splitlines(), 0, 0
     if (len(answers), theirs.status) != (len(ours.answers), ours.status()):
@@ -169,7 +170,8 @@ def kind_of(answer):
 
 
 def coverage(console):
-    """How often each kind of answer came, each kind of accepted event, and each kind of frame that was owed."""
+    """How often each kind of answer came, each kind of accepted event, and each kind of frame
+    that was owed."""
     seen = Counter(kind_of(answer) for answer in console.answers)
     for entry in console.entries:
         if entry.rule is None:
@@ -191,7 +193,8 @@ def exits_in_several_scopes(console):
 
 
 def messages_in_parts(console):
-    """How many messages were complete with a part behind the first, and how many that had begun were broken off."""
+    """How many messages were complete with a part behind the first, and how many that had begun
+    were broken off."""
     seen, h, model = Counter(), console.history, console.model
     while h.past is not None:
         link, said = model.said_on(h)

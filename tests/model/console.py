@@ -50,7 +50,8 @@ def body(word):
     )
 
 
-# Each command's event, and the readers of its words; the last one of a list reads any number of words.
+# Each command's event, and the readers of its words; the last one of a list reads any
+# number of words.
 COMMANDS = {
     "restart": (events.Restart,),
     "cookie": (events.SetCookie, text),
@@ -168,7 +169,8 @@ class Console:
         self.entries, self.answers = [], []
 
     def play(self, line, has_memory=True):
-        """Plays a line, which is answered `memory` where it is an event that finds none. Answers its answer line, or None."""
+        """Plays a line, which is answered `memory` where it is an event that finds none. Answers
+        its answer line, or None."""
         self.lines += 1
         if self.has_fault or is_silent(line):
             return None

@@ -1,4 +1,5 @@
-"""Each frame and message cut, followed by a byte, changed in each byte and at random, where the right one would be accepted."""
+"""Each frame and message cut, followed by a byte, changed in each byte and at random, where the
+right one would be accepted."""
 
 from random import Random
 
@@ -28,8 +29,9 @@ BASE = Sync("pg", (row("g", PEER, 1), row("g", PEER, 1), row("h", PEER, 2)))
 
 RANDOM_TRIES = 40
 
-# A place where bodies are tried: what goes before all tries, what goes before each and answers the link, and the body that is right, or
-# would be on a link of the other version; and the version that the node knows.
+# A place where bodies are tried: what goes before all tries, what goes before each and answers the
+# link, and the body that is right, or would be on a link of the other version; and the version that
+# the node knows.
 Place = record("Place", "title before ready body is_other links", defaults=[False, 1])
 
 
@@ -50,7 +52,8 @@ def with_another_byte(body):
 
 
 def changed_parts(body):
-    """How many bodies that differ from a part in one byte are messages of version 2. crates/unit_tests has these counts of its parts."""
+    """How many bodies that differ from a part in one byte are messages of version 2.
+    crates/unit_tests has these counts of its parts."""
     return sum(read_part(changed) is not None for changed in with_another_byte(body))
 
 
@@ -83,9 +86,9 @@ def tries_of(rng, place):
 
 
 def must_be_bad(place):
-    """The bodies that spell nothing, whatever the rest is: each beginning, and the whole with a byte behind it, but for frames that
-    end with any bytes, which may say a version. One beginning of a status is another status. A message of the other version is none.
-    """
+    """The bodies that spell nothing, whatever the rest is: each beginning, and the whole with a
+    byte behind it, but for frames that end with any bytes, which may say a version. One beginning
+    of a status is another status. A message of the other version is none."""
     if place.title.startswith(("Name", "Challenge")):
         return set(beginnings(place.body.removesuffix(VERSION_2)))
     whole = [place.body] if place.is_other else []
@@ -183,7 +186,8 @@ MESSAGES = (
     RowsJoin("pg", (row("w", PEER, 3), row("g", PEER, 1))),
     RowsLeave("pg", (row("g", PEER, 1), row("h", PEER, 2))),
 )
-# Parts of messages, by a title; those that aren't the first one stand behind the part that they go on with.
+# Parts of messages, by a title; those that aren't the first one stand behind the part that
+# they go on with.
 PARTS = {
     "part of no rows": Part(Sync, "pg", 1, True, ()),
     "part of a Sync": Part(Sync, "pg", 1, False, (row("g", PEER, 1), row("h", PEER, 2))),

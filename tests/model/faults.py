@@ -130,7 +130,8 @@ FAULTS = (
     "FRAME 1 0A",
 )
 
-# What stands on the command line behind `run`, and is refused with status 2 before anything is read.
+# What stands on the command line behind `run`, and is refused with status 2 before
+# anything is read.
 REFUSED_WORDS = (
     [],
     ["b@h"],
@@ -199,7 +200,8 @@ def fault_scripts():
 
 
 def refuses(program, words):
-    """Whether the program refuses a command line as it ought to: status 2, no answer, and a line that says why."""
+    """Whether the program refuses a command line as it ought to: status 2, no answer, and a line
+    that says why."""
     run = subprocess.run(
         [program, "run", *words], input=b"spawn\n", capture_output=True, timeout=SECONDS
     )

@@ -1,4 +1,5 @@
-"""The bodies of frames: those of the handshake, and the messages of links. A reader answers None where a body isn't its frame."""
+"""The bodies of frames: those of the handshake, and the messages of links. A reader answers None
+where a body isn't its frame."""
 
 from functools import lru_cache
 
@@ -17,7 +18,8 @@ Sync = record("Sync", "scope rows")
 RowsJoin = record("RowsJoin", "scope rows")
 RowsLeave = record("RowsLeave", "scope rows")
 Down = record("Down", "scope")
-# What a body says is a Discover, a Down, or a part of a message with rows. The kind is that of the message that the parts make.
+# What a body says is a Discover, a Down, or a part of a message with rows. The kind is that of the
+# message that the parts make.
 Part = record("Part", "kind scope number last rows")
 
 STATUSES = ("ok", "ok_simultaneous", "nok", "not_allowed", "alive", "true", "false")
@@ -68,7 +70,8 @@ class Reader:
 
 
 def reads(read):
-    """A reader of bodies: what it reads, or None. The last readings are kept, since definitions ask for them again and again."""
+    """A reader of bodies: what it reads, or None. The last readings are kept, since definitions ask
+    for them again and again."""
 
     @lru_cache(maxsize=1024)
     def of(body):

@@ -1,4 +1,5 @@
-"""Writes scripts from a seed. Each line is chosen from what the model says of the lines before it, so that most are accepted."""
+"""Writes scripts from a seed. Each line is chosen from what the model says of the lines before it,
+so that most are accepted."""
 
 from random import Random
 
@@ -252,7 +253,8 @@ class Generator(Peers):
             self.say("monitor", scope, self.group(scope))
 
     def ref(self):
-        """The number of a monitor, mostly one of the seat that asks, which is made first where there is none."""
+        """The number of a monitor, mostly one of the seat that asks, which is made first where
+        there is none."""
         if not self.refs() and self.chance(80):
             self.monitor()
         refs = self.refs()
@@ -427,7 +429,8 @@ class Generator(Peers):
         )
 
     def told_scopes(self):
-        """Tells a peer of some scopes, and joins one process in each of them, in any order; mostly it exits."""
+        """Tells a peer of some scopes, and joins one process in each of them, in any order;
+        mostly it exits."""
         if (link := self.link(is_up=True)) is None:
             return self.handshake()
         scopes = self.rng.sample(SCOPES, self.one_of((2, 2, 3)))
@@ -458,7 +461,8 @@ class Generator(Peers):
             self.say("take", link)
 
     def burst(self):
-        """Tells some links of about as many joins as end them, and then whatever may end those that are left."""
+        """Tells some links of about as many joins as end them, and then whatever may end those
+        that are left."""
         scope, group, pid = self.scope(100), self.one_of(GROUPS), self.say("spawn").split()[-1]
         for _ in range(self.one_of((1, 2, 2, 3))):
             self.told_link(scope)
@@ -534,7 +538,8 @@ def with_burst(rng, title):
 
 
 class Filler(Generator):
-    """Says many lines between others that are refused, and entries: pages of entries are handed out meanwhile."""
+    """Says many lines between others that are refused, and entries: pages of entries are handed
+    out meanwhile."""
 
     def say(self, *words):
         if self.chance(6):
@@ -556,7 +561,8 @@ def of_many_pages(seed, number):
 
 
 def script_of(seed, number):
-    """The script of a seed with a number; now and then one with a burst, or one that meets a limit."""
+    """The script of a seed with a number; now and then one with a burst, or one that
+    meets a limit."""
     rng, title = Random(f"{seed}/{number}"), f"seed {seed}, script {number}"
     if number % PERIOD == 27:
         return with_burst(rng, title)

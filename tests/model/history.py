@@ -33,9 +33,10 @@ Disconnect = record("Disconnect", "name")
 Frame = record("Frame", "link body")
 
 RULES = (
-    "EntriesFull NoSuchLink BadFrame NoHandshake23 DynamicName BadName OwnName WrongName NotAllowed Simultaneous PeerSaid "
-    "BadDigest HiddenLink NoScope NotHeard ForeignPid NotListed RowsFull NotLocal NoProcess NotJoined ScopeRunning NoMonitor "
-    "LinkUp LinkPending NoLinkTo LinksFull ScopesFull PidsFull AllowFull CookiesFull CreationSpent PartOrder"
+    "EntriesFull NoSuchLink BadFrame NoHandshake23 DynamicName BadName OwnName WrongName "
+    "NotAllowed Simultaneous PeerSaid BadDigest HiddenLink NoScope NotHeard ForeignPid NotListed "
+    "RowsFull NotLocal NoProcess NotJoined ScopeRunning NoMonitor LinkUp LinkPending NoLinkTo "
+    "LinksFull ScopesFull PidsFull AllowFull CookiesFull CreationSpent PartOrder"
 ).split()
 
 # The answers to accepted events.
@@ -70,7 +71,8 @@ UNSAID = object()
 
 
 def looks_back(definition):
-    """A definition over a history, which may ask for itself one entry earlier. What it says of each is kept, from the oldest on."""
+    """A definition over a history, which may ask for itself one entry earlier. What it says of each
+    is kept, from the oldest on."""
 
     def says(model, history, *args):
         key = (definition, args)

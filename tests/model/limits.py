@@ -29,7 +29,8 @@ FLAGS = HANDSHAKE_23 | PUBLISHED
 
 
 def bring_up(writer, name, creation=1, version=1):
-    """A link that a peer opens and that comes up; answers its number. The peer knows that version."""
+    """A link that a peer opens and that comes up; answers its number. The peer
+    knows that version."""
     link = int(writer.say("opened", 7).split()[1])
     writer.say("frame", link, name_body(FLAGS, creation, name, version).hex())
     writer.say("frame", link, reply_body(1, digest_of("password", 7)).hex())
@@ -252,7 +253,8 @@ def own_rows_full_in_parts(rng, title):
 
 
 def peer_rows_full_in_parts(rng, title):
-    """65,536 rows of a peer, and a message of more than that. Those of one behind a link of version 1 stay few."""
+    """65,536 rows of a peer, and a message of more than that. Those of one behind a link of
+    version 1 stay few."""
     writer = Peers(rng, NODE_2)
     for line in ("start pg", "start s"):
         writer.say(line)
@@ -275,7 +277,8 @@ def peer_rows_full_in_parts(rng, title):
 
 
 def parts_of_no_rows(rng, title):
-    """Parts of a Sync that have no rows, up to the greatest number that a part has had here; and one behind the greatest there is."""
+    """Parts of a Sync that have no rows, up to the greatest number that a part has had here; and
+    one behind the greatest there is."""
     writer = Peers(rng, NODE_2)
     writer.say("start pg")
     link = bring_up(writer, "a@h", version=2)
@@ -289,7 +292,8 @@ def parts_of_no_rows(rng, title):
 
 
 def slow_by_parts(rng, title):
-    """Each part counts among the frames that wait: a Discover is owed three of them, and is one too many, or just not."""
+    """Each part counts among the frames that wait: a Discover is owed three of them, and is one too
+    many, or just not."""
     writer = Peers(rng, NODE_2)
     for line in ("start pg", "spawn", "join pg g" + " b@h/1/1" * (2 * MOST_ROWS + 1)):
         writer.say(line)

@@ -80,7 +80,8 @@ class Sides:
                 return self.taken(h.past, link)
 
     def given(self, h, link):
-        """The frame with flags, creation and name of the peer: an acceptor has them from the Name, a dialler from the Challenge."""
+        """The frame with flags, creation and name of the peer: an acceptor has them from the Name,
+        a dialler from the Challenge."""
         taken = self.taken(h, link)
         if isinstance(self.links(h)[link], Opened):
             return read_name(taken[0][1]) if taken else None
@@ -123,7 +124,8 @@ class Sides:
         return self.awaits(h, link) is Awaited.MESSAGE
 
     def read(self, h, link, body):
-        """What a body says to a link that awaits a frame of the handshake, or a message; None where it isn't that."""
+        """What a body says to a link that awaits a frame of the handshake, or a message; None where
+        it isn't that."""
         reader = (
             READ_SAID[self.version(h, link)]
             if self.is_whole(h, link)
@@ -178,7 +180,8 @@ class Links:
         return self.is_whole(h, link) and not self.is_whole(h.past, link)
 
     def gives_up(self, h, other, link):
-        """Whether the newest entry is a Name on the other link that gives up this one, an own dial."""
+        """Whether the newest entry is a Name on the other link that gives up this
+        one, an own dial."""
         if self.awaits(h.past, other) is not Awaited.NAME:
             return False
         name = self.peer_of(h, other)

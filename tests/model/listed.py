@@ -1,4 +1,5 @@
-"""What peers have said of their rows, what is listed, what an entry changes of it, and what monitors are told."""
+"""What peers have said of their rows, what is listed, what an entry changes of it, and what
+monitors are told."""
 
 from frames import Discover, Down, Part, RowsJoin, RowsLeave, Sync
 from history import (
@@ -18,7 +19,8 @@ from own import less, more, spelled, taken_away
 class Parts:
     @looks_back
     def said_on(self, h):
-        """The link and what is said there by the newest entry, where that is an accepted frame of an up link."""
+        """The link and what is said there by the newest entry, where that is an accepted frame
+        of an up link."""
         match h.said:
             case Frame(link, body) if self.is_whole(h.past, link):
                 return link, self.read(h.past, link, body)
@@ -27,8 +29,8 @@ class Parts:
 
     @looks_back
     def begun(self, h, link):
-        """The parts of a message that the link has begun, and that is neither complete nor broken off: the last that it said is one of
-        its parts, and the scope wasn't stopped since."""
+        """The parts of a message that the link has begun, and that is neither complete nor broken
+        off: the last that it said is one of its parts, and the scope wasn't stopped since."""
         if isinstance(h.said, (Begin, Restart)):
             return ()
         of, said = self.said_on(h)
@@ -120,7 +122,8 @@ class Hearing:
 class Listed:
     @looks_back
     def listed(self, h, scope):
-        """How often each row is listed: an own one as it is joined, another as the present link of its node has stated it."""
+        """How often each row is listed: an own one as it is joined, another as the present link of
+        its node has stated it."""
         if not self.is_running(h, scope):
             return {}
         rows = dict(self.own(h, scope))
@@ -178,7 +181,8 @@ class Monitors:
         return None if watched and h.said == StopScope(watched[0]) else watched
 
     def updates(self, h, seat, ref):
-        """The changes since the monitor's own entry, or since its last Updates, the oldest first."""
+        """The changes since the monitor's own entry, or since its last Updates,
+        the oldest first."""
         scope, group = self.monitor(h, seat, ref)
         fetched = Updates(ref)
         told = []

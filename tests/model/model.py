@@ -1,5 +1,6 @@
-"""A model of one node, written from docs/POLICY.md, docs/RULES.md and docs/FORMATS.md: what each event is answered, by looking
-back over the events before it. The program keeps a state instead, so the two have nothing in common but the pages."""
+"""A model of one node, written from docs/POLICY.md, docs/RULES.md and docs/FORMATS.md: what each
+event is answered, by looking back over the events before it. The program keeps a state instead, so
+the two have nothing in common but the pages."""
 
 from checks import Checks
 from links import Links, Sides

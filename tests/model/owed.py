@@ -29,7 +29,8 @@ MOST_WAITING = 1024
 
 
 class Owed:
-    """Who is up, told and heard is read before the newest entry: whether a link is up behind it hangs on what it is owed."""
+    """Who is up, told and heard is read before the newest entry: whether a link is up behind it
+    hangs on what it is owed."""
 
     most_waiting = MOST_WAITING
 
@@ -63,7 +64,8 @@ class Owed:
         return [status_body(status), self.own_challenge_frame(h, link)]
 
     def discovers(self, h, link):
-        """What a link that comes up is owed: a Discover for each running scope, if it is visible."""
+        """What a link that comes up is owed: a Discover for each running scope, if
+        it is visible."""
         scopes = sorted(self.running_scopes(h)) if self.is_visible(h, link) else []
         return [message_body(Discover(scope)) for scope in scopes]
 
@@ -167,7 +169,8 @@ class Owed:
         return h.said is not None and self.owed_since(h, link) > self.most_waiting
 
     def drops(self, h, link):
-        """Whether the newest entry, an accepted one, drops the frames that wait: a loss, or another end of an open link."""
+        """Whether the newest entry, an accepted one, drops the frames that wait: a loss, or another
+        end of an open link."""
         return h.said == Lost(link) or (
             h.said is not None and self.is_open(h.past, link) and self.ends(h, link)
         )

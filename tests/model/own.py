@@ -1,4 +1,5 @@
-"""What is the node's own: its creation, its cookies, whom it allows, its scopes, its processes and their memberships."""
+"""What is the node's own: its creation, its cookies, whom it allows, its scopes, its processes and
+their memberships."""
 
 from history import (
     Allow,

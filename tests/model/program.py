@@ -7,8 +7,8 @@ CRATES = Path(__file__).resolve().parents[2] / "crates"
 
 
 def tried_program(reader, named, crate="pg_console"):
-    """The program that is named; else the proved one of the crate where there is one, else the one that is built unproved. A command line
-    that leaves none is refused."""
+    """The program that is named; else the proved one of the crate where there is one, else the one
+    that is built unproved. A command line that leaves none is refused."""
     programs = (
         [named]
         if named

@@ -1,4 +1,5 @@
-"""Records: named tuples that equal those of their own kind alone, as `Take(1)` doesn't equal `Lost(1)`."""
+"""Records: named tuples that equal those of their own kind alone, as `Take(1)` doesn't
+equal `Lost(1)`."""
 
 import sys
 from collections import namedtuple

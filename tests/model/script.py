@@ -32,7 +32,8 @@ class Script(record("Script", "title opening lines is_cut")):
 
 
 class Writer:
-    """Writes a script line by line, and plays it on a model meanwhile, so that it can go on from what came of each line."""
+    """Writes a script line by line, and plays it on a model meanwhile, so that it can go on from
+    what came of each line."""
 
     def __init__(self, rng, opening):
         self.rng, self.opening, self.lines = rng, opening, []

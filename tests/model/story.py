@@ -47,7 +47,8 @@ class Story(Peers):
         return self.h.number
 
     def accepted(self, name, challenge=7, creation=1, version=1):
-        """A link that a peer opens, and that comes up where the peer is allowed; answers its number. The peer knows that version."""
+        """A link that a peer opens, and that comes up where the peer is allowed; answers its
+        number. The peer knows that version."""
         link = self.opens(challenge)
         self.send(link, name_body(FLAGS, creation, name, version))
         if self.model.is_open(self.h, link):
@@ -61,7 +62,8 @@ class Story(Peers):
         self.send(link, reply_body(1, self.own_digest(link)))
 
     def dialled(self, name, challenge=8, creation=1, version=1):
-        """A link that the node dials, and that comes up; answers its number. The peer knows that version."""
+        """A link that the node dials, and that comes up; answers its number. The peer
+        knows that version."""
         link = self.dials(name, challenge)
         self.say("take", link)
         self.send(link, status_body("ok"))

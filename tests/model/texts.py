@@ -1,4 +1,5 @@
-"""Texts, processes and digests. A text is a string of the characters 0 to 255, one for each byte, so strings are in the order of bytes."""
+"""Texts, processes and digests. A text is a string of the characters 0 to 255, one for each byte,
+so strings are in the order of bytes."""
 
 from collections import namedtuple
 from hashlib import md5

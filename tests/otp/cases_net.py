@@ -1,4 +1,5 @@
-"""Links with stock nodes: how they are found, kept and ended, and what else a stock node says on them."""
+"""Links with stock nodes: how they are found, kept and ended, and what else a stock
+node says on them."""
 
 import os
 import time
@@ -11,7 +12,8 @@ from waiting import expect, expect_that, until
 
 
 def other_words(stock, node):
-    """What else a stock node says: a sync of `global`, a ping, a call, a link, a monitor. None of them hangs or ends the link."""
+    """What else a stock node says: a sync of `global`, a ping, a call, a link, a monitor. None of
+    them hangs or ends the link."""
     expect("global:sync()", "ok", stock.ask("global:sync()", 20))
     expect("a ping", "pong", stock.ask(f"net_adm:ping('{node.name}')", 20))
     own = new_pid(node)
@@ -23,13 +25,15 @@ def other_words(stock, node):
     )
     expect_that("noproc" in came, "a call that ends at once", came)
     came = stock.ask(
-        "{_, M} = spawn_monitor(fun() -> link(hd(pg:get_members(jobs, called))), receive after 5000 -> ok end end), "
+        "{_, M} = spawn_monitor(fun() -> link(hd(pg:get_members(jobs, called))), "
+        "receive after 5000 -> ok end end), "
         "receive {'DOWN', M, _, _, R1} -> R1 after 4000 -> none end",
         20,
     )
     expect_that("noproc" in came or "noconnection" in came, "a link that ends at once", came)
     came = stock.ask(
-        "R2 = monitor(process, hd(pg:get_members(jobs, called))), receive {'DOWN', R2, _, _, R3} -> R3 after 4000 -> none end",
+        "R2 = monitor(process, hd(pg:get_members(jobs, called))), "
+        "receive {'DOWN', R2, _, _, R3} -> R3 after 4000 -> none end",
         20,
     )
     expect_that("noproc" in came, "a monitor that ends at once", came)
@@ -41,7 +45,8 @@ def other_words(stock, node):
 
 @case
 def hidden_node(field):
-    """A hidden link: none of the node's nodes, `global`, ping, calls and links end at once, and a scope that begins late is found."""
+    """A hidden link: none of the node's nodes, `global`, ping, calls and links end at once, and a
+    scope that begins late is found."""
     field.epmd()
     stock, node = linked(field)
     expect("the nodes", [], stock.knows())
@@ -70,7 +75,8 @@ def visible_node(field):
 
 @case
 def links_are_lost_and_replaced(field):
-    """A link that a stock node ends loses its rows and comes again; a second one of the same node replaces the first; and so does a stock node that begins anew."""
+    """A link that a stock node ends loses its rows and comes again; a second one of the same node
+    replaces the first; and so does a stock node that begins anew."""
     stock = field.stock("a@127.0.0.1")
     first = stock.member()
     node = field.worker(*field.dial(stock))
@@ -103,7 +109,8 @@ def links_are_lost_and_replaced(field):
 
 @case
 def node_begins_anew(field):
-    """A node that was killed and is started again, with another creation, comes back to a stock node; of its first life nothing stays."""
+    """A node that was killed and is started again, with another creation, comes back to a stock
+    node; of its first life nothing stays."""
     stock = field.stock("a@127.0.0.1")
     first = stock.member()
     node = field.worker(*field.dial(stock), "--creation", "77")
@@ -122,7 +129,8 @@ def node_begins_anew(field):
 
 @case
 def three_stock_nodes(field):
-    """Three stock nodes, each linked with the node: membership is whole; where they part from each other their links to the node stay, and theirs come back."""
+    """Three stock nodes, each linked with the node: membership is whole; where they part from each
+    other their links to the node stay, and theirs come back."""
     field.epmd()
     node = field.worker()
     stocks = [field.stock(f"{letter}@127.0.0.1") for letter in "abc"]
@@ -149,7 +157,8 @@ def three_stock_nodes(field):
 
 @case
 def epmd_has_both(field):
-    """EPMD has the node, and gets it again where it begins anew; a stock node without an address is found by its name, at another port after another start."""
+    """EPMD has the node, and gets it again where it begins anew; a stock node without an address is
+    found by its name, at another port after another start."""
     epmd = field.epmd()
     stock = field.stock("a@127.0.0.1")
     first = stock.member()
@@ -194,7 +203,8 @@ def unregistered(field):
 
 @case
 def no_epmd(field):
-    """Without an EPMD a dial and a line of the log say so; once there is one the node is registered, and finds the stock node."""
+    """Without an EPMD a dial and a line of the log say so; once there is one the node is
+    registered, and finds the stock node."""
     node = field.worker("--otp-dial", "a@127.0.0.1")
     until("a dial without EPMD", lambda: node.ask("dials"), lambda came: "no_epmd" in came)
     until("a line of the log", lambda: node.log("warn not_registered "))
@@ -207,7 +217,8 @@ def no_epmd(field):
 
 @case
 def strangers(field):
-    """A wrong cookie, at either end, and a stock node that isn't allowed: no link. With a cookie of its own it is one."""
+    """A wrong cookie, at either end, and a stock node that isn't allowed: no link. With a cookie of
+    its own it is one."""
     field.epmd()
     wrong = os.path.join(field.folder, "wrong")
     with open(
@@ -236,7 +247,8 @@ def strangers(field):
 
 @case
 def ports_of_others(field):
-    """A stock node at `--listen`, and a pg_node at `--otp-listen`, are told in a line of the log; neither is a link that does harm."""
+    """A stock node at `--listen`, and a pg_node at `--otp-listen`, are told in a line of the log;
+    neither is a link that does harm."""
     field.epmd()
     node = field.start("w@127.0.0.1", "--otp-listen", "127.0.0.1:0").ready()
     asked(node, "start jobs")

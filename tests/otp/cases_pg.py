@@ -36,7 +36,8 @@ def linked(field, *options, stock="a@127.0.0.1", **rest):
 
 @case
 def stock_node_dials(field):
-    """A stock node dials, and each side lists the members of the other, those of before the link, too."""
+    """A stock node dials, and each side lists the members of the other, those of before
+    the link, too."""
     field.epmd()
     node = field.worker()
     first = new_pid(node)
@@ -69,13 +70,15 @@ def stock_node_is_dialled(field):
 
 @case
 def joins_and_leaves(field):
-    """Lists, repeats, a leave of more than are members, an exit, a join of nobody, groups of each kind, and the end of a worker's connection."""
+    """Lists, repeats, a leave of more than are members, an exit, a join of nobody, groups of each
+    kind, and the end of a worker's connection."""
     field.epmd()
     stock, node = linked(field)
     first = stock.member()
     await_members(node, [first], "printers", "jobs")
     stock.ask(
-        'pg:join(jobs, printers, [P, P]), pg:join(jobs, <<"bin">>, P), pg:join(jobs, {worker, 1}, P), pg:join(jobs, empty, [])'
+        'pg:join(jobs, printers, [P, P]), pg:join(jobs, <<"bin">>, P), '
+        "pg:join(jobs, {worker, 1}, P), pg:join(jobs, empty, [])"
     )
     await_members(node, [first] * 3, "printers", "jobs")
     for group in ("#b:bin", "#x:68027706776f726b65726101"):
@@ -87,7 +90,8 @@ def joins_and_leaves(field):
     stock.await_members([first, own], "{worker, 1}")
     expect("no group of nobody", False, "empty" in node.ask("groups jobs"))
     stock.ask(
-        "Q = spawn(fun ctl:member/0), pg:join(jobs, printers, Q), pg:leave(jobs, printers, [P, Q, P, P, P, P])"
+        "Q = spawn(fun ctl:member/0), pg:join(jobs, printers, Q), "
+        "pg:leave(jobs, printers, [P, Q, P, P, P, P])"
     )
     await_members(node, [], "printers", "jobs")
     stock.ask("pg:leave(jobs, nobody, [P]), pg:leave(jobs, [printers], P)")
@@ -110,7 +114,8 @@ def joins_and_leaves(field):
 
 @case
 def scopes_end_and_begin(field):
-    """The scope of a stock node is killed and begins anew, one begins late, and one of the node ends and begins anew: all rows follow."""
+    """The scope of a stock node is killed and begins anew, one begins late, and one of the node
+    ends and begins anew: all rows follow."""
     field.epmd()
     stock, node = linked(field)
     first = stock.member()
@@ -149,13 +154,16 @@ def play(chance, stock, node, own, steps):
                 stock.ask("put(ps, [spawn(fun ctl:member/0) | get(ps)])")
             elif kind < 0.08:
                 stock.ask(
-                    "case get(ps) of [] -> ok; _ -> (fun() -> X = lists:nth(rand:uniform(length(get(ps))), get(ps)), X ! stop, put(ps, lists:delete(X, get(ps))) "
-                    "end)() end"
+                    "case get(ps) of [] -> ok; _ -> (fun() -> "
+                    "X = lists:nth(rand:uniform(length(get(ps))), get(ps)), "
+                    "X ! stop, put(ps, lists:delete(X, get(ps))) end)() end"
                 )
             else:
                 word = "join" if kind < 0.55 else "leave"
                 stock.ask(
-                    f"case get(ps) of [] -> ok; _ -> pg:{word}(jobs, {term}, [lists:nth(rand:uniform(length(get(ps))), get(ps)) || _ <- lists:seq(1, {many})]) end"
+                    f"case get(ps) of [] -> ok; _ -> pg:{word}(jobs, {term}, "
+                    "[lists:nth(rand:uniform(length(get(ps))), get(ps)) "
+                    f"|| _ <- lists:seq(1, {many})]) end"
                 )
         elif kind < 0.05 or len(own) < 3:
             own.append(new_pid(node))
@@ -170,7 +178,8 @@ def play(chance, stock, node, own, steps):
 
 @case
 def random_steps(field):
-    """Random steps on both sides at three seeds, also behind lost links and scopes that ended: both list the same, and no Leave of the stock node is refused."""
+    """Random steps on both sides at three seeds, also behind lost links and scopes that ended: both
+    list the same, and no Leave of the stock node is refused."""
     field.epmd()
     stock, node = linked(field)
     for seed in SEEDS:
@@ -201,7 +210,8 @@ def random_steps(field):
 
 @case
 def rows_up_to_the_limit(field):
-    """4,096 rows of a stock node are listed; one more isn't, and as soon as one leaves the view is whole again. The log says so behind the link's end."""
+    """4,096 rows of a stock node are listed; one more isn't, and as soon as one leaves the view is
+    whole again. The log says so behind the link's end."""
     field.epmd()
     stock, node = linked(field)
     stock.ask("L = [spawn(fun ctl:member/0) || _ <- lists:seq(1, 4096)], ok")
@@ -270,7 +280,8 @@ def rows_in_parts(field):
 
 @case
 def rows_that_are_not_carried(field):
-    """A group of a stock node whose name is too long isn't listed, and the others are; the log says so behind the link's end."""
+    """A group of a stock node whose name is too long isn't listed, and the others are; the log says
+    so behind the link's end."""
     field.epmd()
     stock, node = linked(field)
     first = stock.member()
@@ -288,7 +299,8 @@ def rows_that_are_not_carried(field):
 
 @case
 def too_many_atoms(field):
-    """65,536 groups are told as atoms; rows of one more aren't, which is warned of, and those of groups that were told, or are no atoms, still are."""
+    """65,536 groups are told as atoms; rows of one more aren't, which is warned of, and those of
+    groups that were told, or are no atoms, still are."""
     field.epmd()
     stock, node = linked(field)
     control = field.control(node)

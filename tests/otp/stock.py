@@ -1,4 +1,5 @@
-"""Stock nodes of Erlang/OTP, and an EPMD of their own, on 127.0.0.1. All that is started here is ended by its own number."""
+"""Stock nodes of Erlang/OTP, and an EPMD of their own, on 127.0.0.1. All that is started here is
+ended by its own number."""
 
 import os
 import queue
@@ -99,7 +100,8 @@ class Stock:
             answer = self._answers.get(timeout=limit)
         except queue.Empty:
             raise AssertionError(
-                f"expected a value of {expression[:80]!r} at {self.name} within {limit} s, came none"
+                f"expected a value of {expression[:80]!r} at {self.name} within {limit} s,"
+                " came none"
             ) from None
         if answer is None:
             self._answers.put(None)
@@ -123,7 +125,8 @@ class Stock:
         expect(f"the scope of {self.name}", self.scope, self.ask(f"ctl:process(whereis({scope}))"))
 
     def member(self, group="printers", scope="jobs", name="P"):
-        """A new process in a group, as pg_node writes it. The expression of a case knows it by its name."""
+        """A new process in a group, as pg_node writes it. The expression of a case knows
+        it by its name."""
         self.ask(f"{name} = spawn(fun ctl:member/0), pg:join({scope}, {group}, {name})")
         return self.text(f"ctl:process({name})")
 
@@ -164,7 +167,8 @@ class Stock:
         """Where it takes links, as EPMD says."""
         return int(
             self.ask(
-                'element(2, erl_epmd:port_please(hd(string:split(atom_to_list(node()), "@")), "127.0.0.1"))'
+                "element(2, erl_epmd:port_please("
+                'hd(string:split(atom_to_list(node()), "@")), "127.0.0.1"))'
             )
         )
 

@@ -1,5 +1,5 @@
-"""Scripts that end at a line that says nothing, at one that asks for a node twice, or at a stream that fails: the answers up to there, what
-standard error says, and the status."""
+"""Scripts that end at a line that says nothing, at one that asks for a node twice, or at a stream
+that fails: the answers up to there, what standard error says, and the status."""
 
 import os
 import select
@@ -176,7 +176,8 @@ def tries(run):
 
 
 def ends_so(program, words, script, answers, said, status):
-    """What is wrong with the end of a script, if something is. Where `said` is None, standard error has one line that gives some reason."""
+    """What is wrong with the end of a script, if something is. Where `said` is None, standard error
+    has one line that gives some reason."""
     played = subprocess.run(
         [program, *words], input=script.encode(), capture_output=True, timeout=SECONDS
     )

@@ -1,4 +1,5 @@
-"""Long transcripts that meet a limit and pass it by one, each as the lines of a script and its answers."""
+"""Long transcripts that meet a limit and pass it by one, each as the lines of a script
+and its answers."""
 
 ROW = "01670003614068000000050000000000000001"  # the group `g` and the process `a@h/5/1`
 
