@@ -56,6 +56,7 @@ class Driver:
             thread.join()
 
     def _send(self):
+        """Sends what is due, as far as not too much waits for answers, and `size` at the end."""
         began = time.monotonic()
         pair = f"join pg g {self.pid}\nleave pg g {self.pid}\n"
         while not self.end.is_set():
@@ -99,6 +100,7 @@ class Archive:
             os.remove(name)
 
     def _read(self, name):
+        """Counts the lines of a file, and notes the first that isn't the entry behind the last."""
         self.files += 1
         with open(name, "rb") as file:
             for line in file:
@@ -145,22 +147,7 @@ def run_on(field, said):
     watching.ask("size")
     told = watchers(others, "quiet")
     drivers = [Driver(node, said.rate / CONNECTIONS) for _ in range(CONNECTIONS)]
-    before, began = int(watching.ask("size")[1]), time.monotonic()
-    for driver in drivers:
-        driver.begin()
-    print(
-        f"{'seconds':>8} {'events':>12} {'a second':>9} {'kept':>8} {'archived':>12} {'lost':>6}"
-        f" {'KiB':>9} {'KiB of a peer':>14}",
-        flush=True,
-    )
-    first, last = None, None
-    while (seconds := time.monotonic() - began) < said.seconds:
-        time.sleep(min(60, max(0.1, began + said.seconds - time.monotonic())))
-        last = show(node, others, watching, before, began)
-        first = first or last
-        archive.look()
-    for driver in drivers:
-        driver.stop()
+    first, last = drive(node, others, watching, drivers, archive, said.seconds)
     entries = int(watching.ask("size")[1])
     lives = status(watching)["lives"]
     assert told and node.quit() == 0, node.errors()
@@ -180,6 +167,27 @@ def run_on(field, said):
         and not archive.fault
         and archive.last >= entries
     )
+
+
+def drive(node, others, watching, drivers, archive, seconds):
+    """Memory behind the first minute and at the end, while drivers go for so many seconds."""
+    before, began = int(watching.ask("size")[1]), time.monotonic()
+    for driver in drivers:
+        driver.begin()
+    print(
+        f"{'seconds':>8} {'events':>12} {'a second':>9} {'kept':>8} {'archived':>12} {'lost':>6}"
+        f" {'KiB':>9} {'KiB of a peer':>14}",
+        flush=True,
+    )
+    first, last = None, None
+    while time.monotonic() - began < seconds:
+        time.sleep(min(60, max(0.1, began + seconds - time.monotonic())))
+        last = show(node, others, watching, before, began)
+        first = first or last
+        archive.look()
+    for driver in drivers:
+        driver.stop()
+    return first, last
 
 
 def show(node, others, watching, before, began):

@@ -66,6 +66,7 @@ class Console:
         return self.ask_all([line])[0]
 
     def ask_all(self, lines):
+        """The answers to these lines, which are read while they are sent; none may be a refusal."""
         script = "".join(f"{line}\n" for line in lines).encode()
         sending = threading.Thread(target=self.send, args=(script,))
         sending.start()

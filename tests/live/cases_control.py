@@ -263,14 +263,34 @@ def reports_without_entries(field):
     asked(one, "size", a.ask("size"))
     asked(other, "clients", "clients 2 3")
     before = size(a)
+    reports_of_itself(a, 41, "clients 2 3")
+    asked(a, "refusals", "refusals")
+    reports_of_a_link(a, b, before)
+    for line in ("status now", "links 1", "selfish", "clients "):
+        expect_that(a.ask(line).startswith("fault "), f"a fault for {line!r}", "none")
+    expect("the size of the audit", before, size(a))
+    report_of_a_refusal(a, before)
+    other.close()
+    until("one client", lambda: a.ask("clients"), lambda came: came == "clients 2")
+    while not a.untold("! restarted .*"):
+        a.ask("spawn")
+    reports_of_itself(a, 42, "clients 2")
+    expect_that(" lives=2 " in a.ask("status"), "a second life", a.ask("status"))
+
+
+def reports_of_itself(a, creation, clients):
+    """That it tells its creation, its scopes, whom it allows, and its clients."""
     for line, answer in (
-        ("self", "self a@h 41"),
+        ("self", f"self a@h {creation}"),
         ("scopes", "scopes jobs pg"),
         ("allowed", "allowed b@h c@h"),
-        ("clients", "clients 2 3"),
-        ("refusals", "refusals"),
+        ("clients", clients),
     ):
         asked(a, line, answer)
+
+
+def reports_of_a_link(a, b, entries):
+    """That both ends tell their link and what they dial, and `status` of one its entries."""
     links = a.ask("links")
     expect_that(
         re.fullmatch(r"links \d+ b@h 5 hidden 127\.0\.0\.1:\d+ \d+ 0", links), "one link", links
@@ -279,7 +299,7 @@ def reports_without_entries(field):
     status = a.ask("status")
     wanted = (
         r"status name=a@h creation=41 version=\S+ seconds=\d+ lives=1 links=1/64 otp_links=0"
-        rf" clients=2/7 entries={before} kept={before}/180 lost=0 archived=0 refused=0"
+        rf" clients=2/7 entries={entries} kept={entries}/180 lost=0 archived=0 refused=0"
         r" told=\d+ bytes=\d+"
     )
     expect_that(re.fullmatch(wanted, status), wanted, status)
@@ -290,9 +310,10 @@ def reports_without_entries(field):
         links,
     )
     asked(b, "dials", f"dials a@h 127.0.0.1:{a.port} 1 - up")
-    for line in ("status now", "links 1", "selfish", "clients "):
-        expect_that(a.ask(line).startswith("fault "), f"a fault for {line!r}", "none")
-    expect("the size of the audit", before, size(a))
+
+
+def report_of_a_refusal(a, before):
+    """That `status` counts a line that is refused, which is an entry."""
     asked(a, "start pg", "refused 22 ScopeRunning")
     expect_that(
         f" entries={before + 1} kept={before + 1}/180 lost=0 archived=0 refused=1 "
@@ -300,18 +321,6 @@ def reports_without_entries(field):
         "a refusal that is counted",
         a.ask("status"),
     )
-    other.close()
-    until("one client", lambda: a.ask("clients"), lambda came: came == "clients 2")
-    while not a.untold("! restarted .*"):
-        a.ask("spawn")
-    for line, answer in (
-        ("self", "self a@h 42"),
-        ("scopes", "scopes jobs pg"),
-        ("allowed", "allowed b@h c@h"),
-        ("clients", "clients 2"),
-    ):
-        asked(a, line, answer)
-    expect_that(" lives=2 " in a.ask("status"), "a second life", a.ask("status"))
 
 
 @case

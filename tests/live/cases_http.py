@@ -24,6 +24,28 @@ ODD_GROUPS = (
     "back\\slash",
     "</td></table>",
 )
+# What `Host` may say at a loopback address, and what it may not.
+OWN_HOSTS = (
+    b"localhost",
+    b"LocalHost:80",
+    b"127.0.0.1",
+    b"127.0.0.1:9464",
+    b"[::1]",
+    b"[::1]:80",
+    b"10.1.2.3:80",
+)
+STRANGE_HOSTS = (
+    b"h",
+    b"rebound.example:80",
+    b"localhost.example",
+    b"127.0.0.1.example:80",
+    b"h:127",
+    b"localhost:x",
+    b"",
+)
+# Samples by name and labels.
+WAITING = "pg_link_waiting_frames", (("peer", "b@h"),)
+DISCONNECTED = "pg_link_downs_total", (("reason", "disconnected"),)
 NAME = re.compile(r"[a-zA-Z_:][a-zA-Z0-9_:]*")
 LABEL = re.compile(r'([a-zA-Z_][a-zA-Z0-9_]*)="((?:[^"\\\n]|\\["\\n])*)"')
 CHROMIUM = shutil.which("chromium") or shutil.which("chromium-browser")
@@ -138,34 +160,12 @@ def metrics_of_a_node(field):
     client.ask("monitor_scope pg")
     asked(client, f"leave pg g {pid}")
     client.told(r"! leave .*")
-    waiting = "pg_link_waiting_frames", (("peer", "b@h"),)
     seen = until(
         "what was told, and taken by the peer",
         lambda: metrics(a.http_port),
-        lambda came: came["pg_told_lines_total", ()] >= 1 and came.get(waiting) == 0,
+        lambda came: came["pg_told_lines_total", ()] >= 1 and came.get(WAITING) == 0,
     )
-    version = subprocess.run(
-        [field.program, "--version"], capture_output=True, text=True, check=True
-    ).stdout.split()[1]
-    wanted = {
-        ("pg_node_info", (("name", "a@h"), ("version", version))): 1,
-        ("pg_node_creation", ()): 7,
-        ("pg_links", ()): 1,
-        ("pg_links_max", ()): 64,
-        ("pg_clients", ()): 1,
-        ("pg_clients_max", ()): 9,
-        ("pg_entries", ()): size(a),
-        ("pg_entries_kept", ()): size(a),
-        ("pg_entries_kept_max", ()): 180,
-        ("pg_entries_lost_total", ()): 0,
-        ("pg_entries_archived_total", ()): 0,
-        ("pg_node_new_lives_total", ()): 0,
-        ("pg_node_draining", ()): 0,
-        ("pg_rows", (("scope", "pg"),)): 3,
-        waiting: 0,
-        ("pg_refused_total", (("rule", "ScopeRunning"),)): 1,
-    }
-    for key, value in wanted.items():
+    for key, value in known_metrics(field.program, a).items():
         expect(f"the metric {key}", value, seen.get(key))
     expect_that(
         10**6 < seen["pg_node_resident_bytes", ()] < 10**9,
@@ -176,21 +176,61 @@ def metrics_of_a_node(field):
     expect_that(
         re.search(r" refused=1 told=\d+ bytes=\d+$", status), "what status says of them", status
     )
-    expect("links that ended", 0, seen["pg_link_downs_total", (("reason", "disconnected"),)])
+    expect("links that ended", 0, seen[DISCONNECTED])
+    metrics_of_an_ended_link(a, client)
+    metrics_of_a_new_life(a)
+    metrics_of_a_dial(field)
+
+
+def known_metrics(program, node):
+    """The metrics of a node with a link, a client, three rows, and a line that was refused."""
+    version = subprocess.run(
+        [program, "--version"], capture_output=True, text=True, check=True
+    ).stdout.split()[1]
+    return {
+        ("pg_node_info", (("name", "a@h"), ("version", version))): 1,
+        ("pg_node_creation", ()): 7,
+        ("pg_links", ()): 1,
+        ("pg_links_max", ()): 64,
+        ("pg_clients", ()): 1,
+        ("pg_clients_max", ()): 9,
+        ("pg_entries", ()): size(node),
+        ("pg_entries_kept", ()): size(node),
+        ("pg_entries_kept_max", ()): 180,
+        ("pg_entries_lost_total", ()): 0,
+        ("pg_entries_archived_total", ()): 0,
+        ("pg_node_new_lives_total", ()): 0,
+        ("pg_node_draining", ()): 0,
+        ("pg_rows", (("scope", "pg"),)): 3,
+        WAITING: 0,
+        ("pg_refused_total", (("rule", "ScopeRunning"),)): 1,
+    }
+
+
+def metrics_of_an_ended_link(node, client):
+    """That a link that is ended counts among those that were disconnected."""
     asked(client, "disconnect b@h")
     until(
         "a link that was ended",
-        lambda: metrics(a.http_port),
-        lambda came: came["pg_link_downs_total", (("reason", "disconnected"),)] == 1,
+        lambda: metrics(node.http_port),
+        lambda came: came[DISCONNECTED] == 1,
     )
-    while not a.untold("! restarted .*"):
-        a.ask("spawn")
+
+
+def metrics_of_a_new_life(node):
+    """That a new life is counted, and begins without rows."""
+    while not node.untold("! restarted .*"):
+        node.ask("spawn")
     seen = until(
         "a new life",
-        lambda: metrics(a.http_port),
+        lambda: metrics(node.http_port),
         lambda came: came["pg_node_new_lives_total", ()] == 1,
     )
     expect("rows of a new life", 0, seen["pg_rows", (("scope", "pg"),)])
+
+
+def metrics_of_a_dial(field):
+    """That dials of a peer that is away are counted, and that it isn't up."""
     dialler = http_node(field, "d@h", "--dial", "x@h=127.0.0.1:1")
     until(
         "a second dial",
@@ -312,27 +352,11 @@ def hosts_of_this_machine(field):
     `localhost`, so that no page of another place reads the node by a name that was made to mean
     this machine; at other addresses it is answered."""
     a = http_node(field, "a@h")
-    for host in (
-        b"localhost",
-        b"LocalHost:80",
-        b"127.0.0.1",
-        b"127.0.0.1:9464",
-        b"[::1]",
-        b"[::1]:80",
-        b"10.1.2.3:80",
-    ):
+    for host in OWN_HOSTS:
         expect(
             f"the status for {host}", 200, status_for(a.http_port, b" HTTP/1.1\r\nHost: " + host)
         )
-    for host in (
-        b"h",
-        b"rebound.example:80",
-        b"localhost.example",
-        b"127.0.0.1.example:80",
-        b"h:127",
-        b"localhost:x",
-        b"",
-    ):
+    for host in STRANGE_HOSTS:
         expect_that(
             status_for(a.http_port, b" HTTP/1.1\r\nHost: " + host) in (400, 421),
             f"no answer for {host}",

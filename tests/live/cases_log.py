@@ -19,6 +19,47 @@ LINE = re.compile(
 )
 WRONG = "another_secret"
 
+# Nodes that dial a@h and are refused: the name of each, the one that it dials, its cookie and its
+# options; whether that is found at a@h; the line of the log, and what `refusals` says.
+REFUSED_PEERS = (
+    (
+        "b@h",
+        "a@h",
+        WRONG,
+        (),
+        True,
+        'warn refused peer=b@h .* rule="12 BadDigest" .*',
+        " 12 BadDigest b@h ",
+    ),
+    (
+        "c@h",
+        "a@h",
+        COOKIE,
+        (),
+        True,
+        'warn refused peer=c@h .* rule="9 NotAllowed" .*',
+        " 9 NotAllowed c@h ",
+    ),
+    (
+        "d@h",
+        "a@h",
+        COOKIE,
+        ("--allow", "x@h"),
+        False,
+        'warn refused peer=a@h rule="9 NotAllowed" event=Dial .*',
+        " Dial 9 NotAllowed a@h ",
+    ),
+    (
+        "g@h",
+        "x@h",
+        COOKIE,
+        (),
+        False,
+        'warn refused peer=x@h .* rule="8 WrongName" .*',
+        " 8 WrongName x@h ",
+    ),
+)
+
 
 def raw(node):
     """Its lines on standard error as they stand there, but for those of the script that
@@ -185,78 +226,20 @@ def first_hour(field):
     --dial, a peer that is away."""
     a = field.node("a@h", "--allow", "b@h", "--allow", "g@h")
     free = field.free_port()
-    cases = (
-        (
-            "b@h",
-            f"a@h=127.0.0.1:{a.port}",
-            WRONG,
-            (),
-            a,
-            'warn refused peer=b@h .* rule="12 BadDigest" .*',
-            "refusals",
-            " 12 BadDigest b@h ",
-        ),
-        (
-            "c@h",
-            f"a@h=127.0.0.1:{a.port}",
-            COOKIE,
-            (),
-            a,
-            'warn refused peer=c@h .* rule="9 NotAllowed" .*',
-            "refusals",
-            " 9 NotAllowed c@h ",
-        ),
-        (
-            "d@h",
-            f"a@h=127.0.0.1:{a.port}",
-            COOKIE,
-            ("--allow", "x@h"),
-            None,
-            'warn refused peer=a@h rule="9 NotAllowed" event=Dial .*',
-            "refusals",
-            " Dial 9 NotAllowed a@h ",
-        ),
-        (
-            "g@h",
-            f"x@h=127.0.0.1:{a.port}",
-            COOKIE,
-            (),
-            None,
-            'warn refused peer=x@h .* rule="8 WrongName" .*',
-            "refusals",
-            " 8 WrongName x@h ",
-        ),
-        (
-            "e@h",
-            f"a@h=127.0.0.1:{free}",
-            COOKIE,
-            (),
-            None,
-            f"warn dial_failed peer=a@h at=127.0.0.1:{free} fault=refused .*",
-            "dials",
-            " refused",
-        ),
-        (
-            "f@h",
-            "a@h=nohost.invalid:4001",
-            COOKIE,
-            (),
-            None,
-            "warn dial_failed peer=a@h at=nohost.invalid:4001 fault=no_host .*",
-            "dials",
-            " no_host",
-        ),
-    )
-    for name, place, cookie, options, finder, line, command, words in cases:
-        node = field.node(name, "--dial", place, *options, cookie=cookie)
-        logged(finder or node, line)
-        until(
-            f"{words} by {command}",
-            lambda: (finder or node).ask(command),
-            lambda came: words in came,
-        )
+    for name, dialled, cookie, options, is_at_a, line, words in REFUSED_PEERS:
+        node = field.node(name, "--dial", f"{dialled}=127.0.0.1:{a.port}", *options, cookie=cookie)
+        told_why(a if is_at_a else node, line, "refusals", words)
         if name == "c@h":
             logged(node, 'info refused peer=a@h .* rule="11 PeerSaid" .*')
+        node.quit()
+    for name, place, fault in (
+        ("e@h", f"127.0.0.1:{free}", "refused"),
+        ("f@h", "nohost.invalid:4001", "no_host"),
+    ):
+        node = field.node(name, "--dial", f"a@h={place}")
+        told_why(
+            node, f"warn dial_failed peer=a@h at={place} fault={fault} .*", "dials", f" {fault}"
+        )
         node.quit()
     b = field.node("b@h", dial=[a])
     await_nodes(b, ["a@h"])
@@ -264,6 +247,12 @@ def first_hour(field):
     logged(b, "info down peer=a@h .* reason=closed")
     logged(b, "warn dial_failed peer=a@h .* fault=refused .*")
     until("the same by dials", lambda: b.ask("dials"), lambda came: came.endswith(" refused"))
+
+
+def told_why(node, line, command, words):
+    """That a line like this stands in its log, and that a command says it, too."""
+    logged(node, line)
+    until(f"{words} by {command}", lambda: node.ask(command), lambda came: words in came)
 
 
 @case

@@ -12,27 +12,52 @@ from talk import Control
 from waiting import LIMIT, expect, expect_that
 
 
+# What a file of settings may not say, and what is said of it.
+FAULTS_OF_SETTINGS = (
+    ("\nentris = 5\n", "line 2: no such option: entris"),
+    ('entries = "5"\n', "line 1: not a whole number: entries"),
+    ("cookie = 5\n", "line 1: not a text between quotes: cookie"),
+    ("allow = 'b@h'\n", "line 1: not a list of texts"),
+    ("allow = [1]\n", "line 1: not a list of texts"),
+    ("allow = []\n", "line 1: an empty list would let all peers in: allow"),
+    ("control-mode = 0660\n", "line 1: "),
+    ("hidden = 1\n", "line 1: not true or false: hidden"),
+    ("[listen]\n", "line 1: not a text"),
+    ("a = 1\nb\n", "line 2: "),
+    ("entries = 5\n", "entries"),
+    ("listen = 'nowhere'\n", "--listen"),
+)
+
+
+def write(file, text):
+    with open(file, "w", encoding="utf-8") as settings:
+        settings.write(text)
+
+
+def run_node(field, *words, **streams):
+    """What a node comes to that is run with these words, on these streams."""
+    return subprocess.run(
+        [field.program, *words], capture_output=True, timeout=LIMIT, check=False, **streams
+    )
+
+
+def errors_of(done):
+    return [line for line in done.stderr.decode().splitlines() if line.startswith("error")]
+
+
 @case
 def settings_in_a_file(field):
     """`--config` says options by their names; the command line goes first; what is wrong in the
     file is told with its line."""
     cookie = field.cookie_file(mode=0o440)
     file = os.path.join(field.folder, "node.toml")
-
-    def write(text):
-        with open(file, "w", encoding="utf-8") as settings:
-            settings.write(text)
-
     write(
+        file,
         f'# a node\ncookie-file = "{cookie}"\ncreation = 5\nentries = 128\n'
-        'allow = ["b@h", "c@h"]\nhidden = true\nlog-level = "warn"\n'
+        'allow = ["b@h", "c@h"]\nhidden = true\nlog-level = "warn"\n',
     )
-    done = subprocess.run(
-        [field.program, "a@h", "--config", file, "--creation", "6"],
-        input=b"self\nallowed\nstatus\n",
-        capture_output=True,
-        timeout=LIMIT,
-        check=False,
+    done = run_node(
+        field, "a@h", "--config", file, "--creation", "6", input=b"self\nallowed\nstatus\n"
     )
     lines = done.stdout.decode().splitlines()
     expect("what it says", ["self a@h 6", "allowed b@h c@h"], lines[:2])
@@ -41,68 +66,43 @@ def settings_in_a_file(field):
         "its entries and its level",
         (lines, done.stderr),
     )
-    write(f'cookie-file = "{cookie}"\nallow = ["b@h"]\n')
-    done = subprocess.run(
-        [field.program, "a@h", "--config", file, "--cookie", "c", "--allow", "d@h"],
-        input=b"allowed\n",
-        capture_output=True,
-        timeout=LIMIT,
-        check=False,
+    write(file, f'cookie-file = "{cookie}"\nallow = ["b@h"]\n')
+    done = run_node(
+        field, "a@h", "--config", file, "--cookie", "c", "--allow", "d@h", input=b"allowed\n"
     )
     expect("who is allowed by the command line", b"allowed d@h\n", done.stdout)
-    for text, fault in (
-        ("\nentris = 5\n", "line 2: no such option: entris"),
-        ('entries = "5"\n', "line 1: not a whole number: entries"),
-        ("cookie = 5\n", "line 1: not a text between quotes: cookie"),
-        ("allow = 'b@h'\n", "line 1: not a list of texts"),
-        ("allow = [1]\n", "line 1: not a list of texts"),
-        ("allow = []\n", "line 1: an empty list would let all peers in: allow"),
-        ("control-mode = 0660\n", "line 1: "),
-        ("hidden = 1\n", "line 1: not true or false: hidden"),
-        ("[listen]\n", "line 1: not a text"),
-        ("a = 1\nb\n", "line 2: "),
-        ("entries = 5\n", "entries"),
-        ("listen = 'nowhere'\n", "--listen"),
-        ("'entris' = 5\n", f"{shown(file)}: no such option: entris"),
-    ):
-        write(text)
-        done = subprocess.run(
-            [field.program, "a@h", "--config", file, "--cookie-file", cookie],
-            stdin=subprocess.DEVNULL,
-            capture_output=True,
-            timeout=LIMIT,
-            check=False,
-        )
-        said = [line for line in done.stderr.decode().splitlines() if line.startswith("error")]
-        expect(f"the status of {text!r}", 2, done.returncode)
-        expect_that(len(said) == 1 and fault in said[0], fault, said)
-    done = subprocess.run(
-        [field.program, "a@h", "--config", file + ".none", "--cookie", "c"],
-        stdin=subprocess.DEVNULL,
-        capture_output=True,
-        timeout=LIMIT,
-        check=False,
+    faults_of_settings(field, file, cookie)
+    done = run_node(
+        field, "a@h", "--config", file + ".none", "--cookie", "c", stdin=subprocess.DEVNULL
     )
     expect("the status without the file", 1, done.returncode)
-    write('cookie = "c"\n')
+    cookie_among_settings(field, file)
+
+
+def faults_of_settings(field, file, cookie):
+    """That what is wrong in a file is one error, and the node isn't run."""
+    whole_file = ("'entris' = 5\n", f"{shown(file)}: no such option: entris")
+    for text, fault in (*FAULTS_OF_SETTINGS, whole_file):
+        write(file, text)
+        done = run_node(
+            field, "a@h", "--config", file, "--cookie-file", cookie, stdin=subprocess.DEVNULL
+        )
+        said = errors_of(done)
+        expect(f"the status of {text!r}", 2, done.returncode)
+        expect_that(len(said) == 1 and fault in said[0], fault, said)
+
+
+def cookie_among_settings(field, file):
+    """That a file with a cookie may be read by its group; not written by it, or read by others."""
+    write(file, 'cookie = "c"\n')
     open_to_others = (
         f"error: --config: {shown(file)}: line 1: others can read this file,"
         " or its group write it (chmod 600): cookie"
     )
     for mode, said in ((0o644, [open_to_others]), (0o660, [open_to_others]), (0o640, [])):
         os.chmod(file, mode)
-        done = subprocess.run(
-            [field.program, "a@h", "--config", file],
-            stdin=subprocess.DEVNULL,
-            capture_output=True,
-            timeout=LIMIT,
-            check=False,
-        )
-        expect(
-            f"what is said of a cookie in a file of mode {mode:o}",
-            said,
-            [line for line in done.stderr.decode().splitlines() if line.startswith("error")],
-        )
+        done = run_node(field, "a@h", "--config", file, stdin=subprocess.DEVNULL)
+        expect(f"what is said of a cookie in a file of mode {mode:o}", said, errors_of(done))
         expect(f"the status with one of mode {mode:o}", 2 if said else 0, done.returncode)
 
 
@@ -137,6 +137,12 @@ def modes_of_files(field):
     ):
         wrong = field.start("w@h", *words, control=False, port=None)
         expect(f"the status of {words}", 2, wrong.status())
+    modes_of_a_cookie(field)
+    page_for_anybody(field)
+
+
+def modes_of_a_cookie(field):
+    """With which modes of its file a cookie is taken, and with which the status is 1."""
     for mode, wanted in (
         (0o600, 0),
         (0o400, 0),
@@ -148,14 +154,12 @@ def modes_of_files(field):
         (0o620, 1),
     ):
         path = field.cookie_file(cookie=f"cookie{mode}", mode=mode)
-        done = subprocess.run(
-            [field.program, "m@h", "--cookie-file", path],
-            stdin=subprocess.DEVNULL,
-            capture_output=True,
-            timeout=LIMIT,
-            check=False,
-        )
+        done = run_node(field, "m@h", "--cookie-file", path, stdin=subprocess.DEVNULL)
         expect(f"the status with a cookie of mode {mode:o}", wanted, done.returncode)
+
+
+def page_for_anybody(field):
+    """That a page is served at any address where `--http-anywhere` says so."""
     any_address = field.start(
         "c@h", "--http", "0.0.0.0:0", "--http-anywhere", control=False, port=None
     )
@@ -174,25 +178,8 @@ def socket_for_reads(field):
     a = field.node("a@h", "--control-read", reading)
     pid = member(a)
     reader = field.keep(Control(reading))
-    refused = "fault this socket takes reads and monitors alone"
     before = size(a)
-    for line in (
-        "cookie c",
-        "cookie_for b@h c",
-        "allow b@h",
-        "start s",
-        "stop pg",
-        "spawn",
-        f"exit {pid}",
-        f"join pg g {pid}",
-        f"leave pg g {pid}",
-        "disconnect b@h",
-        "dial b@h=h:1",
-        "undial b@h",
-        "drain",
-        "quit",
-    ):
-        asked(reader, line, refused)
+    refused_to_a_reader(reader, pid)
     for line, answer in (
         ("members pg g", f"pids {pid}"),
         ("groups pg", "groups g"),
@@ -217,6 +204,27 @@ def socket_for_reads(field):
     asked(a, f"join pg h {pid}")
     reader.told(r"! join \d+ h 1 .*")
     asked(reader, f"demonitor {watch.split()[1]}")
+
+
+def refused_to_a_reader(reader, pid):
+    """That what would change anything, or end the node, is refused there."""
+    for line in (
+        "cookie c",
+        "cookie_for b@h c",
+        "allow b@h",
+        "start s",
+        "stop pg",
+        "spawn",
+        f"exit {pid}",
+        f"join pg g {pid}",
+        f"leave pg g {pid}",
+        "disconnect b@h",
+        "dial b@h=h:1",
+        "undial b@h",
+        "drain",
+        "quit",
+    ):
+        asked(reader, line, "fault this socket takes reads and monitors alone")
 
 
 @case
@@ -337,6 +345,7 @@ def most_names_and_peers(field):
     cookie = field.cookie_file()
 
     def started_with(option, *values):
+        """How many words it answers, its errors, and its status."""
         words = [word for value in values for word in (option, value)]
         done = subprocess.run(
             [field.program, "a@h", "--cookie-file", cookie, *words],

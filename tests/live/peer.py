@@ -62,6 +62,7 @@ class Peer:
         return None if length is None else self._exactly(int.from_bytes(length, "big"))
 
     def _exactly(self, count):
+        """So many bytes, or None where the stream ends before them."""
         data = b""
         while len(data) < count:
             try:

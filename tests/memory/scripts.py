@@ -39,6 +39,7 @@ class Archived(Kept):
 
 
 def replaced_link():
+    """A link that the same peer's next one replaces, which is lost later; both say rows."""
     story = Story()
     story.tell("start pg", "monitor_scope pg")
     first = story.accepted("a@h")
@@ -54,6 +55,7 @@ def replaced_link():
 
 
 def monitors():
+    """Monitors of two seats and their updates, while own rows and those of a peer come and go."""
     story = Story()
     story.tell(
         "start pg",
@@ -93,6 +95,7 @@ def monitors():
 
 
 def told_peers():
+    """What two peers are told of own joins, leaves and exits, and of scopes that start and stop."""
     story = Story()
     story.tell("start pg", "start s", "spawn", "spawn")
     links = [story.accepted("a@h"), story.dialled("c@h")]
@@ -174,6 +177,39 @@ def say_parts(story, link, kind, *rows):
 def every_event():
     """All 24 kinds of events, and refusals that owe a frame."""
     story = Story()
+    own_rows(story)
+    first, second = rows_of_peers(story)
+    story.tell(
+        "members pg g",
+        "local_members pg g",
+        "groups pg",
+        "local_groups pg",
+        "updates 11",
+        "leave pg g b@h/1/1",
+        "exit b@h/1/2",
+        "updates 12",
+        f"take {first}",
+        f"take {second}",
+    )
+    ended_links(story)
+    story.message(first, Down("pg"))
+    story.tell(
+        "stop s",
+        "updates 12",
+        "stop pg",
+        "restart",
+        "spawn",
+        "start pg",
+        "join pg g b@h/2/1",
+        "members pg g",
+        "audit 1",
+        "size",
+    )
+    return story.script("every_event")
+
+
+def own_rows(story):
+    """Cookies, names that are allowed, scopes, processes that join groups, and monitors."""
     story.tell(
         "cookie secret",
         "cookie_for c@h other",
@@ -190,6 +226,10 @@ def every_event():
         "monitor pg h",
         "demonitor 13",
     )
+
+
+def rows_of_peers(story):
+    """A link that a@h opens and says rows on, and one that is dialled; answers their numbers."""
     first = story.accepted("a@h")
     story.message(first, Discover("pg"))
     story.message(first, Sync("pg", (row("g", "a@h", 1), row("w", "a@h", 2))))
@@ -197,19 +237,12 @@ def every_event():
     story.message(first, RowsLeave("pg", (row("g", "a@h", 1), row("g", "a@h", 9))))
     second = story.dialled("c@h")
     story.message(second, Discover("pg"))
-    story.tell(
-        "members pg g",
-        "local_members pg g",
-        "groups pg",
-        "local_groups pg",
-        "updates 11",
-        "leave pg g b@h/1/1",
-        "exit b@h/1/2",
-        "updates 12",
-        f"take {first}",
-        f"take {second}",
-        "dial z@h 3",
-    )
+    return first, second
+
+
+def ended_links(story):
+    """A stranger, a peer that dials while it is dialled, and the ends of these links and c@h's."""
+    story.tell("dial z@h 3")
     dial = story.h.number
     stranger = story.accepted("stranger@h")
     story.say("opened", 4)
@@ -222,20 +255,6 @@ def every_event():
         f"lost {simultaneous}",
         "disconnect c@h",
     )
-    story.message(first, Down("pg"))
-    story.tell(
-        "stop s",
-        "updates 12",
-        "stop pg",
-        "restart",
-        "spawn",
-        "start pg",
-        "join pg g b@h/2/1",
-        "members pg g",
-        "audit 1",
-        "size",
-    )
-    return story.script("every_event")
 
 
 def fill(story, link, scopes, pids):

@@ -88,6 +88,7 @@ def wrong_digest():
 
 
 def too_long():
+    """A link of which the last frame says that it is longer than any may be."""
     story, link = opened()
     return Scene(
         "too_long",
@@ -171,6 +172,7 @@ class Reading:
             self.calls.append("Lost " + judged(self.console.play(f"lost {self.link}")))
 
     def early_end(self):
+        """How the link ends before its bytes do, which are cut there; None where it doesn't."""
         while (start := self.place + (4 if self.is_up else 2)) <= len(self.octets):
             length = int.from_bytes(self.octets[self.place : start], "big")
             if length > MOST_BODY:

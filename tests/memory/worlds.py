@@ -76,6 +76,7 @@ class World:
         return self.at(side, self.cut_off)
 
     def at(self, side, deed):
+        """What a deed at one side of the first wire is answered, or why there is none."""
         if not self.wires:
             return "there is no such wire"
         if self.wires[0].links[SIDES.index(side)] is None:

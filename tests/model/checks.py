@@ -182,6 +182,7 @@ class Checks(FrameChecks):
         return name != h.opening.name and len(self.peer_cookies(h).keys() | {name}) > MOST_NAMES
 
     def checks(self, h, seat, event):
+        """The rules of an event in their order, and of each whether the event breaks it."""
         match event:
             case Restart():
                 return [("CreationSpent", self.creation(h) == LAST_CREATION)]
@@ -189,20 +190,26 @@ class Checks(FrameChecks):
                 return [("CookiesFull", self.too_many_cookies(h, name))]
             case Allow(names):
                 return [("AllowFull", len(self.allow_list(h) | set(names)) > MOST_NAMES)]
-            case Spawn():
-                return [("PidsFull", self.living(h) >= MOST_PIDS)]
             case Opened():
                 return [("LinksFull", not self.has_link_room(h))]
             case Lost(link) | Take(link):
                 return [("NoSuchLink", link not in self.links(h) or not self.is_kept(h, link))]
             case Disconnect(name):
                 return [("NoLinkTo", not self.is_name_up(h, name))]
-            case Demonitor(ref) | Updates(ref):
-                return [("NoMonitor", self.monitor(h, seat, ref) is None)]
             case Dial(name, _):
                 return self.dial_checks(h, name)
             case Frame(link, body):
                 return self.frame_checks(h, link, body)
+            case _:
+                return self.scope_checks(h, seat, event)
+
+    def scope_checks(self, h, seat, event):
+        """The rules of what is asked of processes, scopes and monitors; other events have none."""
+        match event:
+            case Spawn():
+                return [("PidsFull", self.living(h) >= MOST_PIDS)]
+            case Demonitor(ref) | Updates(ref):
+                return [("NoMonitor", self.monitor(h, seat, ref) is None)]
             case Exit(pid):
                 return self.exit_checks(h, pid)
             case StartScope(scope):

@@ -397,6 +397,7 @@ class Generator(Peers):
                 self.between_parts(link, part)
 
     def between_parts(self, link, part):
+        """Says something between two parts of a message, on the same link or beside it."""
         match self.one_of(BETWEEN_PARTS):
             case "discover":
                 self.frame(link, message_body(Discover(self.one_of((part.scope, self.scope())))))
@@ -495,6 +496,7 @@ class Generator(Peers):
 
 
 def opening_of(rng):
+    """A node for a script: mostly a usual one, at times near its last creation or entry."""
     creation = rng.choice((1, 1, 4, 7, 0, 4_294_967_294, 4_294_967_295))
     entries = rng.choice((10, 25, 60)) if rng.random() < 0.06 else MOST_ENTRIES
     links = 1 if rng.random() < 0.4 else 2

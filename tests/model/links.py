@@ -153,6 +153,8 @@ class Links:
         return self.is_ended_by_event(h, link) or self.is_slow(h, link)
 
     def is_ended_by_event(self, h, link):
+        """Whether the newest entry says so: a refused frame of its handshake, a frame of another
+        link, its loss, or a disconnect."""
         match h.entry.event, h.said:
             case Frame(of, _), None:
                 return of == link and not self.is_whole(h.past, link)

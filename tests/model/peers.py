@@ -203,6 +203,7 @@ class Peers(Writer):
         return tuple(rows[: self.rng.randint(1, 3)]) or self.peer_rows(link, 1, 1)
 
     def good_message(self, link):
+        """A message that is mostly accepted."""
         kind = self.rng.choices((Discover, Sync, RowsJoin, RowsLeave, Down), (3, 4, 9, 5, 1))[0]
         scope = self.heard_scope(link) if kind in (RowsJoin, RowsLeave) else self.scope()
         if (
@@ -264,6 +265,7 @@ class Peers(Writer):
         ]
 
     def bad_body(self, link):
+        """A message that is mostly refused, or a part of one where the link knows version 2."""
         message = self.bad_message(link)
         if self.model.version(self.h, link) == 1:
             return message_body(message)

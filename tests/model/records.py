@@ -6,6 +6,8 @@ from collections import namedtuple
 
 
 def record(name, fields="", defaults=()):
+    """A kind of records, by its name and its fields."""
+
     def equals(self, other):
         return type(self) is type(other) and tuple.__eq__(self, other)
 

@@ -95,12 +95,7 @@ def joins_and_leaves(field):
     )
     await_members(node, [], "printers", "jobs")
     stock.ask("pg:leave(jobs, nobody, [P]), pg:leave(jobs, [printers], P)")
-    client = node.control()
-    worker = new_pid(client)
-    asked(client, f"join jobs printers {worker} {worker}")
-    stock.await_members([worker, worker])
-    client.close()
-    stock.await_members([])
+    worker_that_ends(stock, node)
     stock.ask("exit(P, kill)")
     until(
         "no rows of a process that has ended",
@@ -110,6 +105,16 @@ def joins_and_leaves(field):
     asked(node, f"exit {own}")
     same_views("nobody is left", stock, node)
     expect("no rows", [], pg_view(node))
+
+
+def worker_that_ends(stock, node):
+    """That a worker is listed at the stock node until its connection is closed."""
+    client = node.control()
+    worker = new_pid(client)
+    asked(client, f"join jobs printers {worker} {worker}")
+    stock.await_members([worker, worker])
+    client.close()
+    stock.await_members([])
 
 
 @case

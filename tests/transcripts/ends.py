@@ -131,6 +131,22 @@ NO_STEPS = (
 
 def tries(run):
     """The name of each, what plays it, and on what; `run` is the command line of one node."""
+    yield from tries_of_lines(run)
+    yield from tries_of_nodes()
+    yield "no_line_feed_at_the_end", ends_so, (
+        run,
+        "size\nseat 4294967295\naudit 0",
+        "size 0\nok\nnone\n",
+        "",
+        0,
+    )
+    yield "answers_each_line_before_the_next", answers_at_once, (run,)
+    yield "closed_output", closed_output, (run,)
+    yield "unreadable_input", unreadable_input, (run,)
+
+
+def tries_of_lines(run):
+    """Lines that say no command, and such as ask for no step."""
     for line, said in NO_COMMANDS:
         yield "no_command", ends_so, (
             run,
@@ -149,6 +165,10 @@ def tries(run):
             None,
             1,
         )
+
+
+def tries_of_nodes():
+    """A node that is asked for too late, and one that is asked for twice."""
     yield "node_behind_another_line", ends_so, (
         ["world"],
         "seat 1\nnode a@h x\n",
@@ -163,16 +183,6 @@ def tries(run):
         "line 2: an earlier node has this name\n",
         2,
     )
-    yield "no_line_feed_at_the_end", ends_so, (
-        run,
-        "size\nseat 4294967295\naudit 0",
-        "size 0\nok\nnone\n",
-        "",
-        0,
-    )
-    yield "answers_each_line_before_the_next", answers_at_once, (run,)
-    yield "closed_output", closed_output, (run,)
-    yield "unreadable_input", unreadable_input, (run,)
 
 
 def ends_so(program, words, script, answers, said, status):
