@@ -158,7 +158,7 @@ def main():
         "program", nargs="?", default=os.path.join(HERE, "../crates/pg_console/out/pg_console")
     )
     program = reader.parse_args().program
-    reader.need_program(program, "bin/build")
+    program = reader.need_program(program, "bin/build")
     print(f"{'bytes an entry':<36} {'kept':>9}")
     known = {}
     for kind in KINDS:

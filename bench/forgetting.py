@@ -130,7 +130,7 @@ def words():
     reader.add_argument("--peers", type=int, default=1)
     reader.add_argument("--no-news", action="store_true", help="leave out how soon news come")
     said = reader.parse_args()
-    reader.need_program(said.program, "bin/build")
+    said.program = reader.need_program(said.program, "bin/build")
     return said
 
 
@@ -204,7 +204,6 @@ def show(node, others, watching, before, began):
 
 def main():
     said = words()
-    said.program = os.path.abspath(said.program)
     print(f"load of the machine before: {' '.join(f'{load:.1f}' for load in os.getloadavg())}")
     with Field(said.program, None) as field:
         is_well = run_on(field, said)

@@ -150,7 +150,7 @@ def words():
     )
     reader.add_argument("--rows", type=from_1, default=PART)
     said = reader.parse_args()
-    reader.need_program(said.program, "bin/build")
+    said.program = reader.need_program(said.program, "bin/build")
     return said
 
 

@@ -36,7 +36,7 @@ def words():
     reader.add_argument("--keep", type=int)
     reader.add_argument("--archive")
     said = reader.parse_args()
-    reader.need_program(said.program, "bin/build")
+    said.program = reader.need_program(said.program, "bin/build")
     if said.entries < TENTHS * EVENTS:
         reader.error(f"--entries: {TENTHS * EVENTS:,} or more, and not {said.entries}")
     return said

@@ -31,7 +31,7 @@ def options():
     parser.add_argument("--changes", type=from_1, default=20_000)
     parser.add_argument("--rounds", type=from_1, default=5)
     wanted = parser.parse_args()
-    parser.need_program(wanted.program, "bin/build")
+    wanted.program = parser.need_program(wanted.program, "bin/build")
     return wanted
 
 

@@ -212,7 +212,7 @@ def options():
     parser.add_argument("--quick", action="store_true", help="a tenth of all")
     parser.add_argument("--flood", type=int, default=FLOOD, help="messages of the flood")
     wanted = parser.parse_args()
-    parser.need_program(wanted.program, "bin/build")
+    wanted.program = parser.need_program(wanted.program, "bin/build")
     if not all(shutil.which(word) for word in ("erl", "erlc", "epmd")):
         parser.error("there is no erl here")
     return wanted
@@ -220,7 +220,7 @@ def options():
 
 def main():
     wanted = options()
-    program, part = os.path.abspath(wanted.program), 10 if wanted.quick else 1
+    program, part = wanted.program, 10 if wanted.quick else 1
     print(f"load of the machine before: {' '.join(f'{load:.1f}' for load in os.getloadavg())}")
     print(f"{'':<70} {'pg_node':>11} {'stock':>11} {'ratio':>7}", flush=True)
     with Field(program, None) as field:

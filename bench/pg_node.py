@@ -304,9 +304,9 @@ def main():
         "program", nargs="?", default=os.path.join(HERE, "../crates/pg_node/out/pg_node")
     )
     program = reader.parse_args().program
-    reader.need_program(program, "bin/build")
+    program = reader.need_program(program, "bin/build")
     print(f"load of the machine before: {' '.join(f'{load:.1f}' for load in os.getloadavg())}")
-    table = Table(os.path.abspath(program), shutil.which("escript") is not None)
+    table = Table(program, shutil.which("escript") is not None)
     table.row(
         "a join on one node to the news on another, singly, milliseconds", join_to_news, PAUSE
     )

@@ -126,7 +126,7 @@ def main():
         "program", nargs="?", default=os.path.join(HERE, "../crates/pg_console/out/pg_console")
     )
     program = reader.parse_args().program
-    reader.need_program(program, "bin/build")
+    program = reader.need_program(program, "bin/build")
     with tempfile.TemporaryDirectory() as folder:
         counting = os.path.join(folder, "counting.so")
         with open(os.path.join(folder, "counting.c"), "w", encoding="ascii") as source:

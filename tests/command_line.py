@@ -28,10 +28,16 @@ class CommandLine(argparse.ArgumentParser):
             formatter_class=argparse.RawDescriptionHelpFormatter,
         )
 
+    def parse_args(self):
+        """The words, of which options may stand anywhere between the others."""
+        return self.parse_intermixed_args()
+
     def error(self, message):
         self.exit(2, f'{self.prog}: {message}; {" ".join(self.format_usage().split())}\n')
 
     def need_program(self, path, builder=""):
-        """Refuses a path that no program stands at; tells what builds one."""
+        """The whole path of a program, by which it is found from any folder. Refuses one that no
+        program stands at; tells what builds one."""
         if not os.access(path, os.X_OK) or os.path.isdir(path):
             self.error(f"no such program: {path}" + (builder and f" ({builder} builds one)"))
+        return os.path.abspath(path)

@@ -15,5 +15,4 @@ def tried_program(reader, named, crate="pg_console"):
         else [CRATES / crate / "out" / crate, CRATES / crate / "out" / f"{crate}.unproved"]
     )
     found = next((str(path) for path in programs if os.access(path, os.X_OK)), programs[-1])
-    reader.need_program(found, f"bin/{crate} --version")
-    return found
+    return reader.need_program(found, f"bin/{crate} --version")
