@@ -246,13 +246,7 @@ def seat_for_the_operator(field):
 @case
 def usual_values(field):
     """What `--help` has as the usual values is what a node runs with."""
-    done = subprocess.run(
-        [field.program, "--help"],
-        stdin=subprocess.DEVNULL,
-        capture_output=True,
-        timeout=LIMIT,
-        check=False,
-    )
+    done = run_node(field, "--help", stdin=subprocess.DEVNULL)
     usual = dict(re.findall(r"--([a-z]+) <.*\[default: (\w+)\]", done.stdout.decode()))
     status = field.node("a@h").ask("status")
     for option, word in (("entries", "kept"), ("clients", "clients")):
@@ -282,13 +276,7 @@ def faults_of_the_command_line(field):
         ["a@h", "--cookie", "c", "--unknown"],
     ]
     for words in cases:
-        done = subprocess.run(
-            [field.program, *words],
-            stdin=subprocess.DEVNULL,
-            capture_output=True,
-            timeout=LIMIT,
-            check=False,
-        )
+        done = run_node(field, *words, stdin=subprocess.DEVNULL)
         expect_that(done.returncode in (1, 2), f"status 1 or 2 for {words}", done.returncode)
         expect_that(
             done.stderr != b"" and b"panicked" not in done.stderr and b"Err(" not in done.stderr,
@@ -347,15 +335,8 @@ def most_names_and_peers(field):
     def started_with(option, *values):
         """How many words it answers, its errors, and its status."""
         words = [word for value in values for word in (option, value)]
-        done = subprocess.run(
-            [field.program, "a@h", "--cookie-file", cookie, *words],
-            input=b"allowed\n",
-            capture_output=True,
-            timeout=LIMIT,
-            check=False,
-        )
-        said = [line for line in done.stderr.decode().splitlines() if line.startswith("error")]
-        return len(done.stdout.split()), said, done.returncode
+        done = run_node(field, "a@h", "--cookie-file", cookie, *words, input=b"allowed\n")
+        return len(done.stdout.split()), errors_of(done), done.returncode
 
     names = [f"n{number}@h" for number in range(1_024)]
     files = [f"{name}={cookie}" for name in names]
@@ -392,13 +373,7 @@ def open_to_all(field):
         "--otp-listen",
         "0.0.0.0:0",
     ]
-    done = subprocess.run(
-        [field.program, "a@h", *words],
-        input=b"nodes\n",
-        capture_output=True,
-        timeout=LIMIT,
-        check=False,
-    )
+    done = run_node(field, "a@h", *words, input=b"nodes\n")
     expect("the status", 0, done.returncode)
     warnings = [
         line for line in done.stderr.decode().splitlines() if "plain" in line or "0.0.0.0" in line
