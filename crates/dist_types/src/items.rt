@@ -58,12 +58,19 @@ impl<T> Items<T> {
 
 impl<T: TryClone + Drop> TryClone for Items<T> {
     fn try_clone(&self, alloc: Global) -> Result<Items<T>, OutOfMemory> {
-        let mut copies = Vec::with_capacity(alloc, self.items.len())?;
-        for item in self.as_slice() {
-            copies.push(item.try_clone(alloc)?)?;
-        }
-        Ok(Items { items: copies })
+        Ok(Items::of(copies_of(alloc, self.as_slice())?))
     }
+}
+
+/// Copies of the elements, in their order.
+pub fn copies_of<T: TryClone + Drop>(alloc: Global, items: &[T]) -> Result<Vec<T>, OutOfMemory>
+    ensures { IfOk result (λ copies. copies.items ≡ items.now) }
+{
+    let mut copies = Vec::with_capacity(alloc, items.len())?;
+    for item in items {
+        copies.push(item.try_clone(alloc)?)?;
+    }
+    Ok(copies)
 }
 
 impl<T: PartialEq> PartialEq for Items<T> {

@@ -24,7 +24,7 @@ pub use fault::{OutOfMemory, TextFault};
 pub use fields::{after_kind, bytes_at, u16_at, u32_at, u64_at};
 pub use flags::Flags;
 pub use group::Group;
-pub use items::{Items, TryClone};
+pub use items::{Items, TryClone, copies_of};
 pub use laws::{
     equal_values, limits_compute, listing_of_named, one_fault, one_listing, order_of_pids,
     order_of_rows, order_of_texts,

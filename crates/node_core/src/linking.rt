@@ -19,7 +19,7 @@ use crate::links::{MAX_LINKS, drop_ended, is_dialling, place_of, place_of_up, re
 use crate::running::Running;
 use admission_rules::Admission;
 use cookie_digest::Challenge;
-use dist_types::{NodeName, OutOfMemory, TryClone};
+use dist_types::{NodeName, OutOfMemory, TryClone, copies_of};
 use link_states::{AwaitName, AwaitStatus};
 use policy_audit::{Change, OutFrame, OutFrames, Reply, Rule};
 use std::alloc::Global;
@@ -104,7 +104,11 @@ impl Kept {
         let frames = self.links[place].hand_over(self.alloc);
         drop_ended(&mut self.links, place);
         let nothing = Vec::new(self.alloc);
-        Ok(Answered::both(Reply::Out(frames), Reply::Out(copies), nothing))
+        Ok(Answered::both(
+            Reply::Out(frames),
+            Reply::Out(OutFrames::of(copies)),
+            nothing,
+        ))
     }
 
     /// A link is gone.
@@ -197,15 +201,4 @@ pub fn cut_link(scopes: &mut Vec<Running>, link: &Link)
     if let Some(peer) = link.up_peer() {
         end_link(scopes, link.number(), peer);
     }
-}
-
-/// Copies of frames.
-fn copies_of(alloc: Global, frames: &[OutFrame]) -> Result<OutFrames, OutOfMemory>
-    ensures { IfOk result (λ copies. copies ≡ frames.now) }
-{
-    let mut copies = Vec::with_capacity(alloc, frames.len())?;
-    for frame in frames {
-        copies.push(frame.try_clone(alloc)?)?;
-    }
-    Ok(OutFrames::of(copies))
 }

@@ -4,7 +4,7 @@ ghost use Rattle.std.specs.Prelude.{◌≡◌, ◌<◌, ◌+◌, ◌^◌, IfOk, 
 ghost use Rattle.dist_types.specs.Listing.{Rises, placed};
 ghost use Rattle.pg_ledger.specs.Telling.{NotesEntry, NotesEvent, NotesNames, nothing};
 
-use dist_types::{NodeName, OutOfMemory, Scope, TryClone};
+use dist_types::{NodeName, OutOfMemory, Scope, TryClone, copies_of};
 use policy_audit::{Entry, Event, Verdict};
 use std::alloc::Global;
 use std::marker::Model;
@@ -126,23 +126,13 @@ impl Account {
         ensures ok { OnOk result (NotesNames names.now self.old self.new) }
         ensures same { OnErr result (self.new ≡ self.old) }
     {
-        let mut allowed = copies(alloc, self.allowed.as_slice())?;
+        let mut allowed = copies_of(alloc, self.allowed.as_slice())?;
         for name in names {
             insert(alloc, &mut allowed, name)?;
         }
         self.allowed = allowed;
         Ok(())
     }
-}
-
-fn copies<T: TryClone + Drop>(alloc: Global, items: &[T]) -> Result<Vec<T>, OutOfMemory>
-    ensures { IfOk result (λ copies. copies.items ≡ items.now) }
-{
-    let mut copies = Vec::with_capacity(alloc, items.len())?;
-    for item in items {
-        copies.push(item.try_clone(alloc)?)?;
-    }
-    Ok(copies)
 }
 
 /// Puts a copy of an item in its place among ascending ones, unless it is there.

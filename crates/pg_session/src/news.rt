@@ -6,7 +6,7 @@ ghost use Rattle.pg_session.specs.Notices.{Known, TellsNews, is_named, has_gone}
 ghost use Rattle.pg_session.specs.Seen.{seen_of, unseen};
 
 use crate::notice::{Peer, put_all_down, put_down, put_life, put_up};
-use dist_types::{NodeName, OutOfMemory, TryClone};
+use dist_types::{NodeName, OutOfMemory, TryClone, copies_of};
 use node_core::NodeCore;
 use node_threads::Shared;
 use pg_text::DownReason;
@@ -137,7 +137,7 @@ impl News {
         ensures ok { OnOk result (self.new ≡ record { peers = as_told.now.peers; anew = None }) }
         ensures same { OnErr result (self.new ≡ self.old) }
     {
-        self.peers = copies(alloc, as_told.peers.as_slice())?;
+        self.peers = copies_of(alloc, as_told.peers.as_slice())?;
         self.restarted = None;
         Ok(())
     }
@@ -337,14 +337,4 @@ impl News {
         self.peers.clear();
         Ok(())
     }
-}
-
-fn copies(alloc: Global, peers: &[Peer]) -> Result<Vec<Peer>, OutOfMemory>
-    ensures { IfOk result (λ copies. copies.items ≡ peers.now) }
-{
-    let mut copies = Vec::with_capacity(alloc, peers.len())?;
-    for peer in peers {
-        copies.push(peer.try_clone(alloc)?)?;
-    }
-    Ok(copies)
 }

@@ -12,7 +12,7 @@ ghost use Rattle.scope_core.specs.Listed.{is_in, Tells};
 
 use crate::counted::Counted;
 use crate::reads::{pids_of, run_of};
-use dist_types::{Group, GroupChange, Items, OutOfMemory, Pid, Row, TryClone};
+use dist_types::{Group, GroupChange, Items, OutOfMemory, Pid, Row, TryClone, copies_of};
 use std::alloc::Global;
 
 /// The change of one group; none where nobody left and nobody joined.
@@ -153,16 +153,5 @@ pub fn in_order(alloc: Global, pids: &[Pid]) -> Result<Vec<Pid>, OutOfMemory>
         return Ok(copies);
     }
     copies.sort_unstable();
-    Ok(copies)
-}
-
-/// Copies of the items.
-pub fn copies_of<T: TryClone + Drop>(alloc: Global, items: &[T]) -> Result<Vec<T>, OutOfMemory>
-    ensures { IfOk result (λ copies. copies.items ≡ items.now) }
-{
-    let mut copies = Vec::with_capacity(alloc, items.len())?;
-    for item in items {
-        copies.push(item.try_clone(alloc)?)?;
-    }
     Ok(copies)
 }

@@ -10,9 +10,8 @@ ghost use Rattle.scope_core.specs.Table.{tally, is_row, counted_cmp, IsKept};
 ghost use Rattle.scope_core.specs.Added.{Adds, HasRoomFor};
 ghost use Rattle.scope_core.specs.Beyond.{times_beyond, picked};
 
-use crate::changes::copies_of;
 use crate::counted::Counted;
-use dist_types::{OutOfMemory, Row, TryClone};
+use dist_types::{OutOfMemory, Row, TryClone, copies_of};
 use std::alloc::Global;
 use std::cmp::Ordering;
 

@@ -1,5 +1,5 @@
 use Rattle.std.proofs.Common.{take, ◌≡◌}
-use Rattle.pg_ledger.proofs.account.copies.Given as goal
+use Rattle.dist_types.proofs.items.copies_of.Given as goal
 
 -- the copies so far
 abbrev pub invariant-loop-item : goal.invariant-loop-item
