@@ -1,4 +1,5 @@
-//! The rules by which a node admits its peers (Erlang manual, `erlang:set_cookie`; Kernel manual, `net_kernel:allow`).
+//! The rules by which a node admits its peers (Erlang manual, `erlang:set_cookie`; Kernel manual,
+//! `net_kernel:allow`).
 ghost use Rattle.std.specs.Prelude.{◌≡◌, ◌↔◌, ◌≤◌, length, slice_get, IsTrue, OnOk, IfErr, OnErr, IsBitSet, false, []};
 ghost use Rattle.std.specs.Option.{option_copied, option_map};
 ghost use Rattle.std.specs.Map.Iter.{deref_pair};
@@ -14,8 +15,8 @@ use indexmap::{IndexMap, IndexSet};
 use std::alloc::Global;
 use std::marker::Model;
 
-/// A node's own name, creation and cookie, the latest version of link messages that it knows, the cookies of its peers, and the
-/// names that it allows.
+/// A node's own name, creation and cookie, the latest version of link messages that it knows, the
+/// cookies of its peers, and the names that it allows.
 #[derive(Debug)]
 pub struct Admission {
     own: NodeName,
@@ -64,7 +65,8 @@ impl Model for Admission {
 impl Admission {
     const MAX_PEERS: usize = 1024;
 
-    /// Every peer has the own cookie, and every name is allowed. The version of link messages must be 1 or 2.
+    /// Every peer has the own cookie, and every name is allowed. The version of link messages must
+    /// be 1 or 2.
     pub fn new(
         alloc: Global,
         own: NodeName,
@@ -74,7 +76,15 @@ impl Admission {
         links: u8,
     ) -> Admission
         requires { IsVersion links }
-        ensures { result ≡ record { own = own; cookie = cookie; hidden = hidden; creation = creation; links = links; peers = []; allowed = [] } }
+        ensures { result ≡ record {
+          own = own;
+          cookie = cookie;
+          hidden = hidden;
+          creation = creation;
+          links = links;
+          peers = [];
+          allowed = [];
+        } }
     {
         Admission {
             own,
@@ -105,7 +115,8 @@ impl Admission {
         self.creation
     }
 
-    /// The latest version of link messages that the node knows. A link has version 2 where both ends know it.
+    /// The latest version of link messages that the node knows. A link has version 2 where both
+    /// ends know it.
     pub fn links(&self) -> u8
         ensures value { result ≡ self.now.links }
         ensures limits { IsVersion self.now.links }
@@ -161,10 +172,12 @@ impl Admission {
         self.cookie = cookie;
     }
 
-    /// Sets the cookie for a node: for the own name the own cookie, and else that of the peer alone.
+    /// Sets the cookie for a node: for the own name the own cookie, and else that of the peer
+    /// alone.
     pub fn set_cookie_for(&mut self, node: NodeName, cookie: Cookie) -> Result<(), CookieFault>
         ensures ok { OnOk result (self.new ≡ with_cookie_for self.old node cookie) }
-        ensures refused { IfErr result (λ fault. IsCookieFault fault (with_cookie_for self.old node cookie)) }
+        ensures refused { IfErr result (λ fault.
+            IsCookieFault fault (with_cookie_for self.old node cookie)) }
         ensures same { OnErr result (self.new ≡ self.old) }
         ensures limits { length self.new.peers ≤ max_peers }
     {
@@ -182,7 +195,8 @@ impl Admission {
     /// Allows the names beside those allowed already. An empty list changes nothing.
     pub fn allow(&mut self, names: &[NodeName]) -> Result<(), AllowFault>
         ensures ok { OnOk result (self.new ≡ with_allowed self.old names.now) }
-        ensures refused { IfErr result (λ fault. IsAllowFault fault (with_allowed self.old names.now)) }
+        ensures refused { IfErr result (λ fault.
+            IsAllowFault fault (with_allowed self.old names.now)) }
         ensures same { OnErr result (self.new ≡ self.old) }
         ensures limits { length self.new.allowed ≤ max_allowed }
     {

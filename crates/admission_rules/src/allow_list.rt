@@ -14,7 +14,8 @@ const MAX_ALLOWED: usize = 1024;
 #[tactic(auto, using(crate::proofs::NameLists::insert_all_more, crate::proofs::NameLists::length_inserted))]
 pub fn is_past_limit(allowed: &IndexSet<NodeName>, names: &[NodeName]) -> bool
     requires { length allowed.now.keys ≤ max_allowed }
-    ensures { IsTrue result ↔ (max_allowed < length (insert_all bytes_eq allowed.now.keys names.now)) }
+    ensures { IsTrue result
+        ↔ (max_allowed < length (insert_all bytes_eq allowed.now.keys names.now)) }
 {
     let mut room = MAX_ALLOWED - allowed.len();
     if names.len() <= room {
@@ -34,7 +35,8 @@ pub fn is_past_limit(allowed: &IndexSet<NodeName>, names: &[NodeName]) -> bool
 /// Whether a name is neither allowed nor among those before it.
 #[tactic(auto, using(crate::proofs::NameLists::has_inserted))]
 fn is_new(allowed: &IndexSet<NodeName>, before: &[NodeName], name: &NodeName) -> bool
-    ensures { result ≡ not (list_any (bytes_eq name.now) (insert_all bytes_eq allowed.now.keys before.now)) }
+    ensures { result
+        ≡ not (list_any (bytes_eq name.now) (insert_all bytes_eq allowed.now.keys before.now)) }
 {
     !allowed.contains(name) && !before.contains(name)
 }
@@ -43,7 +45,8 @@ fn is_new(allowed: &IndexSet<NodeName>, before: &[NodeName], name: &NodeName) ->
 #[tactic(auto, using(crate::proofs::NameLists::front_stays))]
 pub fn add_all(allowed: &mut IndexSet<NodeName>, names: &[NodeName]) -> Result<(), OutOfMemory>
     ensures ok { OnOk result (allowed.new.keys ≡ insert_all bytes_eq allowed.old.keys names.now) }
-    ensures front { OnErr result (take (length allowed.old.keys) allowed.new.keys ≡ allowed.old.keys) }
+    ensures front { OnErr result (take (length allowed.old.keys) allowed.new.keys
+        ≡ allowed.old.keys) }
 {
     let alloc = *allowed.allocator();
     for name in names {

@@ -1,5 +1,5 @@
-//! Whom a node admits: its cookie and those of its peers, the names that it allows, whether it is hidden, and the version of link
-//! messages that it knows.
+//! Whom a node admits: its cookie and those of its peers, the names that it allows, whether it is
+//! hidden, and the version of link messages that it knows.
 #![tactic(auto)]
 
 mod admission;

@@ -10,11 +10,20 @@ use Rattle.archive_files.specs.Text.{Text}
 
 -- the line of a life, by which a file is named as by the life's first entry
 unfoldable pub text_of_life : Life → Text
-text_of_life life = record { mark = record { creation = life.creation; number = 1 }; is_entry = false; bytes = life_line life }
+text_of_life life = record {
+  mark = record { creation = life.creation; number = 1 };
+  is_entry = false;
+  bytes = life_line life;
+}
 
 -- the line of an entry of the life of this creation
 unfoldable pub text_of_entry : ℕ → Entry → Text
-text_of_entry creation entry = record { mark = record { creation = creation; number = entry.number }; is_entry = true; bytes = entry_line entry }
+text_of_entry creation entry =
+    record {
+      mark = record { creation = creation; number = entry.number };
+      is_entry = true;
+      bytes = entry_line entry;
+    }
 
 -- lines in their order, and how many bytes of the first are in a file already
 pub record Waiting : Type 0 where
@@ -52,7 +61,8 @@ rest_of waiting = drop waiting.begun (bytes_of waiting.lines)
 abbrev pub entries_among : List Text → ℕ
 entries_among lines = count_by (λ line. line.is_entry) lines
 
--- bytes have gone from what waited to the end of what is held, in their order: none is gone, and none is there twice
+-- bytes have gone from what waited to the end of what is held, in their order: none is gone, and
+-- none is there twice
 abbrev pub IsMoved : Option (List ℕ) → List ℕ → Option (List ℕ) → List ℕ → Type 0
 IsMoved None rest held' rest' = ⊤
 IsMoved (Some held) rest None rest' = ⊥

@@ -50,7 +50,8 @@ impl<S: Store + Drop> Drop for Archive<S> {
 impl<S: Store + Drop> Archive<S> {
     /// An archive in files that have this many bytes already in the one that is written to.
     pub fn new(alloc: Global, store: S, held: u64, size: Option<u64>) -> Archive<S>
-        ensures empty { (result.lines.lines ≡ []) × (result.lines.begun ≡ 0) × (result.archived ≡ 0) × (result.lost ≡ 0) }
+        ensures empty { (result.lines.lines ≡ []) × (result.lines.begun ≡ 0) × (result.archived ≡ 0)
+            × (result.lost ≡ 0) }
         ensures store { (result.store ≡ store) × (result.held ≡ held) × (result.size ≡ size) }
         ensures first { result.first ≡ None }
     {
@@ -70,7 +71,10 @@ impl<S: Store + Drop> Archive<S> {
     /// Takes the line of a life that begins. Entries that follow are of it.
     pub fn begin(&mut self, life: &Life) -> Result<(), OutOfMemory>
         ensures ok { OnOk result (self.new ≡ record self.old {
-          lines = record self.old.lines { lines = self.old.lines.lines ++ text_of_life life.now ∷ [] };
+          lines = record self.old.lines {
+            lines = self.old.lines.lines ++ text_of_life life.now
+                ∷ [];
+          };
           creation = life.now.creation;
         }) }
         ensures same { OnErr result (self.new ≡ self.old) }
@@ -83,18 +87,24 @@ impl<S: Store + Drop> Archive<S> {
     /// Takes the lines of entries, all or none. None is written yet.
     pub fn put(&mut self, entries: &[Entry]) -> Result<(), OutOfMemory>
         ensures ok { OnOk result (self.new ≡ record self.old {
-          lines = record self.old.lines { lines = self.old.lines.lines ++ map (text_of_entry self.old.creation) entries.now };
+          lines = record self.old.lines {
+            lines = self.old.lines.lines
+                ++ map (text_of_entry self.old.creation) entries.now;
+          };
         }) }
         ensures same { OnErr result (self.new ≡ self.old) }
     {
         self.lines.put(self.alloc, self.creation, entries)
     }
 
-    /// Writes what waits. After an error the rest waits still, and the next call goes on at that very byte.
+    /// Writes what waits. After an error the rest waits still, and the next call goes on at that
+    /// very byte.
     pub fn flush(&mut self) -> io::Result<()>
-        ensures order { IsMoved (S.contents self.old.store) (rest_of self.old.lines) (S.contents self.new.store) (rest_of self.new.lines) }
+        ensures order { IsMoved (S.contents self.old.store) (rest_of self.old.lines)
+            (S.contents self.new.store) (rest_of self.new.lines) }
         ensures whole { OnOk result (self.new.lines.lines ≡ []) }
-        ensures counted { IsCounted self.old.archived self.old.lines.lines self.new.archived self.new.lines.lines }
+        ensures counted { IsCounted self.old.archived self.old.lines.lines self.new.archived
+            self.new.lines.lines }
         ensures lost { self.new.lost ≡ self.old.lost }
         ensures same { (self.new.size ≡ self.old.size) × (self.new.creation ≡ self.old.creation) }
     {
@@ -108,13 +118,17 @@ impl<S: Store + Drop> Archive<S> {
         Err(io::Error::from(ErrorKind::Other))
     }
 
-    /// Begins a new file before a line that would make this one larger than it may be, unless none went into it yet.
+    /// Begins a new file before a line that would make this one larger than it may be, unless none
+    /// went into it yet.
     fn turn_if_due(&mut self) -> io::Result<()>
         ensures bytes { Keeps (S.contents self.old.store) (S.contents self.new.store) }
-        ensures same { (self.new.lines ≡ self.old.lines) × (self.new.archived ≡ self.old.archived) × (self.new.lost ≡ self.old.lost)
+        ensures same { (self.new.lines ≡ self.old.lines) × (self.new.archived ≡ self.old.archived)
+            × (self.new.lost ≡ self.old.lost)
             × (self.new.size ≡ self.old.size) × (self.new.creation ≡ self.old.creation) }
-        ensures room { ¬ IsTooLong self.old.size self.old.held self.old.lines.begun self.old.lines.lines → self.new ≡ self.old }
-        ensures due { OnOk result (IsTooLong self.old.size self.old.held self.old.lines.begun self.old.lines.lines → self.new.first ≡ None) }
+        ensures room { ¬ IsTooLong self.old.size self.old.held self.old.lines.begun
+            self.old.lines.lines → self.new ≡ self.old }
+        ensures due { OnOk result (IsTooLong self.old.size self.old.held self.old.lines.begun
+            self.old.lines.lines → self.new.first ≡ None) }
         ensures none { self.old.first ≡ None → self.new ≡ self.old }
         ensures fits { OnOk result
             (IsTooLong self.new.size self.new.held self.new.lines.begun self.new.lines.lines
@@ -137,8 +151,10 @@ impl<S: Store + Drop> Archive<S> {
     /// What the file is named by, if a new one is to begin.
     fn due(&self) -> Option<Mark>
         ensures named { IfSome result (λ mark. self.now.first ≡ Some mark) }
-        ensures due { OnSome result (IsTooLong self.now.size self.now.held self.now.lines.begun self.now.lines.lines) }
-        ensures room { IfNone result (IfSome self.now.first (λ _. ¬ IsTooLong self.now.size self.now.held self.now.lines.begun self.now.lines.lines)) }
+        ensures due { OnSome result (IsTooLong self.now.size self.now.held self.now.lines.begun
+            self.now.lines.lines) }
+        ensures room { IfNone result (IfSome self.now.first (λ _.
+            ¬ IsTooLong self.now.size self.now.held self.now.lines.begun self.now.lines.lines)) }
     {
         let first = self.first?;
         let size = self.size?;
@@ -151,10 +167,13 @@ impl<S: Store + Drop> Archive<S> {
 
     /// Writes what it can of the first line.
     fn write_some(&mut self) -> io::Result<()>
-        requires room { IsTooLong self.old.size self.old.held self.old.lines.begun self.old.lines.lines
+        requires room { IsTooLong self.old.size self.old.held self.old.lines.begun
+            self.old.lines.lines
             → self.old.first ≡ None }
-        ensures order { IsMoved (S.contents self.old.store) (rest_of self.old.lines) (S.contents self.new.store) (rest_of self.new.lines) }
-        ensures counted { IsCounted self.old.archived self.old.lines.lines self.new.archived self.new.lines.lines }
+        ensures order { IsMoved (S.contents self.old.store) (rest_of self.old.lines)
+            (S.contents self.new.store) (rest_of self.new.lines) }
+        ensures counted { IsCounted self.old.archived self.old.lines.lines self.new.archived
+            self.new.lines.lines }
         ensures held { IsWeighed self.old.held self.old.lines self.new.held self.new.lines }
         ensures first { (self.new ≡ record self.old { store = self.new.store })
             ⊎ HasGone self.old.first self.old.lines self.new.first self.new.lines }
@@ -175,7 +194,8 @@ impl<S: Store + Drop> Archive<S> {
     fn note(&mut self, count: usize)
         requires { count ≤ length (piece_of self.old.lines.lines self.old.lines.begun) }
         ensures rest { rest_of self.new.lines ≡ drop count (rest_of self.old.lines) }
-        ensures counted { IsCounted self.old.archived self.old.lines.lines self.new.archived self.new.lines.lines }
+        ensures counted { IsCounted self.old.archived self.old.lines.lines self.new.archived
+            self.new.lines.lines }
         ensures held { IsWeighed self.old.held self.old.lines self.new.held self.new.lines }
         ensures first { self.new.first ≡ named_by self.old.first self.old.lines.lines }
         ensures same { (self.new.store ≡ self.old.store) × (self.new.lost ≡ self.old.lost)
@@ -190,10 +210,15 @@ impl<S: Store + Drop> Archive<S> {
         }
     }
 
-    /// Lets go of the lines that wait, but for the rest of one that is in the file in part, and counts their entries as lost.
+    /// Lets go of the lines that wait, but for the rest of one that is in the file in part, and
+    /// counts their entries as lost.
     pub fn let_go(&mut self)
-        ensures part { self.new.lines ≡ record self.old.lines { lines = part_of self.old.lines.lines self.old.lines.begun } }
-        ensures counted { IsCounted self.old.lost self.old.lines.lines self.new.lost self.new.lines.lines }
+        ensures part { self.new.lines ≡ record self.old.lines {
+          lines =
+              part_of self.old.lines.lines self.old.lines.begun;
+        } }
+        ensures counted { IsCounted self.old.lost self.old.lines.lines self.new.lost
+            self.new.lines.lines }
         ensures same { (self.new.store ≡ self.old.store) × (self.new.archived ≡ self.old.archived)
             × (self.new.size ≡ self.old.size) × (self.new.creation ≡ self.old.creation) }
         ensures file { (self.new.held ≡ self.old.held) × (self.new.first ≡ self.old.first) }
@@ -204,8 +229,9 @@ impl<S: Store + Drop> Archive<S> {
         self.lost = self.lost.saturating_add(lost as u64);
     }
 
-    /// Leaves the file, and goes on with that at its path. Of a line that is in the file in part, the part is taken back first; it goes
-    /// to the next file whole. On an error the same file is written to.
+    /// Leaves the file, and goes on with that at its path. Of a line that is in the file in part,
+    /// the part is taken back first; it goes to the next file whole. On an error the same file is
+    /// written to.
     pub fn reopen(&mut self) -> io::Result<()>
         ensures ok { OnOk result (self.new.lines ≡ record self.old.lines { begun = 0 }) }
         ensures refused { OnErr result ((self.new.first ≡ self.old.first)
@@ -214,8 +240,10 @@ impl<S: Store + Drop> Archive<S> {
             × (self.new.held ≡ self.old.held - self.old.lines.begun)))) }
         ensures file { OnOk result ((self.new.first ≡ None) × (S.files self.new.store
             ≡ and_file (S.files self.old.store) None self.new.held)) }
-        ensures bytes { IsLeft (S.contents self.old.store) self.old.lines.begun (S.contents self.new.store) self.new.lines.begun }
-        ensures same { (self.new.lines.lines ≡ self.old.lines.lines) × (self.new.archived ≡ self.old.archived) × (self.new.lost ≡ self.old.lost)
+        ensures bytes { IsLeft (S.contents self.old.store) self.old.lines.begun
+            (S.contents self.new.store) self.new.lines.begun }
+        ensures same { (self.new.lines.lines ≡ self.old.lines.lines)
+            × (self.new.archived ≡ self.old.archived) × (self.new.lost ≡ self.old.lost)
             × (self.new.size ≡ self.old.size) × (self.new.creation ≡ self.old.creation) }
     {
         self.take_back()?;
@@ -232,7 +260,8 @@ impl<S: Store + Drop> Archive<S> {
             × (self.new.held ≡ self.old.held)) }
         ensures file { (S.files self.new.store ≡ S.files self.old.store)
             × (self.new.first ≡ self.old.first) }
-        ensures bytes { IsLeft (S.contents self.old.store) self.old.lines.begun (S.contents self.new.store) self.new.lines.begun }
+        ensures bytes { IsLeft (S.contents self.old.store) self.old.lines.begun
+            (S.contents self.new.store) self.new.lines.begun }
         ensures same { (self.new.archived ≡ self.old.archived) × (self.new.lost ≡ self.old.lost)
             × (self.new.size ≡ self.old.size) × (self.new.creation ≡ self.old.creation) }
     {

@@ -58,7 +58,8 @@ impl<'a> ArchiveFiles<'a> {
         }
     }
 
-    /// Gives the file its name of a full one, unless another one stands at the path by now, or none.
+    /// Gives the file its name of a full one, unless another one stands at the path by now, or
+    /// none.
     fn set_aside(&self, first: Mark) -> io::Result<()> {
         let own = self.file.metadata()?;
         match fs::metadata(self.files, self.path) {
@@ -73,8 +74,8 @@ impl<'a> ArchiveFiles<'a> {
     }
 }
 
-/// Opens the file of the path to write to its end, or makes it, and keeps other programs out until it is closed. A torn last line is
-/// cut off.
+/// Opens the file of the path to write to its end, or makes it, and keeps other programs out until
+/// it is closed. A torn last line is cut off.
 pub(crate) fn open_file(files: &HostRuntime, path: &str) -> io::Result<OpenFile> {
     refuse_pipe(files, path)?;
     let file = File::options()
@@ -155,7 +156,8 @@ fn torn_end<F: FileExt>(file: &F, length: u64) -> io::Result<u64> {
     Err(Error::from(ErrorKind::Other))
 }
 
-/// An error where no line of an archive begins there, as far as a file of this length goes: what isn't one is left as it is.
+/// An error where no line of an archive begins there, as far as a file of this length goes: what
+/// isn't one is left as it is.
 fn check_line<F: FileExt>(file: &F, place: u64, length: u64) -> io::Result<()> {
     let mut bytes = [0u8; HEAD];
     let size = length.saturating_sub(place).min(HEAD as u64);

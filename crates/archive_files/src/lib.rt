@@ -1,4 +1,5 @@
-//! The files of a node's archive: each entry's line once, in order, whole; over as many files as there are to be.
+//! The files of a node's archive: each entry's line once, in order, whole; over as many files as
+//! there are to be.
 #![tactic(auto)]
 
 mod archive;

@@ -30,7 +30,11 @@ impl Model for Line {
 
     ghost Value = { Text };
 
-    ghost view = { λ line. record { mark = line.mark; is_entry = line.is_entry; bytes = line.bytes.items } };
+    ghost view = { λ line. record {
+      mark = line.mark;
+      is_entry = line.is_entry;
+      bytes = line.bytes.items;
+    } };
 }
 
 impl Line {

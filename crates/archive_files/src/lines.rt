@@ -11,7 +11,8 @@ use std::alloc::Global;
 use std::collections::VecDeque;
 use std::marker::Model;
 
-/// Lines on the way to a file, in their order. Of the first one some bytes may be in the file already.
+/// Lines on the way to a file, in their order. Of the first one some bytes may be in the file
+/// already.
 #[derive(Drop)]
 pub struct Lines {
     lines: VecDeque<Line>,
@@ -71,7 +72,8 @@ impl Lines {
 
     /// Adds the line of a life.
     pub fn put_life(&mut self, alloc: Global, life: &Life) -> Result<(), OutOfMemory>
-        ensures ok { OnOk result (self.new ≡ record self.old { lines = self.old.lines ++ text_of_life life.now ∷ [] }) }
+        ensures ok { OnOk result (self.new
+            ≡ record self.old { lines = self.old.lines ++ text_of_life life.now ∷ [] }) }
         ensures same { OnErr result (self.new ≡ self.old) }
     {
         self.add(Line::of_life(alloc, life)?)
@@ -84,7 +86,11 @@ impl Lines {
         creation: u32,
         entries: &[Entry],
     ) -> Result<(), OutOfMemory>
-        ensures ok { OnOk result (self.new ≡ record self.old { lines = self.old.lines ++ map (text_of_entry creation) entries.now }) }
+        ensures ok { OnOk result (self.new
+            ≡ record self.old {
+              lines = self.old.lines
+                  ++ map (text_of_entry creation) entries.now;
+            }) }
         ensures same { OnErr result (self.new ≡ self.old) }
     {
         let mut added = lines_of(alloc, creation, entries)?;
@@ -93,18 +99,21 @@ impl Lines {
     }
 
     fn add(&mut self, line: Line) -> Result<(), OutOfMemory>
-        ensures ok { OnOk result (self.new ≡ record self.old { lines = self.old.lines ++ line ∷ [] }) }
+        ensures ok { OnOk result (self.new
+            ≡ record self.old { lines = self.old.lines ++ line ∷ [] }) }
         ensures same { OnErr result (self.new ≡ self.old) }
     {
         self.lines.push_back(line)?;
         Ok(())
     }
 
-    /// So many bytes of the first line's rest went to the file: whether an entry's line is whole there now.
+    /// So many bytes of the first line's rest went to the file: whether an entry's line is whole
+    /// there now.
     pub fn advance(&mut self, count: usize) -> bool
         requires { count ≤ length (piece_of self.old.lines self.old.begun) }
         ensures rest { rest_of self.new ≡ drop count (rest_of self.old) }
-        ensures counted { entries_among self.new.lines + (if result then 1 else 0) ≡ entries_among self.old.lines }
+        ensures counted { entries_among self.new.lines + (if result then 1 else 0)
+            ≡ entries_among self.old.lines }
     {
         if count < self.left() {
             self.begun += count;

@@ -8,7 +8,8 @@ use std::rt::HostRuntime;
 /// How many names are tried.
 const MOST_NAMES: u32 = 10_000;
 
-/// A name for the full file of that path which nothing has yet: PATH.CREATION.NUMBER, else that with .2, .3 and so on behind it.
+/// A name for the full file of that path which nothing has yet: PATH.CREATION.NUMBER, else that
+/// with .2, .3 and so on behind it.
 pub(crate) fn free_name(
     files: &HostRuntime,
     alloc: Global,

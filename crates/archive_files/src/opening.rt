@@ -15,8 +15,9 @@ pub struct Opened<'a> {
     pub cut: u64,
 }
 
-/// Opens the archive of this path, or makes it; lines go behind those that it has. A torn last line is cut off. A file has at most
-/// `size` bytes, unless a single line has more. An error names the option, the path and the reason.
+/// Opens the archive of this path, or makes it; lines go behind those that it has. A torn last line
+/// is cut off. A file has at most `size` bytes, unless a single line has more. An error names the
+/// option, the path and the reason.
 pub fn open<'a>(
     files: &'a HostRuntime,
     alloc: Global,

@@ -5,7 +5,8 @@ ghost use Rattle.std.specs.Prelude.{◌≡◌, ◌≢◌, ◌+◌, ◌-◌, ◌<
 pub fn torn(bytes: &[u8]) -> usize
     ensures within { result ≤ length bytes.now }
     ensures behind { All (λ byte. byte ≢ 10) (drop (length bytes.now - result) bytes.now) }
-    ensures at { result < length bytes.now → slice_index bytes.now (length bytes.now - result - 1) ≡ 10 }
+    ensures at { result < length bytes.now → slice_index bytes.now (length bytes.now - result - 1)
+        ≡ 10 }
 {
     match bytes.iter().rposition(|byte| *byte == b'\n') {
         Some(place) => bytes.len() - place - 1,

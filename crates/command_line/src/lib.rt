@@ -1,4 +1,5 @@
-//! The command line of a program: its words, what they say, and how a program ends that can't begin.
+//! The command line of a program: its words, what they say, and how a program ends that can't
+//! begin.
 #![tactic(auto)]
 
 mod standard;
@@ -33,8 +34,8 @@ pub fn words<R: AllocGlobal + Env + Eprint>(rt: &R) -> Result<Vec<String>, ExitC
     }
 }
 
-/// What the words of the command line say, or the status of a program that has nothing else to do. Without a command for them
-/// there was no memory.
+/// What the words of the command line say, or the status of a program that has nothing else to do.
+/// Without a command for them there was no memory.
 pub fn matched<'a, R: AllocGlobal + Print + Eprint>(
     rt: &R,
     command: Result<Command<'a>, LineError>,
@@ -48,7 +49,8 @@ pub fn matched<'a, R: AllocGlobal + Print + Eprint>(
         .map_err(|error| unmatched(rt, &error))
 }
 
-/// Ends a program whose command line has no matches: it is refused, or it asks for a text, as `--help` does.
+/// Ends a program whose command line has no matches: it is refused, or it asks for a text, as
+/// `--help` does.
 fn unmatched<R: AllocGlobal + Print + Eprint>(rt: &R, error: &LineError) -> ExitCode {
     if error.kind() == LineFault::OutOfMemory {
         return failed(rt, 1, OUT_OF_MEMORY);
@@ -70,7 +72,8 @@ fn unmatched<R: AllocGlobal + Print + Eprint>(rt: &R, error: &LineError) -> Exit
     }
 }
 
-/// What the parser of the command line says, as one line: its first paragraph, which names the words at fault.
+/// What the parser of the command line says, as one line: its first paragraph, which names the
+/// words at fault.
 fn refusal(alloc: Global, error: &LineError) -> Result<String, AllocError> {
     let text = error.to_string(alloc)?;
     let mut line = String::new(alloc);

@@ -1,8 +1,9 @@
 //! The standard streams of a program that was started without some of them.
 use std::fs::{self, File, Files};
 
-/// What stands in the place of each standard stream that is closed, so that no file and no socket of the program's takes its number,
-/// and what is printed goes there. It is to live as long as the program.
+/// What stands in the place of each standard stream that is closed, so that no file and no socket
+/// of the program's takes its number, and what is printed goes there. It is to live as long as the
+/// program.
 pub fn held_streams<R: Files<File = File>>(rt: &R) -> [Option<File>; 3] {
     [
         held(rt, "/proc/self/fd/0"),

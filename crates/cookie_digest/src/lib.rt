@@ -1,4 +1,5 @@
-//! The digest by which two nodes show that they share a cookie, the challenge that it answers, and where challenges come from.
+//! The digest by which two nodes show that they share a cookie, the challenge that it answers, and
+//! where challenges come from.
 #![tactic(auto)]
 
 mod answer;

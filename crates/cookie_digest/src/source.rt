@@ -5,8 +5,9 @@ ghost use Rattle.rand_core.specs.Stream.{next_u32};
 use rand_core::Rng;
 use std::marker::Model;
 
-/// Draws challenges from a generator. Whoever can foresee the generator can foresee the challenges: give it one that is meant
-/// for cryptography, with a seed that nobody else knows and that no other source has.
+/// Draws challenges from a generator. Whoever can foresee the generator can foresee the challenges:
+/// give it one that is meant for cryptography, with a seed that nobody else knows and that no other
+/// source has.
 #[derive(Drop)]
 pub struct ChallengeSource<R: Rng> {
     words: R,

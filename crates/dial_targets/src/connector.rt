@@ -1,4 +1,5 @@
-//! Connects to a peer. Nothing can end a look-up of a name or a connect, so a thread of its own makes them, and may outlive the links.
+//! Connects to a peer. Nothing can end a look-up of a name or a connect, so a thread of its own
+//! makes them, and may outlive the links.
 use crate::dial_fault::DialFault;
 use crate::epmd_place::{EpmdPlace, connect};
 use std::net::{Net, TcpListener, TcpStream};

@@ -91,8 +91,8 @@ fn told_of(fault: AskFault) -> DialFault {
     }
 }
 
-/// Connects to the first address of HOST:PORT that answers. Else it is told what the first one said,
-/// since resolvers put addresses last to which no way leads.
+/// Connects to the first address of HOST:PORT that answers. Else it is told what the first one
+/// said, since resolvers put addresses last to which no way leads.
 pub(crate) fn connect<R>(rt: &R, place: &str, time: Duration) -> Result<TcpStream, DialFault>
 where
     R: Net<Listener = TcpListener, Stream = TcpStream>,

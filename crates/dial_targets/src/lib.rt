@@ -1,4 +1,5 @@
-//! The peers that a node dials, where they are and how that goes, and the limits of time of its links.
+//! The peers that a node dials, where they are and how that goes, and the limits of time of its
+//! links.
 #![tactic(auto)]
 
 mod connector;

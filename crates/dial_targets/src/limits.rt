@@ -13,8 +13,9 @@ const ASKING: u64 = 500;
 pub struct Limits {
     /// For a whole handshake (OTP: `net_setuptime`).
     pub setup: Duration,
-    /// A link that is up is lost where nothing has come for so long, or a write has stood still. A tick goes out at the latest
-    /// after a quarter of it without other frames (OTP: `net_ticktime`).
+    /// A link that is up is lost where nothing has come for so long, or a write has stood still. A
+    /// tick goes out at the latest after a quarter of it without other frames (OTP:
+    /// `net_ticktime`).
     pub tick: Duration,
 }
 

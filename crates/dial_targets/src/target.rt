@@ -261,8 +261,8 @@ fn can_be_dialled(word: &str) -> bool {
     matches!(port_of(word), Some(port) if port > 0)
 }
 
-/// The port of a place. An address that has colons stands in brackets, as its last part may be taken
-/// for a port.
+/// The port of a place. An address that has colons stands in brackets, as its last part may be
+/// taken for a port.
 fn port_of(word: &str) -> Option<u16> {
     if let Ok(address) = SocketAddr::parse_ascii(word.as_bytes()) {
         return Some(address.port());

@@ -26,7 +26,8 @@ abbrev pub times_joined : List ℕ → Pid → List GroupChange → ℕ
 times_joined g p changes = total (λ c. cond (same c.group g) (mentions p c.joined) 0) changes
 
 -- these changes, ascending by group, are the whole difference between the counts before and after
-pub record IsDifference (before after : List ℕ → Pid → ℕ) (changes : List GroupChange) : Type 0 where
+pub record IsDifference (before after : List ℕ → Pid → ℕ)
+    (changes : List GroupChange) : Type 0 where
   pub groups : Rises text_cmp (map (λ c. c.group) changes)
   pub proper : AllByRecursion IsProper changes
   pub left : (g : List ℕ) (p : Pid) → times_left g p changes ≡ before g p - after g p
@@ -34,4 +35,5 @@ pub record IsDifference (before after : List ℕ → Pid → ℕ) (changes : Lis
 
 -- one change, or none where nobody left and nobody joined
 abbrev pub change_unless_empty : List ℕ → List Pid → List Pid → List GroupChange
-change_unless_empty g left joined = cond (is_empty left && is_empty joined) [] (record { group = g; left = left; joined = joined } ∷ [])
+change_unless_empty g left joined = cond (is_empty left && is_empty joined)
+    [] (record { group = g; left = left; joined = joined } ∷ [])

@@ -81,7 +81,8 @@ Ascends cmp [] = Unit {0}
 Ascends cmp (x ∷ xs) = AllByRecursion (λ y. is_gt (cmp x y) ≡ false) xs × Ascends cmp xs
 
 -- the list ascends, and each stands in it as often as count says
-pub record IsListing {A : Type 0} (cmp : A → A → Ordering) (alike : A → A → Bool) (count : A → ℕ) (xs : List A) : Type 0 where
+pub record IsListing {A : Type 0} (cmp : A → A → Ordering) (alike : A → A → Bool) (count : A → ℕ)
+    (xs : List A) : Type 0 where
   pub ascends : Ascends cmp xs
   pub counts : (x : A) → occurrences alike x xs ≡ count x
 

@@ -12,7 +12,8 @@ text_cmp = slice_cmp nat_cmp
 
 -- by the name, the creation and the number
 abbrev pub pid_cmp : Pid → Pid → Ordering
-pid_cmp a b = ordering_then (text_cmp a.node b.node) (ordering_then (nat_cmp a.creation b.creation) (nat_cmp a.number b.number))
+pid_cmp a b = ordering_then (text_cmp a.node b.node)
+    (ordering_then (nat_cmp a.creation b.creation) (nat_cmp a.number b.number))
 
 -- by the group, and then by the process
 abbrev pub row_cmp : Row → Row → Ordering

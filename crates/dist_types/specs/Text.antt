@@ -31,7 +31,8 @@ abbrev pub is_text : List ℕ → Bool
 is_text bytes = nat_lt 0 (length bytes) && nat_le (length bytes) 255 && list_all is_text_byte bytes
 
 abbrev pub has_inner_at : List ℕ → Bool
-has_inner_at bytes = count_by (λ b. b == 0x40) bytes == 1 && not (get_or bytes 0 0 == 0x40) && not (get_or bytes (length bytes - 1) 0 == 0x40)
+has_inner_at bytes = count_by (λ b. b == 0x40) bytes == 1 && not (get_or bytes 0 0 == 0x40)
+    && not (get_or bytes (length bytes - 1) 0 == 0x40)
 
 abbrev pub is_node_name : List ℕ → Bool
 is_node_name bytes = is_text bytes && has_inner_at bytes

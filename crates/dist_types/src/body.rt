@@ -10,7 +10,8 @@ use std::alloc::Global;
 use std::marker::Model;
 use std::sync::Arc;
 
-/// The bytes of a frame or a message of a link, without the length before them. All copies share them.
+/// The bytes of a frame or a message of a link, without the length before them. All copies share
+/// them.
 #[derive(Debug)]
 pub struct Body {
     bytes: Arc<Vec<u8>>,
@@ -39,7 +40,8 @@ impl Body {
         Body::of(Vec::new(alloc))
     }
 
-    /// The body of these bytes. It takes memory for the count of the copies; where there is none, the bytes are dropped.
+    /// The body of these bytes. It takes memory for the count of the copies; where there is none,
+    /// the bytes are dropped.
     pub fn of(bytes: Vec<u8>) -> Result<Body, OutOfMemory>
         ensures { IfOk result (λ body. body ≡ bytes.items) }
     {

@@ -1,4 +1,5 @@
-//! The flags of a node in its name frame and its challenge frame (Distribution Protocol, Distribution Flags).
+//! The flags of a node in its name frame and its challenge frame (Distribution Protocol,
+//! Distribution Flags).
 ghost use Rattle.std.specs.Prelude.{◌≡◌, ◌↔◌, IsTrue, IsBitSet};
 ghost use Rattle.dist_types.specs.Flags.{has_bit, own_flags};
 

@@ -1,4 +1,5 @@
-//! Laws of faults, orders, equality and listings. Each function does nothing; its contract is the law.
+//! Laws of faults, orders, equality and listings. Each function does nothing; its contract is the
+//! law.
 ghost use Rattle.std.specs.Prelude.{◌≡◌, ◌↔◌, ◌<◌, List, ℕ, IsTrue};
 ghost use Rattle.dist_types.specs.declared.fault.TextFault.{TextFault};
 ghost use Rattle.dist_types.specs.declared.flags.Flags.{Flags};
@@ -21,8 +22,10 @@ use crate::scope::Scope;
 
 /// Bytes have at most one fault as a name, and at most one as another text.
 pub fn one_fault()
-    ensures names { (f g : TextFault) (bytes : List ℕ) → IsNameFault f bytes → IsNameFault g bytes → f ≡ g }
-    ensures texts { (f g : TextFault) (bytes : List ℕ) → IsTextFault f bytes → IsTextFault g bytes → f ≡ g }
+    ensures names { (f g : TextFault) (bytes : List ℕ) → IsNameFault f bytes → IsNameFault g bytes
+        → f ≡ g }
+    ensures texts { (f g : TextFault) (bytes : List ℕ) → IsTextFault f bytes → IsTextFault g bytes
+        → f ≡ g }
 {}
 
 /// The limits of the texts are tests that compute.
@@ -64,15 +67,20 @@ pub fn equal_values()
 
 /// A count has one listing.
 pub fn one_listing()
-    ensures pids { (count : Pid → ℕ) (ps qs : List Pid) → IsPidListing count ps → IsPidListing count qs → ps ≡ qs }
-    ensures rows { (count : List ℕ → Pid → ℕ) (rs ss : List Row) → IsRowListing count rs → IsRowListing count ss → rs ≡ ss }
-    ensures groups { (count : List ℕ → Pid → ℕ) (gs hs : List (List ℕ)) → IsGroupListing count gs → IsGroupListing count hs → gs ≡ hs }
+    ensures pids { (count : Pid → ℕ) (ps qs : List Pid) → IsPidListing count ps
+        → IsPidListing count qs → ps ≡ qs }
+    ensures rows { (count : List ℕ → Pid → ℕ) (rs ss : List Row) → IsRowListing count rs
+        → IsRowListing count ss → rs ≡ ss }
+    ensures groups { (count : List ℕ → Pid → ℕ) (gs hs : List (List ℕ)) → IsGroupListing count gs
+        → IsGroupListing count hs → gs ≡ hs }
 {}
 
 /// A listing is computed from its count and a list that names all that are counted.
 pub fn listing_of_named()
     ensures pids { (count : Pid → ℕ) (ps named : List Pid) → IsPidListing count ps
-        → ((p : Pid) → 0 < count p → IsTrue (stands_in same_pid p named)) → ps ≡ listing pid_cmp count named }
+        → ((p : Pid) → 0 < count p → IsTrue (stands_in same_pid p named))
+        → ps ≡ listing pid_cmp count named }
     ensures rows { (count : List ℕ → Pid → ℕ) (rs named : List Row) → IsRowListing count rs
-        → ((r : Row) → 0 < count r.group r.pid → IsTrue (stands_in same_row r named)) → rs ≡ listing row_cmp (λ r. count r.group r.pid) named }
+        → ((r : Row) → 0 < count r.group r.pid → IsTrue (stands_in same_row r named))
+        → rs ≡ listing row_cmp (λ r. count r.group r.pid) named }
 {}

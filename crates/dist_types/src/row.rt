@@ -7,8 +7,8 @@ use crate::items::TryClone;
 use crate::pid::Pid;
 use std::alloc::Global;
 
-/// The most rows that a message may bring, or a part of one, repeats included. A node has no more in a scope whose rows go over
-/// links of version 1.
+/// The most rows that a message may bring, or a part of one, repeats included. A node has no more
+/// in a scope whose rows go over links of version 1.
 pub const MAX_ROWS: usize = 4096;
 
 /// One membership of a process in a group.

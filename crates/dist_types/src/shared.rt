@@ -40,8 +40,8 @@ impl<T> Shared<T> {
 }
 
 impl<T: Drop> Shared<T> {
-    /// The list of these elements, in their order. It takes memory for the count of the copies; where there is none, the
-    /// elements are dropped.
+    /// The list of these elements, in their order. It takes memory for the count of the copies;
+    /// where there is none, the elements are dropped.
     pub fn of(items: Vec<T>) -> Result<Shared<T>, OutOfMemory>
         ensures { IfOk result (λ list. list ≡ items.items) }
     {

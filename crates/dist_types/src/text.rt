@@ -41,7 +41,8 @@ impl Model for Text {
 impl Text {
     pub const MAX_LEN: usize = 255;
 
-    /// Copies 1 to 255 bytes of 0x21 to 0x7E, or answers the first of `Empty`, `TooLong`, `BadByte` and `OutOfMemory`.
+    /// Copies 1 to 255 bytes of 0x21 to 0x7E, or answers the first of `Empty`, `TooLong`, `BadByte`
+    /// and `OutOfMemory`.
     pub fn parse(alloc: Global, bytes: &[u8]) -> Result<Text, TextFault>
         ensures ok { IfOk result (λ text. (text ≡ bytes.now) × IsText bytes.now) }
         ensures refused { IfErr result (λ fault. IsTextFault fault bytes.now) }

@@ -87,7 +87,8 @@ impl Connection {
         }
     }
 
-    /// The bytes that the node owes to the stream. There are none where the node has given the link up: the stream is closed.
+    /// The bytes that the node owes to the stream. There are none where the node has given the link
+    /// up: the stream is closed.
     pub fn owed(&self, node: &mut NodeCore) -> Result<Option<Vec<u8>>> {
         let mut out = Vec::new(self.alloc);
         match node.waiting(self.link) {

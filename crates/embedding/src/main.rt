@@ -1,5 +1,5 @@
-//! Two nodes in one process, joined by streams of bytes that are cut at odd places. A process of the one is listed at the
-//! other while the link is up, and no longer once it is lost.
+//! Two nodes in one process, joined by streams of bytes that are cut at odd places. A process of
+//! the one is listed at the other while the link is up, and no longer once it is lost.
 #![tactic(auto)]
 
 mod connection;
@@ -28,7 +28,8 @@ struct End {
 
 fn main(rt: HostRuntime) -> Result<()> {
     let alloc = rt.alloc();
-    // Challenges are constants here. A node in use draws each from a source that nobody can foresee.
+    // Challenges are constants here. A node in use draws each from a source that nobody can
+    // foresee.
     let dial = Event::Dial(NodeName::parse(alloc, b"b@h")?, 1234);
     let mut dialler = End::open(alloc, b"a@h", dial)?;
     let mut acceptor = End::open(alloc, b"b@h", Event::Opened(5678))?;

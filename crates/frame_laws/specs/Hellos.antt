@@ -9,7 +9,12 @@ use Rattle.policy_audit.specs.Links.{is_opened_by}
 
 -- the own flags, the creation, the own name, and the version of link messages that the node knows
 abbrev pub own_hello : History → Name
-own_hello h = record { flags = own_flags h.opening.hidden; creation = creation h; name = h.opening.name; version = h.opening.links }
+own_hello h = record {
+  flags = own_flags h.opening.hidden;
+  creation = creation h;
+  name = h.opening.name;
+  version = h.opening.links;
+}
 
 -- the same of a Challenge
 abbrev pub hello_in : Challenge → Name

@@ -1,4 +1,5 @@
--- What came on a link, where its other end is a node that says its own rows; and what is heard then.
+-- What came on a link, where its other end is a node that says its own rows; and what is heard
+-- then.
 use Rattle.std.specs.Prelude.{◌≡◌, ℕ, ◌+◌, Bool, List, [], ◌∷◌, Some, None, take, slice_get, IsTrue}
 use Rattle.std.specs.Option.{option_map}
 use Rattle.dist_types.specs.declared.pid.Pid.{Pid}
@@ -45,10 +46,11 @@ pub record IsGiven (l : ℕ) (name : List ℕ) (creation : ℕ) (es : List Entry
 -- it had done so after each entry after which the link was whole
 abbrev pub HasGiven : ℕ → List ℕ → ℕ → List Entry → Type 0
 HasGiven l name creation [] = Unit {0}
-HasGiven l name creation (e ∷ es) = (IsTrue (is_whole l (e ∷ es)) → IsGiven l name creation (e ∷ es)) × HasGiven l name creation es
+HasGiven l name creation (e ∷ es) = (IsTrue (is_whole l (e ∷ es))
+    → IsGiven l name creation (e ∷ es)) × HasGiven l name creation es
 
--- What is heard is what was said: the view of all that came on link l is what the link has stated, and so it was behind the last told
--- rows of the present hearing.
+-- What is heard is what was said: the view of all that came on link l is what the link has stated,
+-- and so it was behind the last told rows of the present hearing.
 pub record HeardIsSaid (version : ℕ) (h : History) (l : ℕ) (s : List ℕ) : Type 0 where
   pub place : ℕ
   pub earlier : List ℕ

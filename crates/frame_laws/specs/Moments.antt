@@ -18,11 +18,13 @@ moment k h = past h.opening (moment_in k h.entries)
 -- the entry by which the side of link l became whole: the link was proved
 abbrev pub proved_at : ℕ → List Entry → Option ℕ
 proved_at l [] = None
-proved_at l (e ∷ es) = cond (is_whole l (e ∷ es) && not (is_whole l es)) (Some e.number) (proved_at l es)
+proved_at l (e ∷ es) = cond (is_whole l (e ∷ es) && not (is_whole l es)) (Some e.number)
+    (proved_at l es)
 
 -- a restart was accepted behind entry k
 abbrev pub is_restarted_after : ℕ → List Entry → Bool
-is_restarted_after k es = list_any (λ e. nat_lt k e.number && (is_accepted e.verdict && is_restart e.event)) es
+is_restarted_after k es = list_any (λ e. nat_lt k e.number
+    && (is_accepted e.verdict && is_restart e.event)) es
 
 -- link l was proved by one of the entries, with no restart since
 pub record IsProvedLink (h : History) (l : ℕ) : Type 0 where

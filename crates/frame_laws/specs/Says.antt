@@ -27,4 +27,5 @@ scope_in (frames.Down s) = s
 
 -- every row of the part is of a process with this name and this creation
 abbrev pub is_of : List ℕ → ℕ → Message2 → Bool
-is_of name creation m = list_all (λ r. same r.pid.node name && r.pid.creation == creation) (rows_in m)
+is_of name creation m = list_all (λ r. same r.pid.node name
+    && r.pid.creation == creation) (rows_in m)

@@ -1,5 +1,5 @@
--- Which frames said rows of a scope in the present hearing. A hearing is a longest run of entries after each of which the peer of
--- the link is heard.
+-- Which frames said rows of a scope in the present hearing. A hearing is a longest run of entries
+-- after each of which the peer of the link is heard.
 use Rattle.std.specs.Prelude.{ℕ, ◌<◌, Bool, false, cond, ◌&&◌, ◌==◌, List, [], ◌∷◌, ◌++◌, length}
 use Rattle.std.specs.List.{AllByRecursion}
 use Rattle.std.specs.Option.{option_map_or}

@@ -19,8 +19,8 @@ use Rattle.frame_laws.specs.Moments.{moment}
 use Rattle.frame_laws.specs.Spoken.{limit, messages_said, begun_of}
 use Rattle.frame_laws.specs.ToldRows.{has_rows}
 
--- A view of one row of s is how often it is there, or None where nothing is known. A Sync says it, a Join adds, a Leave takes away,
--- a Down ends it.
+-- A view of one row of s is how often it is there, or None where nothing is known. A Sync says it,
+-- a Join adds, a Leave takes away, a Down ends it.
 abbrev pub seen : List ℕ → List ℕ → Pid → Message → Option ℕ → Option ℕ
 seen s g p (said.Sync t rows) v = cond (same t s) (Some (rows_of g p rows)) v
 seen s g p (said.Join t rows) v = cond (same t s) (option_map (λ n. n + rows_of g p rows) v) v

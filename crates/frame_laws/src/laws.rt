@@ -1,4 +1,5 @@
-//! Laws of what a node owes to a link over its whole life. Each function does nothing; its contract is the law.
+//! Laws of what a node owes to a link over its whole life. Each function does nothing; its contract
+//! is the law.
 ghost use Rattle.std.specs.Prelude.{◌≡◌, ℕ, ◌≤◌, ◌<◌, false, List, [], ◌++◌, ◌∷◌, Some, length};
 ghost use Rattle.std.specs.Prelude.{slice_get, take, IsTrue};
 ghost use Rattle.std.specs.List.{AllByRecursion};
@@ -36,7 +37,8 @@ ghost use Rattle.frame_laws.specs.Views.{seen_by, PassesThrough};
 ghost use Rattle.frame_laws.specs.Known.{known, message_at};
 ghost use Rattle.frame_laws.specs.Moments.{moment, IsProvedLink};
 
-/// What was handed out is the beginning of what was owed, and while the link is open, what waits is the rest.
+/// What was handed out is the beginning of what was owed, and while the link is open, what waits is
+/// the rest.
 pub fn handed_in_order()
     ensures order { (h : History) → IsPlayed h → (l : ℕ)
         → (rest : List OutFrame) × (sent l h.entries ++ rest ≡ frames_of (out h l)) }
@@ -86,16 +88,21 @@ pub fn owed_rows()
         → (s : List ℕ) → PassesThrough version h l s }
 {}
 
-/// What a node says of itself: its own flags, its name, its version of link messages, and its creation at the opening of the link.
-/// On a link that it dialled the first frame is a Name that says so, and on a link that a peer opened each Challenge says so.
+/// What a node says of itself: its own flags, its name, its version of link messages, and its
+/// creation at the opening of the link. On a link that it dialled the first frame is a Name that
+/// says so, and on a link that a peer opened each Challenge says so.
 pub fn hellos()
-    ensures dialled { (h : History) → IsNode h → (l : ℕ) (n : List ℕ) (c : ℕ) → opening_of l h.entries ≡ Some (ByDial n c)
-        → (x : Owing) × (slice_get (out h l) 0 ≡ Some x) × (name_frame x.frame.body ≡ Some (own_hello (moment l h))) }
+    ensures dialled { (h : History) → IsNode h → (l : ℕ) (n : List ℕ) (c : ℕ)
+        → opening_of l h.entries ≡ Some (ByDial n c)
+        → (x : Owing) × (slice_get (out h l) 0 ≡ Some x)
+        × (name_frame x.frame.body ≡ Some (own_hello (moment l h))) }
     ensures opened { (h : History) → IsNode h → (l c : ℕ) → opening_of l h.entries ≡ Some (ByPeer c)
-        → (n : ℕ) (x : Owing) (f : Challenge) → slice_get (out h l) n ≡ Some x → challenge_frame x.frame.body ≡ Some f → hello_in f ≡ own_hello (moment l h) }
+        → (n : ℕ) (x : Owing) (f : Challenge) → slice_get (out h l) n ≡ Some x
+        → challenge_frame x.frame.body ≡ Some f → hello_in f ≡ own_hello (moment l h) }
 {}
 
-/// While a peer is heard, what is known of its rows over a link is what the messages accepted there make of it.
+/// While a peer is heard, what is known of its rows over a link is what the messages accepted there
+/// make of it.
 pub fn stated_after()
     ensures { (h : History) (e : Entry) → IsPlayed (just h e) → (l : ℕ) (s g : List ℕ) (p : Pid)
         → IsTrue (heard h.opening l s (e ∷ h.entries))
@@ -184,7 +191,8 @@ pub fn kept_is_said()
         → KeepsOrNot (begun h.opening l h.entries) (begun_of version (delivered l h.entries)) }
 {}
 
-/// What the peer of a whole link has given came there: in the first frame, if it opened the link, and in a Challenge, if it was dialled.
+/// What the peer of a whole link has given came there: in the first frame, if it opened the link,
+/// and in a Challenge, if it was dialled.
 pub fn given_came()
     ensures opened { (h : History) → IsPlayed h → (l c : ℕ) (before : List Entry)
         → opened l h.entries ≡ Some (record { start = ByPeer c; before = before })
@@ -193,7 +201,8 @@ pub fn given_came()
         → (l : ℕ) (n : List ℕ) (c : ℕ) (before : List Entry)
         → opened l h.entries ≡ Some (record { start = ByDial n c; before = before })
         → IsTrue (is_whole l h.entries) → IsAskedOnce l n h.entries }
-    ensures once { (l : ℕ) (es : List Entry) (x : Opened) → opened l es ≡ Some x → opening_of l es ≡ Some x.start }
+    ensures once { (l : ℕ) (es : List Entry) (x : Opened) → opened l es ≡ Some x
+        → opening_of l es ≡ Some x.start }
 {}
 
 /// Two nodes and one wire between them, of which this alone is known: both ends spoke one version
@@ -206,19 +215,22 @@ pub fn one_view()
         → (a b version : ℕ) → Speaks sender.opening a version sender.entries
         → Speaks receiver.opening b version receiver.entries
         → (s : List ℕ) (later : List (List ℕ))
-        → delivered b receiver.entries ++ later ≡ bodies_of (out sender a) → HasGiven b sender.opening.name (creation (moment a sender)) receiver.entries
+        → delivered b receiver.entries ++ later ≡ bodies_of (out sender a)
+        → HasGiven b sender.opening.name (creation (moment a sender)) receiver.entries
         → IsTrue (heard receiver.opening b s receiver.entries) → HearsMoment sender a receiver b s }
     ensures now { (sender receiver : History) → IsNode sender → IsPlayed receiver
         → (a b version : ℕ) → Speaks sender.opening a version sender.entries
         → Speaks receiver.opening b version receiver.entries → (s : List ℕ)
-        → delivered b receiver.entries ≡ bodies_of (out sender a) → HasGiven b sender.opening.name (creation (moment a sender)) receiver.entries
+        → delivered b receiver.entries ≡ bodies_of (out sender a)
+        → HasGiven b sender.opening.name (creation (moment a sender)) receiver.entries
         → IsTrue (heard receiver.opening b s receiver.entries)
         → IsTrue (told sender.opening a s sender.entries) → (g : List ℕ) (p : Pid)
         → stated receiver.opening b s g p receiver.entries ≡ own sender s g p }
     ensures listed_now { (sender receiver : History) → IsNode sender → IsPlayed receiver
         → (a b version : ℕ) → Speaks sender.opening a version sender.entries
         → Speaks receiver.opening b version receiver.entries → (s : List ℕ)
-        → delivered b receiver.entries ≡ bodies_of (out sender a) → HasGiven b sender.opening.name (creation (moment a sender)) receiver.entries
+        → delivered b receiver.entries ≡ bodies_of (out sender a)
+        → HasGiven b sender.opening.name (creation (moment a sender)) receiver.entries
         → IsTrue (heard receiver.opening b s receiver.entries)
         → IsTrue (told sender.opening a s sender.entries) → (g : List ℕ) (p : Pid)
         → IsTrue (same p.node sender.opening.name)

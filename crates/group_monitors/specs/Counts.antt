@@ -14,7 +14,8 @@ less n m = cond (nat_lt n m) None (Some (n - m))
 
 -- how often p is in g after the update, where it was there n times
 abbrev pub count_after : List ℕ → Pid → Update → ℕ → Option ℕ
-count_after g p u n = cond (same u.group g) (cond u.leave (less n (mentions p u.pids)) (Some (n + mentions p u.pids))) (Some n)
+count_after g p u n = cond (same u.group g)
+    (cond u.leave (less n (mentions p u.pids)) (Some (n + mentions p u.pids))) (Some n)
 
 -- the same after each of the updates in turn. None where one takes away what isn't there.
 abbrev pub counted : List ℕ → Pid → List Update → ℕ → Option ℕ

@@ -22,7 +22,11 @@ updates_in v = []
 
 -- what the entry answers the seat, where that asked for the updates of its monitor k
 abbrev pub fetched_by : ℕ → ℕ → Entry → List Update
-fetched_by seat k e = elim e.event [ event.Updates n ↦ cond (n == k && e.seat == seat) (updates_in e.verdict) [] | _ ↦ [] ]
+fetched_by seat k e =
+    elim e.event [
+      | event.Updates n ↦ cond (n == k && e.seat == seat) (updates_in e.verdict) []
+      | _ ↦ []
+    ]
 
 -- all updates of its monitor k that the seat has fetched since entry k, the oldest first
 abbrev pub fetched : ℕ → ℕ → List Entry → List Update

@@ -15,7 +15,8 @@ use Rattle.group_monitors.specs.Fetches.{IsLastFetch}
 -- fetch; their numbers are of entries so far, and no two are the same
 pub record FollowsPolicy (h : History) (ms : List (ℕ × Monitor)) : Type 0 where
   pub found : (seat k : ℕ) → option_map target (monitor_of ms seat k) ≡ monitor h seat k
-  pub places : (seat k : ℕ) (m : Monitor) → monitor_of ms seat k ≡ Some m → IsLastFetch seat k m.place h.entries
+  pub places : (seat k : ℕ) (m : Monitor) → monitor_of ms seat k ≡ Some m
+      → IsLastFetch seat k m.place h.entries
   pub numbered : IsNumbered ms
   pub past : AllByRecursion (λ m. m.0 ≤ length h.entries) ms
 

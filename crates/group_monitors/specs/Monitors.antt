@@ -37,7 +37,8 @@ HasSeen found entries = IfSome found (λ m. m.place ≤ length entries)
 
 -- the updates of the entries behind the monitor's place, the oldest first
 abbrev pub updates_behind : List Entry → Monitor → List Update
-updates_behind entries m = flat_map (λ e. updates_of (target m) e.change) (later_than m.place entries)
+updates_behind entries m = flat_map (λ e. updates_of (target m) e.change)
+    (later_than m.place entries)
 
 -- the monitors but the seat's of that number
 abbrev pub without : ℕ → ℕ → List (ℕ × Monitor) → List (ℕ × Monitor)
@@ -53,7 +54,8 @@ at_place place m = record m { place = place }
 
 -- the monitors, with the seat's of that number at this place
 abbrev pub with_place : ℕ → ℕ → ℕ → List (ℕ × Monitor) → List (ℕ × Monitor)
-with_place seat number place ms = map (λ m. cond (is_of seat number m) (m.0, at_place place m.1) m) ms
+with_place seat number place ms = map (λ m. cond (is_of seat number m) (m.0, at_place place m.1) m)
+    ms
 
 -- why no updates are told. Want of memory comes last.
 abbrev pub IsUpdatesFault : UpdatesFault → Option Monitor → Type 0

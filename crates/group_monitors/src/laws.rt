@@ -27,14 +27,22 @@ ghost use Rattle.group_monitors.specs.Counts.{counted, times_in, Watches};
 
 use policy_audit::{left_alone, lists_ascend, slow_links_end};
 
-/// What the entries behind its place tell a monitor is the policy's answer, where the place is that of the last fetch.
-/// It is so again behind each further entry, once the place has moved to each further fetch.
+/// What the entries behind its place tell a monitor is the policy's answer, where the place is that
+/// of the last fetch. It is so again behind each further entry, once the place has moved to each
+/// further fetch.
 pub fn since_the_place()
-    ensures since { (seat k : ℕ) (m : Watch) (entries : List Entry) → IsLastFetch seat k m.place entries → updates_since seat k (target m) entries ≡ updates_behind entries m }
-    ensures answer { (h : History) (seat k : ℕ) (m : Watch) → monitor h seat k ≡ Some (target m) → IsLastFetch seat k m.place h.entries → updates h seat k ≡ updates_behind h.entries m }
-    ensures seen { (seat k place : ℕ) (entries : List Entry) → IsLastFetch seat k place entries → place ≤ length entries }
-    ensures stays { (seat k place : ℕ) (e : Entry) (entries : List Entry) → IsLastFetch seat k place entries → is_fetch seat k e ≡ false → IsLastFetch seat k place (e ∷ entries) }
-    ensures moves { (seat k : ℕ) (e : Entry) (entries : List Entry) → IsTrue (is_fetch seat k e) → IsLastFetch seat k (length entries + 1) (e ∷ entries) }
+    ensures since { (seat k : ℕ) (m : Watch) (entries : List Entry)
+        → IsLastFetch seat k m.place entries → updates_since seat k (target m) entries
+        ≡ updates_behind entries m }
+    ensures answer { (h : History) (seat k : ℕ) (m : Watch) → monitor h seat k ≡ Some (target m)
+        → IsLastFetch seat k m.place h.entries → updates h seat k ≡ updates_behind h.entries m }
+    ensures seen { (seat k place : ℕ) (entries : List Entry) → IsLastFetch seat k place entries
+        → place ≤ length entries }
+    ensures stays { (seat k place : ℕ) (e : Entry) (entries : List Entry)
+        → IsLastFetch seat k place entries → is_fetch seat k e ≡ false
+        → IsLastFetch seat k place (e ∷ entries) }
+    ensures moves { (seat k : ℕ) (e : Entry) (entries : List Entry) → IsTrue (is_fetch seat k e)
+        → IsLastFetch seat k (length entries + 1) (e ∷ entries) }
 {}
 
 /// Of an audit whose first entries aren't kept, what a monitor has still to be told is among the
@@ -74,7 +82,8 @@ pub fn tells_the_listing()
         → m.group ≡ None → (g : List ℕ) (p : Pid)
         → counted g p (updates_behind (es ++ ks) m) (times_in g p (contents (history o ks) m.scope))
         ≡ Some (times_in g p (contents (history o (es ++ ks)) m.scope)) }
-    ensures parts { (g : List ℕ) (p : Pid) (us vs : List Update) (n : ℕ) → counted g p (us ++ vs) n ≡ option_and_then (counted g p vs) (counted g p us n) }
+    ensures parts { (g : List ℕ) (p : Pid) (us vs : List Update) (n : ℕ) → counted g p (us ++ vs) n
+        ≡ option_and_then (counted g p vs) (counted g p us n) }
 {
     lists_ascend();
 }
@@ -108,21 +117,27 @@ pub fn fetches_tell_the_listing()
     slow_links_end();
 }
 
-/// Which seat has which monitor after each call: the added one beside those before, all but the removed one and those of the
-/// dropped scope, and the moved one at its new place.
+/// Which seat has which monitor after each call: the added one beside those before, all but the
+/// removed one and those of the dropped scope, and the moved one at its new place.
 pub fn found_after()
     ensures added { (ms : List (ℕ × Watch)) (n : ℕ) (m : Watch) → IsFree n ms
-        → (seat k : ℕ) → monitor_of (ms ++ (n, m) ∷ []) seat k ≡ cond (k == n && m.seat == seat) (Some m) (monitor_of ms seat k) }
+        → (seat k : ℕ) → monitor_of (ms ++ (n, m) ∷ []) seat k
+        ≡ cond (k == n && m.seat == seat) (Some m) (monitor_of ms seat k) }
     ensures removed { (ms : List (ℕ × Watch)) (own n : ℕ)
-        → (seat k : ℕ) → monitor_of (without own n ms) seat k ≡ cond (k == n && own == seat) None (monitor_of ms seat k) }
+        → (seat k : ℕ) → monitor_of (without own n ms) seat k
+        ≡ cond (k == n && own == seat) None (monitor_of ms seat k) }
     ensures moved { (ms : List (ℕ × Watch)) (own n place : ℕ)
-        → (seat k : ℕ) → monitor_of (with_place own n place ms) seat k ≡ cond (k == n && own == seat) (option_map (at_place place) (monitor_of ms seat k)) (monitor_of ms seat k) }
+        → (seat k : ℕ) → monitor_of (with_place own n place ms) seat k
+        ≡ cond (k == n && own == seat) (option_map (at_place place) (monitor_of ms seat k))
+        (monitor_of ms seat k) }
     ensures dropped { (ms : List (ℕ × Watch)) (s : List ℕ) → IsNumbered ms
-        → (seat k : ℕ) → monitor_of (without_scope s ms) seat k ≡ option_and_then (λ m. cond (same m.scope s) None (Some m)) (monitor_of ms seat k) }
+        → (seat k : ℕ) → monitor_of (without_scope s ms) seat k
+        ≡ option_and_then (λ m. cond (same m.scope s) None (Some m)) (monitor_of ms seat k) }
 {}
 
-/// Monitors follow the policy at the start, and again behind each further entry, once what its event asks for is done to them.
-/// While they do, the next number is free, and what they say of a seat's monitor is the policy's verdict and answer.
+/// Monitors follow the policy at the start, and again behind each further entry, once what its
+/// event asks for is done to them. While they do, the next number is free, and what they say of a
+/// seat's monitor is the policy's verdict and answer.
 pub fn follows_the_policy()
     ensures start { (o : Opening) → FollowsPolicy (past o []) [] }
     ensures other { (h : History) (e : Entry) (ms : List (ℕ × Watch))
@@ -159,7 +174,8 @@ pub fn follows_the_policy()
         → FollowsPolicy (just h e) (without_scope s ms) }
     ensures cleared { (h : History) (e : Entry) → is_accepted e.verdict ≡ true
         → e.event ≡ event.Restart → FollowsPolicy (just h e) [] }
-    ensures free { (h : History) (ms : List (ℕ × Watch)) → FollowsPolicy h ms → IsFree (length h.entries + 1) ms }
+    ensures free { (h : History) (ms : List (ℕ × Watch)) → FollowsPolicy h ms
+        → IsFree (length h.entries + 1) ms }
     ensures answer { (h : History) (ms : List (ℕ × Watch)) → FollowsPolicy (audit_of h) ms
         → (seat k : ℕ) (m : Watch) → monitor_of ms seat k ≡ Some m
         → updates (audit_of h) seat k ≡ updates_behind (audited h.entries) m }
@@ -175,8 +191,10 @@ pub fn follows_the_policy()
         → HasSeen (monitor_of ms seat k) later }
     ensures checked { (h : History) (ms : List (ℕ × Watch)) → FollowsPolicy (audit_of h) ms
         → (seat k : ℕ) → IsSome (monitor_of ms seat k)
-        → (first_broken (checks h seat (event.Updates k)) ≡ None) × (first_broken (checks h seat (event.Demonitor k)) ≡ None) }
+        → (first_broken (checks h seat (event.Updates k)) ≡ None)
+        × (first_broken (checks h seat (event.Demonitor k)) ≡ None) }
     ensures refused { (h : History) (ms : List (ℕ × Watch)) → FollowsPolicy (audit_of h) ms
         → (seat k : ℕ) → monitor_of ms seat k ≡ None
-        → (first_broken (checks h seat (event.Updates k)) ≡ Some rule.NoMonitor) × (first_broken (checks h seat (event.Demonitor k)) ≡ Some rule.NoMonitor) }
+        → (first_broken (checks h seat (event.Updates k)) ≡ Some rule.NoMonitor)
+        × (first_broken (checks h seat (event.Demonitor k)) ≡ Some rule.NoMonitor) }
 {}

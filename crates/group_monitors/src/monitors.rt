@@ -56,7 +56,9 @@ impl Monitors {
         group: Group,
     ) -> Result<(), OutOfMemory>
         requires { IsFree number self.old }
-        ensures ok { OnOk result (self.new ≡ self.old ++ (number, record { seat = seat; scope = scope; group = Some group; place = number }) ∷ []) }
+        ensures ok { OnOk result (self.new ≡ self.old
+            ++ (number, record { seat = seat; scope = scope; group = Some group; place = number })
+            ∷ []) }
         ensures same { OnErr result (self.new ≡ self.old) }
     {
         self.add(seat, number, scope, Some(group))
@@ -65,7 +67,8 @@ impl Monitors {
     /// Adds a monitor of all groups of a scope, that has seen the entries up to its number.
     pub fn add_scope(&mut self, seat: u32, number: u32, scope: Scope) -> Result<(), OutOfMemory>
         requires { IsFree number self.old }
-        ensures ok { OnOk result (self.new ≡ self.old ++ (number, record { seat = seat; scope = scope; group = None; place = number }) ∷ []) }
+        ensures ok { OnOk result (self.new ≡ self.old
+            ++ (number, record { seat = seat; scope = scope; group = None; place = number }) ∷ []) }
         ensures same { OnErr result (self.new ≡ self.old) }
     {
         self.add(seat, number, scope, None)
@@ -73,7 +76,8 @@ impl Monitors {
 
     /// Takes a monitor of the seat away.
     pub fn remove(&mut self, seat: u32, number: u32) -> Result<(), NoMonitor>
-        ensures ok { OnOk result (IsSome (monitor_of self.old seat number) × (self.new ≡ without seat number self.old)) }
+        ensures ok { OnOk result (IsSome (monitor_of self.old seat number)
+            × (self.new ≡ without seat number self.old)) }
         ensures refused { OnErr result (monitor_of self.old seat number ≡ None) }
         ensures same { OnErr result (self.new ≡ self.old) }
     {
@@ -82,13 +86,17 @@ impl Monitors {
         Ok(())
     }
 
-    /// What the entries behind its place tell a monitor of the seat. It has the same to tell until `advance`.
+    /// What the entries behind its place tell a monitor of the seat. It has the same to tell until
+    /// `advance`.
     pub fn updates(&self, seat: u32, number: u32, audit: &Audit) -> Result<Updates, UpdatesFault>
         requires seen { HasSeen (monitor_of self.now seat number) audit.now.entries }
         requires kept { IfSome (monitor_of self.now seat number)
             (λ m. audit.now.forgotten ≤ m.place) }
-        ensures ok { IfOk result (λ updates. option_map (updates_behind audit.now.entries) (monitor_of self.now seat number) ≡ Some updates) }
-        ensures refused { IfErr result (λ fault. IsUpdatesFault fault (monitor_of self.now seat number)) }
+        ensures ok { IfOk result (λ updates.
+            option_map (updates_behind audit.now.entries) (monitor_of self.now seat number)
+            ≡ Some updates) }
+        ensures refused { IfErr result (λ fault.
+            IsUpdatesFault fault (monitor_of self.now seat number)) }
     {
         let monitor = self.find(seat, number)?;
         let later = audit.behind(&monitor.place);
@@ -111,7 +119,8 @@ impl Monitors {
     /// Moves the place of a monitor of the seat to the end of the audit.
     pub fn advance(&mut self, seat: u32, number: u32, audit: &Audit) -> Result<(), NoMonitor>
         requires { HasSeen (monitor_of self.old seat number) audit.now.entries }
-        ensures ok { OnOk result (IsSome (monitor_of self.old seat number) × (self.new ≡ with_place seat number (length audit.now.entries) self.old)) }
+        ensures ok { OnOk result (IsSome (monitor_of self.old seat number)
+            × (self.new ≡ with_place seat number (length audit.now.entries) self.old)) }
         ensures refused { OnErr result (monitor_of self.old seat number ≡ None) }
         ensures same { OnErr result (self.new ≡ self.old) }
     {
@@ -120,7 +129,8 @@ impl Monitors {
 
     /// Moves the place of a monitor of the seat behind so many entries.
     pub fn advance_to(&mut self, seat: u32, number: u32, place: usize) -> Result<(), NoMonitor>
-        ensures ok { OnOk result (IsSome (monitor_of self.old seat number) × (self.new ≡ with_place seat number place self.old)) }
+        ensures ok { OnOk result (IsSome (monitor_of self.old seat number)
+            × (self.new ≡ with_place seat number place self.old)) }
         ensures refused { OnErr result (monitor_of self.old seat number ≡ None) }
         ensures same { OnErr result (self.new ≡ self.old) }
     {
@@ -141,7 +151,8 @@ impl Monitors {
     {
         self.monitors.retain(
             |_number: &u32, monitor: &mut Monitor| -> bool
-                ensures { (result ≡ not (same monitor.old.scope scope.entry.now)) × (monitor.new ≡ monitor.old) }
+                ensures { (result ≡ not (same monitor.old.scope scope.entry.now))
+                    × (monitor.new ≡ monitor.old) }
             { monitor.scope != *scope },
         );
     }
@@ -162,7 +173,9 @@ impl Monitors {
         group: Option<Group>,
     ) -> Result<(), OutOfMemory>
         requires { IsFree number self.old }
-        ensures ok { OnOk result (self.new ≡ self.old ++ (number, record { seat = seat; scope = scope; group = group; place = number }) ∷ []) }
+        ensures ok { OnOk result (self.new ≡ self.old
+            ++ (number, record { seat = seat; scope = scope; group = group; place = number })
+            ∷ []) }
         ensures same { OnErr result (self.new ≡ self.old) }
     {
         let place = Place::behind(number as usize);

@@ -18,7 +18,8 @@ pub fn told_by(
     monitor: &Monitor,
     entries: Later<'_>,
 ) -> Result<Vec<Update>, OutOfMemory>
-    ensures { IfOk result (λ updates. updates.items ≡ flat_map (λ e. updates_of (target monitor.now) e.change) entries.entry) }
+    ensures { IfOk result (λ updates. updates.items
+        ≡ flat_map (λ e. updates_of (target monitor.now) e.change) entries.entry) }
 {
     let mut updates = Vec::new(alloc);
     for entry in entries.changing() {
@@ -35,7 +36,8 @@ fn tell_changes(
     monitor: &Monitor,
     changes: &[Change],
 ) -> Result<(), OutOfMemory>
-    ensures { OnOk result (updates.new.items ≡ updates.old.items ++ updates_of (target monitor.now) changes.now) }
+    ensures { OnOk result (updates.new.items ≡ updates.old.items
+        ++ updates_of (target monitor.now) changes.now) }
 {
     for change in changes {
         if change.scope == monitor.scope {
@@ -52,7 +54,8 @@ fn tell_groups(
     watched: &Option<Group>,
     changes: &[GroupChange],
 ) -> Result<(), OutOfMemory>
-    ensures { OnOk result (updates.new.items ≡ updates.old.items ++ flat_map (λ c. cond (is_watched watched.now c) (group_updates c) []) changes.now) }
+    ensures { OnOk result (updates.new.items ≡ updates.old.items
+        ++ flat_map (λ c. cond (is_watched watched.now c) (group_updates c) []) changes.now) }
 {
     for change in changes {
         if is_told(watched, change) {
@@ -92,7 +95,9 @@ fn tell_unless_none(
     leave: bool,
     pids: &Pids,
 ) -> Result<(), OutOfMemory>
-    ensures { OnOk result (updates.new.items ≡ updates.old.items ++ cond (is_empty pids.now) [] (record { group = group.now; leave = leave; pids = pids.now } ∷ [])) }
+    ensures { OnOk result (updates.new.items ≡ updates.old.items
+        ++ cond (is_empty pids.now) [] (record { group = group.now; leave = leave; pids = pids.now }
+        ∷ [])) }
 {
     if !pids.as_slice().is_empty() {
         // Most fetches have one update, whose block is then as large as it stays.

@@ -10,7 +10,8 @@ pub record Name : Type 0 where
   pub name : List ℕ
   pub version : ℕ
 
--- the acceptor's flags, challenge, creation and name, and the version of link messages that it knows
+-- the acceptor's flags, challenge, creation and name, and the version of link messages that it
+-- knows
 pub record Challenge : Type 0 where
   pub flags : ℕ
   pub challenge : ℕ
@@ -20,8 +21,19 @@ pub record Challenge : Type 0 where
 
 -- what a name frame says
 abbrev pub name_said : NameFrame → Name
-name_said f = record { flags = f.flags.0; creation = f.creation; name = f.name.now; version = f.version }
+name_said f = record {
+  flags = f.flags.0;
+  creation = f.creation;
+  name = f.name.now;
+  version = f.version;
+}
 
 -- what a challenge frame says
 abbrev pub challenge_said : ChallengeFrame → Challenge
-challenge_said f = record { flags = f.flags.0; challenge = f.challenge; creation = f.creation; name = f.name.now; version = f.version }
+challenge_said f = record {
+  flags = f.flags.0;
+  challenge = f.challenge;
+  creation = f.creation;
+  name = f.name.now;
+  version = f.version;
+}

@@ -36,5 +36,6 @@ pub record Takes (old : Held) (piece : List ℕ) (used : ℕ) (new : Held) : Typ
 
 -- a whole body is given, and nothing is held then
 abbrev pub Gives : Held → Option (List ℕ) → Held → Type 0
-Gives old (Some body) new = (old ≡ Body (record { bytes = body; missing = 0 })) × (new ≡ Length None)
+Gives old (Some body) new = (old ≡ Body (record { bytes = body; missing = 0 }))
+    × (new ≡ Length None)
 Gives old None new = IsUnfinished old × (new ≡ old)

@@ -1,4 +1,5 @@
--- Readers of frames that compute. A body spells at most one frame of a kind; its numbers stand at fixed places.
+-- Readers of frames that compute. A body spells at most one frame of a kind; its numbers stand at
+-- fixed places.
 use Rattle.std.specs.Prelude.{ℕ, ◌==◌, ◌&&◌, List, [], ◌∷◌, Option, Some, None, if◌then◌else◌, length, take, drop, slice_range, find, nat_eq, bytes_eq}
 use Rattle.std.specs.Int.{w16, w32, w64, from_be_bytes}
 use Rattle.std.specs.List.{starts_with}
@@ -28,11 +29,13 @@ name_in body = record {
 
 -- the name frame that the body spells: the body begins with its bytes up to the name
 unfoldable pub name_frame : List ℕ → Option Name
-name_frame body = if starts_with nat_eq body (name_head (name_in body)) then Some (name_in body) else None
+name_frame body = if starts_with nat_eq body (name_head (name_in body)) then Some (name_in body)
+    else None
 
 -- the words of a status frame
 abbrev pub words : List StatusWord
-words = word.Ok ∷ word.OkSimultaneous ∷ word.Nok ∷ word.NotAllowed ∷ word.Alive ∷ word.True ∷ word.False ∷ []
+words = word.Ok ∷ word.OkSimultaneous ∷ word.Nok ∷ word.NotAllowed ∷ word.Alive ∷ word.True
+    ∷ word.False ∷ []
 
 -- the word of the status frame that the body spells: the body is its bytes
 unfoldable pub status_of : List ℕ → Option StatusWord
@@ -50,15 +53,20 @@ challenge_in body = record {
 
 -- the challenge frame that the body spells: the body begins with its bytes up to the name
 unfoldable pub challenge_frame : List ℕ → Option Challenge
-challenge_frame body = if starts_with nat_eq body (challenge_head (challenge_in body)) then Some (challenge_in body) else None
+challenge_frame body = if starts_with nat_eq body (challenge_head (challenge_in body)) then Some
+    (challenge_in body) else None
 
 -- the only reply that the body can spell
 abbrev pub reply_in : List ℕ → ReplyFrame
-reply_in body = record { challenge = from_be_bytes w32 (slice_range body 1 5); digest = drop 5 body }
+reply_in body = record {
+  challenge = from_be_bytes w32 (slice_range body 1 5);
+  digest = drop 5 body;
+}
 
 -- the reply that the body spells: the body is its bytes, and its digest has 16
 unfoldable pub reply_frame : List ℕ → Option ReplyFrame
-reply_frame body = if bytes_eq (reply_bytes (reply_in body)) body && (length (reply_in body).digest == 16) then Some (reply_in body) else None
+reply_frame body = if bytes_eq (reply_bytes (reply_in body)) body
+    && (length (reply_in body).digest == 16) then Some (reply_in body) else None
 
 -- the only acknowledgement that the body can spell
 abbrev pub ack_in : List ℕ → AckFrame
@@ -66,4 +74,5 @@ ack_in body = record { digest = drop 1 body }
 
 -- the acknowledgement that the body spells: the body is its bytes, and its digest has 16
 unfoldable pub ack_frame : List ℕ → Option AckFrame
-ack_frame body = if bytes_eq (ack_bytes (ack_in body)) body && (length (ack_in body).digest == 16) then Some (ack_in body) else None
+ack_frame body = if bytes_eq (ack_bytes (ack_in body)) body
+    && (length (ack_in body).digest == 16) then Some (ack_in body) else None

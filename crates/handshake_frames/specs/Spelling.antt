@@ -1,4 +1,5 @@
--- Which bodies spell which frames (Distribution Protocol, Distribution Handshake, version 6). Numbers are big-endian.
+-- Which bodies spell which frames (Distribution Protocol, Distribution Handshake, version 6).
+-- Numbers are big-endian.
 use Rattle.std.specs.Prelude.{◌≡◌, ⊤, ℕ, ◌^◌, ◌<◌, ◌≤◌, ◌==◌, if◌then◌else◌, List, [], ◌∷◌, ◌++◌, length, codes, bytes_eq}
 use Rattle.std.specs.Int.{Width, w16, w32, w64, to_be_bytes}
 use Rattle.handshake_frames.specs.declared.frame.StatusWord.{StatusWord}
@@ -25,7 +26,8 @@ version_bytes version = if version == 2 then 2 ∷ [] else []
 abbrev pub version_of : List ℕ → ℕ
 version_of extra = if bytes_eq extra (2 ∷ []) then 2 else 1
 
--- a name frame up to the name: `N`, the flags in 8 bytes, the creation in 4, and the name behind its length in 2
+-- a name frame up to the name: `N`, the flags in 8 bytes, the creation in 4, and the name behind
+-- its length in 2
 abbrev pub name_head : Name → List ℕ
 name_head f = 0x4E ∷ to_be_bytes w64 f.flags ++ to_be_bytes w32 f.creation ++ counted w16 f.name
 
@@ -43,9 +45,11 @@ status_bytes word.Alive = codes "salive"
 status_bytes word.True = codes "strue"
 status_bytes word.False = codes "sfalse"
 
--- a challenge frame up to the name: `N`, the flags in 8 bytes, the challenge in 4, the creation in 4, and the name behind its length in 2
+-- a challenge frame up to the name: `N`, the flags in 8 bytes, the challenge in 4, the creation in
+-- 4, and the name behind its length in 2
 abbrev pub challenge_head : Challenge → List ℕ
-challenge_head f = 0x4E ∷ to_be_bytes w64 f.flags ++ to_be_bytes w32 f.challenge ++ to_be_bytes w32 f.creation ++ counted w16 f.name
+challenge_head f = 0x4E ∷ to_be_bytes w64 f.flags ++ to_be_bytes w32 f.challenge
+    ++ to_be_bytes w32 f.creation ++ counted w16 f.name
 
 -- the same, and the version
 abbrev pub challenge_bytes : Challenge → List ℕ

@@ -6,7 +6,8 @@ use dist_types::{Body, OutOfMemory};
 use std::alloc::Global;
 use std::marker::Model;
 
-/// A body of which bytes may be missing. Room is asked for as bytes come, and never by the length, which a stranger names.
+/// A body of which bytes may be missing. Room is asked for as bytes come, and never by the length,
+/// which a stranger names.
 #[derive(Debug, Drop)]
 pub struct BodySoFar {
     body: Body,
@@ -23,8 +24,8 @@ impl Model for BodySoFar {
 }
 
 impl BodySoFar {
-    /// A body of that length, of which no byte has come. What the body needs beside its bytes is made here, so handing it
-    /// out takes no memory.
+    /// A body of that length, of which no byte has come. What the body needs beside its bytes is
+    /// made here, so handing it out takes no memory.
     pub fn new(alloc: Global, len: usize) -> Result<BodySoFar, OutOfMemory>
         ensures { IfOk result (λ so_far. so_far ≡ record { bytes = []; missing = len }) }
     {

@@ -7,8 +7,10 @@ use dist_types::{bytes_at, u16_at};
 
 /// The bytes behind their length of 2 bytes, and what stands behind them.
 pub fn counted_at(bytes: &[u8]) -> Option<(&[u8], &[u8])>
-    ensures found { IfSome result (λ read. (length read.0.now < 2 ^ 16) × (bytes.now ≡ counted w16 read.0.now ++ read.1.now)) }
-    ensures only { (front rest : List ℕ) → length front < 2 ^ 16 → bytes.now ≡ counted w16 front ++ rest →
+    ensures found { IfSome result (λ read. (length read.0.now < 2 ^ 16)
+        × (bytes.now ≡ counted w16 read.0.now ++ read.1.now)) }
+    ensures only { (front rest : List ℕ) → length front < 2 ^ 16
+        → bytes.now ≡ counted w16 front ++ rest →
         IsSomeAnd result (λ read. (read.0.now ≡ front) × (read.1.now ≡ rest)) }
 {
     let (len, rest) = u16_at(bytes)?;

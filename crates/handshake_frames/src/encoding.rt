@@ -10,15 +10,16 @@ use dist_types::OutOfMemory;
 
 /// The bytes of a name frame before its name: kind 1, flags 8, creation 4, length 2.
 const NAME_HEAD: usize = 15;
-/// The bytes of a challenge frame before its name: kind 1, flags 8, challenge 4, creation 4, length 2.
+/// The bytes of a challenge frame before its name: kind 1, flags 8, challenge 4, creation 4, length
+/// 2.
 const CHALLENGE_HEAD: usize = 19;
 /// The bytes of a reply: kind 1, challenge 4, digest 16.
 const REPLY_LEN: usize = 21;
 /// The bytes of an acknowledgement: kind 1, digest 16.
 const ACK_LEN: usize = 17;
 
-/// Appends the frame's body, with 02 behind a name of version 2 and nothing behind one of version 1. The length of the name must
-/// fit 16 bits, and the version must be 1 or 2.
+/// Appends the frame's body, with 02 behind a name of version 2 and nothing behind one of version
+/// 1. The length of the name must fit 16 bits, and the version must be 1 or 2.
 pub fn encode(frame: &HsFrame<'_>, out: &mut Vec<u8>) -> Result<(), OutOfMemory>
     requires { HasSpelling frame.now }
     ensures ok { OnOk result (out.new.items ≡ out.old.items ++ spelling frame.now) }
@@ -61,7 +62,8 @@ fn put_status(word: StatusWord, out: &mut Vec<u8>) -> Result<(), OutOfMemory>
 fn put_challenge(frame: &ChallengeFrame<'_>, out: &mut Vec<u8>) -> Result<(), OutOfMemory>
     requires length { length frame.now.name.now < 2 ^ 16 }
     requires version { IsVersion frame.now.version }
-    ensures ok { OnOk result (out.new.items ≡ out.old.items ++ challenge_bytes (challenge_said frame.now)) }
+    ensures ok { OnOk result (out.new.items ≡ out.old.items
+        ++ challenge_bytes (challenge_said frame.now)) }
     ensures same { OnErr result (out.new.items ≡ out.old.items) }
 {
     let version = version_bytes(frame.version);

@@ -7,11 +7,13 @@ pub struct NameFrame<'a> {
     pub flags: Flags,
     pub creation: u32,
     pub name: &'a [u8],
-    /// The version of link messages that the sender knows: 2 where the name is followed by the byte 02 alone, else 1.
+    /// The version of link messages that the sender knows: 2 where the name is followed by the byte
+    /// 02 alone, else 1.
     pub version: u8,
 }
 
-/// The word of a status frame. The acceptor answers a name frame with one, and the dialler answers `Alive`.
+/// The word of a status frame. The acceptor answers a name frame with one, and the dialler answers
+/// `Alive`.
 #[derive(Clone, Copy, Debug, PartialEq, Eq)]
 pub enum StatusWord {
     /// The handshake goes on.
@@ -36,7 +38,8 @@ pub struct ChallengeFrame<'a> {
     pub challenge: u32,
     pub creation: u32,
     pub name: &'a [u8],
-    /// The version of link messages that the sender knows: 2 where the name is followed by the byte 02 alone, else 1.
+    /// The version of link messages that the sender knows: 2 where the name is followed by the byte
+    /// 02 alone, else 1.
     pub version: u8,
 }
 

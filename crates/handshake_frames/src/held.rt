@@ -54,7 +54,8 @@ impl Held {
 
 /// The length that the first byte, if there is one, and the piece begin, and what stands behind it.
 fn length_at(first: Option<u8>, piece: &[u8]) -> Option<(u16, &[u8])>
-    ensures found { IfSome result (λ read. option_to_list first ++ piece.now ≡ to_be_bytes w16 read.0 ++ read.1.now) }
+    ensures found { IfSome result (λ read. option_to_list first ++ piece.now
+        ≡ to_be_bytes w16 read.0 ++ read.1.now) }
     ensures short { IfNone result (length (option_to_list first) + length piece.now < 2) }
 {
     let Some(high) = first else {
@@ -65,7 +66,8 @@ fn length_at(first: Option<u8>, piece: &[u8]) -> Option<(u16, &[u8])>
 }
 
 fn length_behind(high: u8, piece: &[u8]) -> Option<(u16, &[u8])>
-    ensures found { IfSome result (λ read. high ∷ piece.now ≡ to_be_bytes w16 read.0 ++ read.1.now) }
+    ensures found { IfSome result (λ read. high ∷ piece.now ≡ to_be_bytes w16 read.0
+        ++ read.1.now) }
     ensures short { IfNone result (piece.now ≡ []) }
 {
     let (low, behind) = piece.split_first()?;

@@ -21,25 +21,32 @@ pub fn round_trip()
 /// A body spells at most one frame of a kind.
 pub fn one_frame()
     ensures name { (body : List ℕ) (f g : Name) → SpellsName body f → SpellsName body g → f ≡ g }
-    ensures status { (body : List ℕ) (f g : StatusWord) → SpellsStatus body f → SpellsStatus body g → f ≡ g }
-    ensures challenge { (body : List ℕ) (f g : Challenge) → SpellsChallenge body f → SpellsChallenge body g → f ≡ g }
-    ensures reply { (body : List ℕ) (f g : ReplyFrame) → SpellsReply body f → SpellsReply body g → f ≡ g }
+    ensures status { (body : List ℕ) (f g : StatusWord) → SpellsStatus body f → SpellsStatus body g
+        → f ≡ g }
+    ensures challenge { (body : List ℕ) (f g : Challenge) → SpellsChallenge body f
+        → SpellsChallenge body g → f ≡ g }
+    ensures reply { (body : List ℕ) (f g : ReplyFrame) → SpellsReply body f → SpellsReply body g
+        → f ≡ g }
     ensures ack { (body : List ℕ) (f g : AckFrame) → SpellsAck body f → SpellsAck body g → f ≡ g }
 {}
 
 /// The readers that compute give a frame exactly where the body spells it.
 pub fn readers()
     ensures name { (body : List ℕ) (f : Name) → (name_frame body ≡ Some f) ↔ SpellsName body f }
-    ensures status { (body : List ℕ) (word : StatusWord) → (status_of body ≡ Some word) ↔ SpellsStatus body word }
-    ensures challenge { (body : List ℕ) (f : Challenge) → (challenge_frame body ≡ Some f) ↔ SpellsChallenge body f }
-    ensures reply { (body : List ℕ) (f : ReplyFrame) → (reply_frame body ≡ Some f) ↔ SpellsReply body f }
+    ensures status { (body : List ℕ) (word : StatusWord) → (status_of body ≡ Some word)
+        ↔ SpellsStatus body word }
+    ensures challenge { (body : List ℕ) (f : Challenge) → (challenge_frame body ≡ Some f)
+        ↔ SpellsChallenge body f }
+    ensures reply { (body : List ℕ) (f : ReplyFrame) → (reply_frame body ≡ Some f)
+        ↔ SpellsReply body f }
     ensures ack { (body : List ℕ) (f : AckFrame) → (ack_frame body ≡ Some f) ↔ SpellsAck body f }
 {}
 
 /// The bodies of a stream, and the rest of it, are the same however it is cut into pieces.
 pub fn any_cut()
     // One call of a reader carries the reading of a stream on.
-    ensures step { (stream : List ℕ) (bodies : List (List ℕ)) (rest piece : List ℕ) (used : ℕ) (body : Option (List ℕ)) (new : List ℕ) →
+    ensures step { (stream : List ℕ) (bodies : List (List ℕ)) (rest piece : List ℕ)
+        (used : ℕ) (body : Option (List ℕ)) (new : List ℕ) →
         Splits w16 stream bodies rest → IsFed w16 rest piece used body new →
         Splits w16 (stream ++ take used piece) (bodies ++ option_to_list body) new }
     // So what a new reader gave and holds, after any calls, is the reading of what it used.
@@ -47,7 +54,8 @@ pub fn any_cut()
         Splits w16 (stream_of calls) (bodies_of calls) rest }
     // A stream has one reading.
     ensures only { (stream : List ℕ) (bodies others : List (List ℕ)) (rest last : List ℕ) →
-        Splits w16 stream bodies rest → Splits w16 stream others last → (bodies ≡ others) × (rest ≡ last) }
+        Splits w16 stream bodies rest → Splits w16 stream others last → (bodies ≡ others)
+        × (rest ≡ last) }
     // So two readers that used one stream gave the same bodies and hold the same rest.
     ensures cut { (calls others : List Call) (rest last : List ℕ) →
         AreFed w16 [] calls rest → AreFed w16 [] others last → stream_of calls ≡ stream_of others →

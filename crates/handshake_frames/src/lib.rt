@@ -1,5 +1,5 @@
-//! The five frames of the distribution handshake, version 6, as values and as bytes (Distribution Protocol,
-//! Distribution Handshake).
+//! The five frames of the distribution handshake, version 6, as values and as bytes (Distribution
+//! Protocol, Distribution Handshake).
 #![tactic(auto)]
 
 mod body_so_far;

@@ -1,5 +1,5 @@
-//! Streams of bodies before the handshake is done, each body behind its length of 2 bytes (Distribution Protocol,
-//! Distribution Handshake).
+//! Streams of bodies before the handshake is done, each body behind its length of 2 bytes
+//! (Distribution Protocol, Distribution Handshake).
 ghost use Rattle.std.specs.Prelude.{◌≡◌, [], IfOk, OnErr};
 ghost use Rattle.std.specs.Int.{w16};
 ghost use Rattle.handshake_frames.specs.Stream.{IsFed};
@@ -9,7 +9,8 @@ use dist_types::{Body, OutOfMemory};
 use std::alloc::Global;
 use std::marker::Model;
 
-/// What a piece brought: how many of its bytes were used, and the body that ended there, if one did.
+/// What a piece brought: how many of its bytes were used, and the body that ended there, if one
+/// did.
 #[derive(Debug, Drop)]
 pub struct Fed {
     pub used: usize,

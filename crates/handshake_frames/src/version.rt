@@ -1,5 +1,5 @@
-//! The version of link messages, as the bytes behind a name say it. The handshake lets any bytes follow a name (Distribution
-//! Protocol, Distribution Handshake).
+//! The version of link messages, as the bytes behind a name say it. The handshake lets any bytes
+//! follow a name (Distribution Protocol, Distribution Handshake).
 ghost use Rattle.std.specs.Prelude.{◌≡◌};
 ghost use Rattle.handshake_frames.specs.Spelling.{version_bytes, version_of};
 

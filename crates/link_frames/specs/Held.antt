@@ -28,7 +28,8 @@ pub record IsHeld (held : Held) : Type 0 where
   pub fits : HasLength held
   pub unfinished : IsUnfinished held
 
--- the bytes used of a piece are held behind the old ones, without ticks; all are used where no body is whole then
+-- the bytes used of a piece are held behind the old ones, without ticks; all are used where no body
+-- is whole then
 pub record Takes (old : Held) (piece : List ℕ) (used : ℕ) (new : Held) : Type 0 where
   pub within : used ≤ length piece
   pub skipped : ℕ

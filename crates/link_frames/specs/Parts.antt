@@ -1,5 +1,5 @@
--- Messages whose rows come in parts, as links of version 2 carry them. A part counts only once the last one has come.
--- On a link of version 1 each message is one part: the first, and the last.
+-- Messages whose rows come in parts, as links of version 2 carry them. A part counts only once the
+-- last one has come. On a link of version 1 each message is one part: the first, and the last.
 use Rattle.std.specs.Prelude.{◌≡◌, ⊤, ℕ, ◌+◌, ◌-◌, ◌^◌, ◌<◌, ◌≤◌, ◌==◌, Bool, true, false, cond, ◌&&◌, ◌||◌, List, [], ◌∷◌, ◌++◌, Option, Some, None, length, take, drop, zero, suc, ◌/◌, All, ◌⊎◌}
 use Rattle.std.specs.Int.{w32, to_be_bytes}
 use Rattle.std.specs.Option.{option_map_or, option_to_list}
@@ -34,7 +34,8 @@ part_bytes number last rows = to_be_bytes w32 number ++ (last_byte last ∷ rows
 -- the byte of the kind, the scope, and then the part, if the kind has rows
 abbrev pub message2_bytes : Message2 → List ℕ
 message2_bytes (frames.Discover scope) = 0x44 ∷ text_bytes scope
-message2_bytes (frames.Part kind scope number last rows) = kind_byte kind ∷ text_bytes scope ++ part_bytes number last rows
+message2_bytes (frames.Part kind scope number last rows) = kind_byte kind ∷ text_bytes scope
+    ++ part_bytes number last rows
 message2_bytes (frames.Down scope) = 0x58 ∷ text_bytes scope
 
 -- a part of a Join or a Leave has a row
@@ -64,7 +65,8 @@ pub record SpellsMessage2 (body : List ℕ) (m : Message2) : Type 0 where
 
 -- the number and the count of the rows are within the grammar
 abbrev pub HasSpelling2 : Message2 → Type 0
-HasSpelling2 (frames.Part kind scope number last rows) = (1 ≤ number) × (length rows ≤ max_rows) × HasSome kind rows
+HasSpelling2 (frames.Part kind scope number last rows) = (1 ≤ number) × (length rows ≤ max_rows)
+    × HasSome kind rows
 HasSpelling2 m = ⊤
 
 -- ---- a message in parts
@@ -90,9 +92,12 @@ before_last rows = (length rows - 1) / max_rows
 -- so many parts of 4,096 rows from this number on, and then the last
 abbrev pub parts_from : PartKind → List ℕ → ℕ → ℕ → List Row → List Message2
 parts_from kind scope number zero rows = frames.Part kind scope number true rows ∷ []
-parts_from kind scope number (suc more) rows = frames.Part kind scope number false (take max_rows rows) ∷ parts_from kind scope (suc number) more (drop max_rows rows)
+parts_from kind scope number (suc more) rows =
+    frames.Part kind scope number false (take max_rows rows)
+    ∷ parts_from kind scope (suc number) more (drop max_rows rows)
 
--- a message in parts: its rows in their order, 4,096 in each part but the last, which is shorter or full
+-- a message in parts: its rows in their order, 4,096 in each part but the last, which is shorter or
+-- full
 abbrev pub parts : Message → List Message2
 parts (messages.Discover scope) = frames.Discover scope ∷ []
 parts (messages.Sync scope rows) = parts_from kinds.Sync scope 1 (before_last rows) rows
@@ -117,8 +122,8 @@ AreWritten (messages.Down scope) = IsText scope
 
 -- ---- parts that come
 
--- what is kept of a message of which parts have come, and not the last: its kind and its scope, the number of its latest part, and the
--- rows of all of them
+-- what is kept of a message of which parts have come, and not the last: its kind and its scope, the
+-- number of its latest part, and the rows of all of them
 pub record Begun : Type 0 where
   pub kind : PartKind
   pub scope : List ℕ
@@ -127,15 +132,20 @@ pub record Begun : Type 0 where
 
 -- the part of this number is the one behind those that are kept
 abbrev pub follows : PartKind → List ℕ → ℕ → Begun → Bool
-follows kind scope number b = (kind_byte b.kind == kind_byte kind) && (same b.scope scope && (suc b.number == number))
+follows kind scope number b = (kind_byte b.kind == kind_byte kind)
+    && (same b.scope scope && (suc b.number == number))
 
 -- the part may come: it is a first one, or it follows those that are kept
 abbrev pub is_next : Option Begun → PartKind → List ℕ → ℕ → Bool
-is_next begun kind scope number = (number == 1) || option_map_or (follows kind scope number) begun false
+is_next begun kind scope number = (number == 1)
+    || option_map_or (follows kind scope number) begun false
 
--- the rows of the parts before the part of this number: of a first one none, else those that are kept, where it follows them
+-- the rows of the parts before the part of this number: of a first one none, else those that are
+-- kept, where it follows them
 abbrev pub rows_before : Option Begun → PartKind → List ℕ → ℕ → List Row
-rows_before begun kind scope number = cond (number == 1) [] (option_map_or (λ b. cond (follows kind scope number b) b.rows []) begun [])
+rows_before begun kind scope number =
+    cond (number == 1) [] (option_map_or (λ b. cond (follows kind scope number b) b.rows []) begun
+    [])
 
 -- the rows of all parts so far, with these of the part of that number
 abbrev pub rows_so_far : Option Begun → PartKind → List ℕ → ℕ → List Row → List Row
@@ -144,18 +154,26 @@ rows_so_far begun kind scope number rows = rows_before begun kind scope number +
 -- the message that this one completes: it is whole by itself, or a last part
 abbrev pub completed : Option Begun → Message2 → Option Message
 completed begun (frames.Discover scope) = Some (messages.Discover scope)
-completed begun (frames.Part kind scope number last rows) = cond last (Some (message_of kind scope (rows_so_far begun kind scope number rows))) None
+completed begun (frames.Part kind scope number last rows) =
+    cond last (Some (message_of kind scope (rows_so_far begun kind scope number rows))) None
 completed begun (frames.Down scope) = Some (messages.Down scope)
 
 -- what is kept after it
 abbrev pub begun_after : Option Begun → Message2 → Option Begun
-begun_after begun (frames.Part kind scope number last rows) = cond last None (Some (record { kind = kind; scope = scope; number = number; rows = rows_so_far begun kind scope number rows }))
+begun_after begun (frames.Part kind scope number last rows) =
+    cond last None (Some (record {
+      kind = kind;
+      scope = scope;
+      number = number;
+      rows = rows_so_far begun kind scope number rows;
+    }))
 begun_after begun m = None
 
 -- the messages that these complete, in their order
 abbrev pub completed_by : Option Begun → List Message2 → List Message
 completed_by begun [] = []
-completed_by begun (m ∷ ms) = option_to_list (completed begun m) ++ completed_by (begun_after begun m) ms
+completed_by begun (m ∷ ms) = option_to_list (completed begun m)
+    ++ completed_by (begun_after begun m) ms
 
 -- what is kept after all of them
 abbrev pub begun_by : Option Begun → List Message2 → Option Begun

@@ -1,4 +1,5 @@
--- A reader of messages that computes. A body spells at most one message of a kind; its fields stand one behind the other.
+-- A reader of messages that computes. A body spells at most one message of a kind; its fields stand
+-- one behind the other.
 use Rattle.std.specs.Prelude.{ℕ, zero, suc, ◌^◌, Bool, cond, ◌&&◌, List, [], ◌∷◌, Option, length, take, drop, slice_range, find, nat_lt, nat_le, bytes_eq, get_or}
 use Rattle.std.specs.Int.{w16, w32, w64, from_be_bytes}
 use Rattle.std.specs.List.{list_all}
@@ -36,15 +37,18 @@ row_in bytes = record {
 -- the only rows of that count that the bytes can be
 abbrev pub rows_in : ℕ → List ℕ → List Row
 rows_in zero bytes = []
-rows_in (suc count) bytes = row_in bytes ∷ rows_in count (drop (length (row_bytes (row_in bytes))) bytes)
+rows_in (suc count) bytes = row_in bytes
+    ∷ rows_in count (drop (length (row_bytes (row_in bytes))) bytes)
 
 -- the only rows that can stand behind their count in 4 bytes, which is at most 4,096
 abbrev pub counted_rows_in : List ℕ → List Row
-counted_rows_in bytes = cond (nat_le (from_be_bytes w32 (take 4 bytes)) max_rows) (rows_in (from_be_bytes w32 (take 4 bytes)) (drop 4 bytes)) []
+counted_rows_in bytes = cond (nat_le (from_be_bytes w32 (take 4 bytes)) max_rows)
+    (rows_in (from_be_bytes w32 (take 4 bytes)) (drop 4 bytes)) []
 
 -- whether group and name are within the limits of texts, and each number fits its field
 abbrev pub is_row : Row → Bool
-is_row row = is_text row.group && is_node_name row.pid.node && nat_lt row.pid.creation (2 ^ 32) && nat_lt row.pid.number (2 ^ 64)
+is_row row = is_text row.group && is_node_name row.pid.node && nat_lt row.pid.creation (2 ^ 32)
+    && nat_lt row.pid.number (2 ^ 64)
 
 -- whether the rows are no more than a message may bring, each within the limits
 abbrev pub are_rows : List Row → Bool
@@ -63,7 +67,8 @@ abbrev pub messages_in : List ℕ → List Message
 messages_in body =
     let scope = text_in (drop 1 body) in
     let rows = counted_rows_in (behind_text (drop 1 body)) in
-    messages.Discover scope ∷ messages.Sync scope rows ∷ messages.Join scope rows ∷ messages.Leave scope rows ∷ messages.Down scope ∷ []
+    messages.Discover scope ∷ messages.Sync scope rows ∷ messages.Join scope rows
+    ∷ messages.Leave scope rows ∷ messages.Down scope ∷ []
 
 -- the message that the body spells: the body is its bytes, and it is within the grammar
 unfoldable pub message : List ℕ → Option Message

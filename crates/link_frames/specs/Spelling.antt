@@ -1,4 +1,5 @@
--- Which bodies spell which messages. Numbers are big-endian, and nothing stands behind the last field.
+-- Which bodies spell which messages. Numbers are big-endian, and nothing stands behind the last
+-- field.
 use Rattle.std.specs.Prelude.{◌≡◌, ⊤, ℕ, ◌^◌, ◌<◌, ◌≤◌, List, ◌∷◌, ◌++◌, length, All}
 use Rattle.std.specs.Int.{w16, w32, w64, to_be_bytes}
 use Rattle.std.specs.List.{flat_map}
@@ -15,13 +16,15 @@ text_bytes text = length text ∷ text
 
 -- the group, the name behind its length in 2 bytes, the creation in 4, and the number in 8
 abbrev pub row_bytes : Row → List ℕ
-row_bytes row = text_bytes row.group ++ counted w16 row.pid.node ++ to_be_bytes w32 row.pid.creation ++ to_be_bytes w64 row.pid.number
+row_bytes row = text_bytes row.group ++ counted w16 row.pid.node ++ to_be_bytes w32 row.pid.creation
+    ++ to_be_bytes w64 row.pid.number
 
 -- the count of the rows in 4 bytes, and the rows
 abbrev pub rows_bytes : List Row → List ℕ
 rows_bytes rows = to_be_bytes w32 (length rows) ++ flat_map row_bytes rows
 
--- the byte of the kind, `D`, `S`, `J`, `L` or `X`, the scope, and then the rows, if the kind has them
+-- the byte of the kind, `D`, `S`, `J`, `L` or `X`, the scope, and then the rows, if the kind has
+-- them
 abbrev pub message_bytes : Message → List ℕ
 message_bytes (messages.Discover scope) = 0x44 ∷ text_bytes scope
 message_bytes (messages.Sync scope rows) = 0x53 ∷ text_bytes scope ++ rows_bytes rows

@@ -1,5 +1,5 @@
--- Streams after the handshake: bodies, each behind its length in 4 bytes, with ticks between them. A tick is a length of 0
--- (Distribution Protocol, Protocol between Connected Nodes).
+-- Streams after the handshake: bodies, each behind its length in 4 bytes, with ticks between them.
+-- A tick is a length of 0 (Distribution Protocol, Protocol between Connected Nodes).
 use Rattle.std.specs.Prelude.{◌≡◌, ℕ, zero, suc, ◌≤◌, ◌<◌, ◌^◌, Bool, true, false, ◌⊎◌, List, [], ◌∷◌, ◌++◌, Option, Some, None, length, take, filter, All}
 use Rattle.std.specs.Int.{w32, to_be_bytes}
 use Rattle.handshake_frames.specs.Spelling.{counted}
@@ -48,7 +48,8 @@ pub record EndsNone (rest piece : List ℕ) (used : ℕ) (new : List ℕ) : Type
   pub kept : rest ++ piece ≡ ticks skipped ++ new
   pub left : IsRest new
 
--- a reader that holds the rest takes that many bytes of the piece, gives the body that ends there, if one does, and holds the new rest
+-- a reader that holds the rest takes that many bytes of the piece, gives the body that ends there,
+-- if one does, and holds the new rest
 abbrev pub IsFed : List ℕ → List ℕ → ℕ → Option (List ℕ) → List ℕ → Type 0
 IsFed rest piece used (Some body) new = EndsBody rest piece used body new
 IsFed rest piece used None new = EndsNone rest piece used new
@@ -60,13 +61,15 @@ pub record ComesTooLong (rest piece : List ℕ) : Type 0 where
   pub behind : rest ++ piece ≡ ticks skipped ++ bytes
   pub begins : BeginsTooLong bytes
 
--- what is seen of a reader: the bytes that it has used since its last body, without ticks at their front, and whether it has answered that a body is too long
+-- what is seen of a reader: the bytes that it has used since its last body, without ticks at their
+-- front, and whether it has answered that a body is too long
 pub record Progress : Type 0 where
   pub rest : List ℕ
   pub too_long : Bool
 
 -- a reader that goes on is fed, and goes on
-pub record Feeds (old : Progress) (piece : List ℕ) (used : ℕ) (body : Option (List ℕ)) (new : Progress) : Type 0 where
+pub record Feeds (old : Progress) (piece : List ℕ) (used : ℕ) (body : Option (List ℕ))
+    (new : Progress) : Type 0 where
   pub going : old.too_long ≡ false
   pub goes : new.too_long ≡ false
   pub fed : IsFed old.rest piece used body new.rest
@@ -77,8 +80,10 @@ IsTooLong reader piece = (reader.too_long ≡ true) ⊎ ComesTooLong reader.rest
 
 -- why a piece isn't used, and what is seen of the reader then
 abbrev pub IsFeedFault : FeedFault → Progress → List ℕ → Progress → Type 0
-IsFeedFault faults.TooLong old piece new = IsTooLong old piece × (new ≡ record { rest = old.rest; too_long = true })
-IsFeedFault faults.OutOfMemory old piece new = (old.too_long ≡ false) × (¬ ComesTooLong old.rest piece) × (new ≡ old)
+IsFeedFault faults.TooLong old piece new = IsTooLong old piece
+    × (new ≡ record { rest = old.rest; too_long = true })
+IsFeedFault faults.OutOfMemory old piece new = (old.too_long ≡ false)
+    × (¬ ComesTooLong old.rest piece) × (new ≡ old)
 
 -- ---- a stream
 
@@ -87,7 +92,8 @@ abbrev pub is_body : List ℕ → Bool
 is_body [] = false
 is_body (byte ∷ bytes) = true
 
--- the stream is these bodies, each behind its length, with ticks between them, and then less than a whole body
+-- the stream is these bodies, each behind its length, with ticks between them, and then less than a
+-- whole body
 pub record SplitsLink (stream : List ℕ) (bodies : List (List ℕ)) (rest : List ℕ) : Type 0 where
   pub frames : List (List ℕ)
   pub splits : Splits w32 stream frames rest
@@ -98,4 +104,5 @@ pub record SplitsLink (stream : List ℕ) (bodies : List (List ℕ)) (rest : Lis
 -- one call after another, from a rest to a rest
 abbrev pub AreFed : List ℕ → List Call → List ℕ → Type 0
 AreFed rest [] new = new ≡ rest
-AreFed rest (call ∷ calls) new = (mid : List ℕ) × IsFed rest call.piece call.used call.body mid × AreFed mid calls new
+AreFed rest (call ∷ calls) new = (mid : List ℕ) × IsFed rest call.piece call.used call.body mid
+    × AreFed mid calls new

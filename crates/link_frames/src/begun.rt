@@ -9,7 +9,8 @@ use crate::parts::Undo;
 use dist_types::{OutOfMemory, Row, Scope};
 use std::marker::Model;
 
-/// What is kept of a message of which parts have come: the number of the latest, and the rows of all.
+/// What is kept of a message of which parts have come: the number of the latest, and the rows of
+/// all.
 #[derive(Debug, Drop)]
 pub struct Begun {
     kind: PartKind,

@@ -12,7 +12,8 @@ use crate::part_laws::fits_a_reader_in_parts;
 use dist_types::{Body, MAX_ROWS, OutOfMemory, Row, Scope};
 use std::alloc::Global;
 
-/// The bodies in which a message is said on a link of version 2: its rows in parts of `MAX_ROWS`, of which the last is shorter or full.
+/// The bodies in which a message is said on a link of version 2: its rows in parts of `MAX_ROWS`,
+/// of which the last is shorter or full.
 pub fn encode_parts(alloc: Global, message: &Message) -> Result<Vec<Body>, OutOfMemory>
     requires { HasParts message.now }
     ensures value { IfOk result (λ bodies. bodies.items ≡ map message2_bytes (parts message.now)) }

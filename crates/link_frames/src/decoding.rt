@@ -17,9 +17,10 @@ use std::alloc::Global;
 /// The fewest bytes of a row: lengths 1 and 2, a group of 1, a name of 3, creation 4, number 8.
 const MIN_ROW: usize = 19;
 
-/// Reads a message: the kind byte `D`, `S`, `J`, `L` or `X`, the scope behind its length of 1 byte, and for `S`, `J` and
-/// `L` the count of the rows in 4 bytes and the rows, with nothing after them. A row is the group behind its length of
-/// 1 byte, the name behind its length of 2 bytes, the creation in 4 and the number in 8.
+/// Reads a message: the kind byte `D`, `S`, `J`, `L` or `X`, the scope behind its length of 1 byte,
+/// and for `S`, `J` and `L` the count of the rows in 4 bytes and the rows, with nothing after them.
+/// A row is the group behind its length of 1 byte, the name behind its length of 2 bytes, the
+/// creation in 4 and the number in 8.
 pub fn decode(alloc: Global, body: &[u8]) -> Result<Message, MessageFault>
     // What is read is spelled so.
     ensures found { IfOk result (SpellsMessage body.now) }
@@ -27,7 +28,8 @@ pub fn decode(alloc: Global, body: &[u8]) -> Result<Message, MessageFault>
     ensures only { (m : Message) → SpellsMessage body.now m →
         MatchResult result (λ read. read ≡ m) (λ fault. fault ≡ faults.OutOfMemory) }
     // The same by the reader that computes.
-    ensures value { MatchResult result (λ m. message body.now ≡ Some m) (λ fault. fault ≡ faults.BadFrame → message body.now ≡ None) }
+    ensures value { MatchResult result (λ m. message body.now ≡ Some m) (λ fault. fault
+        ≡ faults.BadFrame → message body.now ≡ None) }
 {
     let Some((kind, rest)) = body.split_first() else {
         return Err(MessageFault::BadFrame);
@@ -55,8 +57,10 @@ fn message_of(alloc: Global, kind: u8, scope: Scope, rest: &[u8]) -> Result<Mess
 }
 
 pub fn some_rows_at(alloc: Global, bytes: &[u8]) -> Result<Rows, MessageFault>
-    ensures found { IfOk result (λ rows. AreRows rows × (0 < length rows) × (bytes.now ≡ rows_bytes rows)) }
-    ensures only { (rows : List Row) → AreRows rows → 0 < length rows → bytes.now ≡ rows_bytes rows →
+    ensures found { IfOk result (λ rows. AreRows rows × (0 < length rows)
+        × (bytes.now ≡ rows_bytes rows)) }
+    ensures only { (rows : List Row) → AreRows rows → 0 < length rows → bytes.now ≡ rows_bytes rows
+        →
         MatchResult result (λ read. read ≡ rows) (λ fault. fault ≡ faults.OutOfMemory) }
 {
     let rows = rows_at(alloc, bytes)?;
@@ -80,8 +84,10 @@ pub fn rows_at(alloc: Global, bytes: &[u8]) -> Result<Rows, MessageFault>
 
 /// That many rows, with nothing after them.
 fn rows_of(alloc: Global, count: u32, bytes: &[u8]) -> Result<Rows, MessageFault>
-    ensures found { IfOk result (λ rows. (length rows ≡ count) × All IsRow rows × (bytes.now ≡ flat_map row_bytes rows)) }
-    ensures only { (rows : List Row) → length rows ≡ count → All IsRow rows → bytes.now ≡ flat_map row_bytes rows →
+    ensures found { IfOk result (λ rows. (length rows ≡ count) × All IsRow rows
+        × (bytes.now ≡ flat_map row_bytes rows)) }
+    ensures only { (rows : List Row) → length rows ≡ count → All IsRow rows
+        → bytes.now ≡ flat_map row_bytes rows →
         MatchResult result (λ read. read ≡ rows) (λ fault. fault ≡ faults.OutOfMemory) }
 {
     let mut rest = bytes;

@@ -10,7 +10,8 @@ use dist_types::{OutOfMemory, Row, Scope};
 /// The bytes of a row beside its group and its name: lengths 1 and 2, creation 4, number 8.
 const ROW_NUMBERS: usize = 15;
 
-/// Appends the message's body. A Join and a Leave must have a row, and no message more than `MAX_ROWS`.
+/// Appends the message's body. A Join and a Leave must have a row, and no message more than
+/// `MAX_ROWS`.
 pub fn encode(message: &Message, out: &mut Vec<u8>) -> Result<(), OutOfMemory>
     requires { HasSpelling message.now }
     ensures ok { OnOk result (out.new.items ≡ out.old.items ++ message_bytes message.now) }
@@ -29,7 +30,8 @@ pub fn encode(message: &Message, out: &mut Vec<u8>) -> Result<(), OutOfMemory>
 
 fn put_listing(kind: u8, scope: &Scope, rows: &[Row], out: &mut Vec<u8>) -> Result<(), OutOfMemory>
     requires { length rows.now ≤ max_rows }
-    ensures ok { OnOk result (out.new.items ≡ out.old.items ++ (kind ∷ text_bytes scope.now ++ rows_bytes rows.now)) }
+    ensures ok { OnOk result (out.new.items ≡ out.old.items
+        ++ (kind ∷ text_bytes scope.now ++ rows_bytes rows.now)) }
     ensures limits { OnOk result (IsText scope.now × AreRows rows.now) }
     ensures same { OnErr result (out.new.items ≡ out.old.items) }
 {

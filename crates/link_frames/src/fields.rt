@@ -1,5 +1,5 @@
-//! Texts and rows at the front of a body. Each reader gives what it read and what stands behind it. A row shares the texts
-//! that it has in common with the row before it.
+//! Texts and rows at the front of a body. Each reader gives what it read and what stands behind it.
+//! A row shares the texts that it has in common with the row before it.
 ghost use Rattle.std.specs.Prelude.{◌≡◌, ◌<◌, ◌^◌, ◌++◌, ℕ, List, length, IfOk, IfSome, IsSomeAnd, MatchResult};
 ghost use Rattle.std.specs.Int.{w16, w32, w64, to_be_bytes};
 ghost use Rattle.dist_types.specs.Text.{IsText, IsNodeName};
@@ -14,9 +14,11 @@ use handshake_frames::counted_at;
 use std::alloc::Global;
 
 pub fn scope_at(alloc: Global, bytes: &[u8]) -> Result<(Scope, &[u8]), MessageFault>
-    ensures found { IfOk result (λ read. IsText read.0 × (bytes.now ≡ text_bytes read.0 ++ read.1.now)) }
+    ensures found { IfOk result (λ read. IsText read.0
+        × (bytes.now ≡ text_bytes read.0 ++ read.1.now)) }
     ensures only { (scope rest : List ℕ) → IsText scope → bytes.now ≡ text_bytes scope ++ rest →
-        MatchResult result (λ read. (read.0 ≡ scope) × (read.1.now ≡ rest)) (λ fault. fault ≡ faults.OutOfMemory) }
+        MatchResult result (λ read. (read.0 ≡ scope) × (read.1.now ≡ rest)) (λ fault. fault
+        ≡ faults.OutOfMemory) }
 {
     let (text, rest) = short_at(bytes).ok_or(MessageFault::BadFrame)?;
     Ok((Scope::parse(alloc, text)?, rest))
@@ -27,9 +29,11 @@ pub fn row_at<'a>(
     bytes: &'a [u8],
     before: Option<&Row>,
 ) -> Result<(Row, &'a [u8]), MessageFault>
-    ensures found { IfOk result (λ read. IsRow read.0 × (bytes.now ≡ row_bytes read.0 ++ read.1.now)) }
+    ensures found { IfOk result (λ read. IsRow read.0
+        × (bytes.now ≡ row_bytes read.0 ++ read.1.now)) }
     ensures only { (row : Row) (rest : List ℕ) → IsRow row → bytes.now ≡ row_bytes row ++ rest →
-        MatchResult result (λ read. (read.0 ≡ row) × (read.1.now ≡ rest)) (λ fault. fault ≡ faults.OutOfMemory) }
+        MatchResult result (λ read. (read.0 ≡ row) × (read.1.now ≡ rest)) (λ fault. fault
+        ≡ faults.OutOfMemory) }
 {
     let (group, rest) = group_at(alloc, bytes, before)?;
     let (node, rest) = node_at(alloc, rest, before)?;
@@ -47,9 +51,11 @@ fn group_at<'a>(
     bytes: &'a [u8],
     before: Option<&Row>,
 ) -> Result<(Group, &'a [u8]), MessageFault>
-    ensures found { IfOk result (λ read. IsText read.0 × (bytes.now ≡ text_bytes read.0 ++ read.1.now)) }
+    ensures found { IfOk result (λ read. IsText read.0
+        × (bytes.now ≡ text_bytes read.0 ++ read.1.now)) }
     ensures only { (group rest : List ℕ) → IsText group → bytes.now ≡ text_bytes group ++ rest →
-        MatchResult result (λ read. (read.0 ≡ group) × (read.1.now ≡ rest)) (λ fault. fault ≡ faults.OutOfMemory) }
+        MatchResult result (λ read. (read.0 ≡ group) × (read.1.now ≡ rest)) (λ fault. fault
+        ≡ faults.OutOfMemory) }
 {
     let (text, rest) = short_at(bytes).ok_or(MessageFault::BadFrame)?;
     let group = match before {
@@ -64,9 +70,11 @@ fn node_at<'a>(
     bytes: &'a [u8],
     before: Option<&Row>,
 ) -> Result<(NodeName, &'a [u8]), MessageFault>
-    ensures found { IfOk result (λ read. IsNodeName read.0 × (bytes.now ≡ counted w16 read.0 ++ read.1.now)) }
+    ensures found { IfOk result (λ read. IsNodeName read.0
+        × (bytes.now ≡ counted w16 read.0 ++ read.1.now)) }
     ensures only { (name rest : List ℕ) → IsNodeName name → bytes.now ≡ counted w16 name ++ rest →
-        MatchResult result (λ read. (read.0 ≡ name) × (read.1.now ≡ rest)) (λ fault. fault ≡ faults.OutOfMemory) }
+        MatchResult result (λ read. (read.0 ≡ name) × (read.1.now ≡ rest)) (λ fault. fault
+        ≡ faults.OutOfMemory) }
 {
     let (text, rest) = counted_at(bytes).ok_or(MessageFault::BadFrame)?;
     let node = match before {

@@ -8,13 +8,15 @@ use crate::length_bytes::LengthBytes;
 /// The bytes of the length before a body.
 const LENGTH_LEN: usize = 4;
 
-/// The length behind ticks, and what stands behind it; where it isn't whole, its bytes. Some bytes may be held before the
-/// piece.
+/// The length behind ticks, and what stands behind it; where it isn't whole, its bytes. Some bytes
+/// may be held before the piece.
 pub fn length_at<'a>(held: &[u8], piece: &'a [u8]) -> Result<(u32, &'a [u8]), LengthBytes>
     requires { length held.now < 4 }
-    ensures found { IfOk result (λ read. (0 < read.0) × ((n : ℕ) × (held.now ++ piece.now ≡ ticks n ++ (to_be_bytes w32 read.0 ++ read.1.now)))) }
+    ensures found { IfOk result (λ read. (0 < read.0)
+        × ((n : ℕ) × (held.now ++ piece.now ≡ ticks n ++ (to_be_bytes w32 read.0 ++ read.1.now)))) }
     ensures onward { IfOk result (λ read. length read.1.now < length piece.now) }
-    ensures short { IfErr result (λ rest. (length rest < 4) × ((n : ℕ) × (held.now ++ piece.now ≡ ticks n ++ rest))) }
+    ensures short { IfErr result (λ rest. (length rest < 4)
+        × ((n : ℕ) × (held.now ++ piece.now ≡ ticks n ++ rest))) }
 {
     let mut front = held;
     let mut rest = piece;
@@ -28,10 +30,12 @@ pub fn length_at<'a>(held: &[u8], piece: &'a [u8]) -> Result<(u32, &'a [u8]), Le
     Err(LengthBytes::of(front, rest))
 }
 
-/// The length at the front of what is held and the piece behind it, where its bytes are there, and what stands behind it.
+/// The length at the front of what is held and the piece behind it, where its bytes are there, and
+/// what stands behind it.
 fn length_across<'a>(held: &[u8], piece: &'a [u8]) -> Option<(u32, &'a [u8])>
     requires { length held.now < 4 }
-    ensures found { IfSome result (λ read. held.now ++ piece.now ≡ to_be_bytes w32 read.0 ++ read.1.now) }
+    ensures found { IfSome result (λ read. held.now ++ piece.now ≡ to_be_bytes w32 read.0
+        ++ read.1.now) }
     ensures short { IfNone result (length held.now + length piece.now < 4) }
 {
     let mut bytes = held.iter().chain(piece);

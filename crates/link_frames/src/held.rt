@@ -41,8 +41,8 @@ impl Held {
         }
     }
 
-    /// Begins a body of that length with the bytes behind it, the last of the piece. The length is judged before anything
-    /// grows.
+    /// Begins a body of that length with the bytes behind it, the last of the piece. The length is
+    /// judged before anything grows.
     fn begin(
         &mut self,
         alloc: Global,
@@ -52,7 +52,8 @@ impl Held {
     ) -> Result<usize, FeedFault>
         requires some { 0 < len }
         requires last { length behind.now < length piece.now }
-        requires found { (n : ℕ) × (held_bytes self.old ++ piece.now ≡ ticks n ++ (to_be_bytes w32 len ++ behind.now)) }
+        requires found { (n : ℕ) × (held_bytes self.old ++ piece.now ≡ ticks n
+            ++ (to_be_bytes w32 len ++ behind.now)) }
         ensures ok { IfOk result (λ used. Takes self.old piece.now used self.new) }
         ensures refused { IfErr result (λ fault. IsTakeFault fault self.old piece.now self.new) }
     {

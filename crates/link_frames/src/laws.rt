@@ -8,9 +8,11 @@ ghost use Rattle.link_frames.specs.declared.fault.FeedFault.{FeedFault};
 ghost use Rattle.link_frames.specs.declared.fault.FeedFault.TheVariants as feed_faults;
 ghost use Rattle.link_frames.specs.Stream.{max_body, IsFed, ComesTooLong, Progress, Feeds, IsTooLong, IsFeedFault, SplitsLink, AreFed};
 
-/// A message within the grammar has exactly one spelling, which `encode` appends, and another message has none.
+/// A message within the grammar has exactly one spelling, which `encode` appends, and another
+/// message has none.
 pub fn one_spelling()
-    ensures within { (body : List ℕ) (m : Message) → IsMessage m → SpellsMessage body m ↔ (body ≡ message_bytes m) }
+    ensures within { (body : List ℕ) (m : Message) → IsMessage m → SpellsMessage body m
+        ↔ (body ≡ message_bytes m) }
     ensures outside { (body : List ℕ) (m : Message) → ¬ IsMessage m → ¬ SpellsMessage body m }
 {}
 
@@ -26,7 +28,8 @@ pub fn fits_a_reader()
 
 /// A body spells at most one message.
 pub fn one_message()
-    ensures { (body : List ℕ) (m n : Message) → SpellsMessage body m → SpellsMessage body n → m ≡ n }
+    ensures { (body : List ℕ) (m n : Message) → SpellsMessage body m → SpellsMessage body n
+        → m ≡ n }
 {}
 
 /// The reader that computes gives a message exactly where the body spells it.
@@ -38,7 +41,8 @@ pub fn readers()
 #[tactic(auto, using(crate::proofs::LinkLemmas::goes_on, crate::proofs::LinkLemmas::read_from_empty))]
 pub fn any_cut()
     // One call of a reader carries the reading of a stream on.
-    ensures step { (stream : List ℕ) (bodies : List (List ℕ)) (rest piece : List ℕ) (used : ℕ) (body : Option (List ℕ)) (new : List ℕ) →
+    ensures step { (stream : List ℕ) (bodies : List (List ℕ)) (rest piece : List ℕ)
+        (used : ℕ) (body : Option (List ℕ)) (new : List ℕ) →
         SplitsLink stream bodies rest → IsFed rest piece used body new →
         SplitsLink (stream ++ take used piece) (bodies ++ option_to_list body) new }
     // So what a new reader gave and holds, after any calls, is the reading of what it used.
@@ -46,7 +50,8 @@ pub fn any_cut()
         SplitsLink (stream_of calls) (bodies_of calls) rest }
     // A stream has one reading.
     ensures only { (stream : List ℕ) (bodies others : List (List ℕ)) (rest last : List ℕ) →
-        SplitsLink stream bodies rest → SplitsLink stream others last → (bodies ≡ others) × (rest ≡ last) }
+        SplitsLink stream bodies rest → SplitsLink stream others last → (bodies ≡ others)
+        × (rest ≡ last) }
     // So two readers that used one stream gave the same bodies and hold the same rest.
     ensures cut { (calls others : List Call) (rest last : List ℕ) →
         AreFed [] calls rest → AreFed [] others last → stream_of calls ≡ stream_of others →
@@ -56,12 +61,16 @@ pub fn any_cut()
 /// `TooLong` comes exactly where it is due, and then for good.
 pub fn too_long()
     // A piece of which a reader used something, or all, had no body that is too long before that.
-    ensures only { (old : Progress) (piece : List ℕ) (used : ℕ) (body : Option (List ℕ)) (new : Progress) →
+    ensures only { (old : Progress) (piece : List ℕ) (used : ℕ) (body : Option (List ℕ))
+        (new : Progress) →
         Feeds old piece used body new → ¬ IsTooLong old piece }
     // After it a reader isn't fed any more, and no fault but `TooLong` is its answer.
-    ensures stays { (old : Progress) (piece : List ℕ) (new : Progress) → IsFeedFault feed_faults.TooLong old piece new →
-        ((next : List ℕ) (used : ℕ) (body : Option (List ℕ)) (last : Progress) → ¬ Feeds new next used body last)
-        × ((next : List ℕ) (fault : FeedFault) (last : Progress) → IsFeedFault fault new next last → fault ≡ feed_faults.TooLong) }
+    ensures stays { (old : Progress) (piece : List ℕ) (new : Progress)
+        → IsFeedFault feed_faults.TooLong old piece new →
+        ((next : List ℕ) (used : ℕ) (body : Option (List ℕ)) (last : Progress)
+        → ¬ Feeds new next used body last)
+        × ((next : List ℕ) (fault : FeedFault) (last : Progress) → IsFeedFault fault new next last
+        → fault ≡ feed_faults.TooLong) }
     // However a stream is cut, no reader uses the length that is too long for one of them.
     ensures cut { (calls others : List Call) (rest last piece later : List ℕ) →
         AreFed [] calls rest → ComesTooLong rest piece → AreFed [] others last →

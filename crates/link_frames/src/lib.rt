@@ -1,4 +1,5 @@
-//! The five messages between linked nodes, as values and as bytes, and the reader that cuts a stream into them.
+//! The five messages between linked nodes, as values and as bytes, and the reader that cuts a
+//! stream into them.
 #![tactic(auto)]
 
 mod begun;

@@ -17,9 +17,9 @@ use crate::part::{Message2, PartKind};
 use dist_types::{Scope, u32_at};
 use std::alloc::Global;
 
-/// Reads a message of version 2: the kind byte `D`, `S`, `J`, `L` or `X`, the scope behind its length of 1 byte, and for `S`,
-/// `J` and `L` the number of the part in 4 bytes, 01 for the last part or 00, the count of the rows in 4 bytes and the rows, with
-/// nothing after them.
+/// Reads a message of version 2: the kind byte `D`, `S`, `J`, `L` or `X`, the scope behind its
+/// length of 1 byte, and for `S`, `J` and `L` the number of the part in 4 bytes, 01 for the last
+/// part or 00, the count of the rows in 4 bytes and the rows, with nothing after them.
 pub fn decode_v2(alloc: Global, body: &[u8]) -> Result<Message2, MessageFault>
     // What is read is spelled so.
     ensures found { IfOk result (SpellsMessage2 body.now) }
@@ -27,7 +27,8 @@ pub fn decode_v2(alloc: Global, body: &[u8]) -> Result<Message2, MessageFault>
     ensures only { (m : Message2) → SpellsMessage2 body.now m →
         MatchResult result (λ read. read ≡ m) (λ fault. fault ≡ faults.OutOfMemory) }
     // The same by the reader that computes.
-    ensures value { MatchResult result (λ m. message2 body.now ≡ Some m) (λ fault. fault ≡ faults.BadFrame → message2 body.now ≡ None) }
+    ensures value { MatchResult result (λ m. message2 body.now ≡ Some m) (λ fault. fault
+        ≡ faults.BadFrame → message2 body.now ≡ None) }
 {
     let Some((kind, rest)) = body.split_first() else {
         return Err(MessageFault::BadFrame);
@@ -62,7 +63,8 @@ fn part_of(
 ) -> Result<Message2, MessageFault>
     requires { IsText scope }
     ensures found { IfOk result (SpellsMessage2 (kind_byte kind ∷ text_bytes scope ++ bytes.now)) }
-    ensures only { (m : Message2) → SpellsMessage2 (kind_byte kind ∷ text_bytes scope ++ bytes.now) m →
+    ensures only { (m : Message2) → SpellsMessage2 (kind_byte kind ∷ text_bytes scope
+        ++ bytes.now) m →
         MatchResult result (λ read. read ≡ m) (λ fault. fault ≡ faults.OutOfMemory) }
 {
     let (number, last, rest) = place_at(bytes).ok_or(MessageFault::BadFrame)?;
@@ -78,8 +80,10 @@ fn part_of(
 
 /// The number of a part, and whether it is the last.
 fn place_at(bytes: &[u8]) -> Option<(u32, bool, &[u8])>
-    ensures found { IfSome result (λ read. (1 ≤ read.0) × (read.0 < 2 ^ 32) × (bytes.now ≡ to_be_bytes w32 read.0 ++ (last_byte read.1 ∷ read.2.now))) }
-    ensures only { (number : ℕ) (last : Bool) (rest : List ℕ) → 1 ≤ number → number < 2 ^ 32 → bytes.now ≡ to_be_bytes w32 number ++ (last_byte last ∷ rest) →
+    ensures found { IfSome result (λ read. (1 ≤ read.0) × (read.0 < 2 ^ 32)
+        × (bytes.now ≡ to_be_bytes w32 read.0 ++ (last_byte read.1 ∷ read.2.now))) }
+    ensures only { (number : ℕ) (last : Bool) (rest : List ℕ) → 1 ≤ number → number < 2 ^ 32
+        → bytes.now ≡ to_be_bytes w32 number ++ (last_byte last ∷ rest) →
         IsSomeAnd result (λ read. (read.0 ≡ number) × (read.1 ≡ last) × (read.2.now ≡ rest)) }
 {
     let (number, rest) = u32_at(bytes)?;
@@ -97,8 +101,10 @@ fn place_at(bytes: &[u8]) -> Option<(u32, bool, &[u8])>
 
 /// The rows of a part of that kind.
 fn rows_of_kind(alloc: Global, kind: PartKind, bytes: &[u8]) -> Result<Rows, MessageFault>
-    ensures found { IfOk result (λ rows. AreRows rows × HasSome kind rows × (bytes.now ≡ rows_bytes rows)) }
-    ensures only { (rows : List Row) → AreRows rows → HasSome kind rows → bytes.now ≡ rows_bytes rows →
+    ensures found { IfOk result (λ rows. AreRows rows × HasSome kind rows
+        × (bytes.now ≡ rows_bytes rows)) }
+    ensures only { (rows : List Row) → AreRows rows → HasSome kind rows
+        → bytes.now ≡ rows_bytes rows →
         MatchResult result (λ read. read ≡ rows) (λ fault. fault ≡ faults.OutOfMemory) }
 {
     match kind {

@@ -11,7 +11,8 @@ use crate::part::{Message2, PartKind};
 use dist_types::{Body, OutOfMemory, Row, Scope};
 use std::alloc::Global;
 
-/// Appends the message's body. A part has a number from 1 on and at most `MAX_ROWS` rows; one of a Join or a Leave has a row.
+/// Appends the message's body. A part has a number from 1 on and at most `MAX_ROWS` rows; one of a
+/// Join or a Leave has a row.
 pub fn encode_v2(message: &Message2, out: &mut Vec<u8>) -> Result<(), OutOfMemory>
     requires { HasSpelling2 message.now }
     ensures ok { OnOk result (out.new.items ≡ out.old.items ++ message2_bytes message.now) }
@@ -44,7 +45,8 @@ pub fn encode_part(
     requires from_one { 1 ≤ number }
     requires few { length rows.now ≤ max_rows }
     requires some { HasSome kind rows.now }
-    ensures ok { OnOk result (out.new.items ≡ out.old.items ++ (kind_byte kind ∷ text_bytes scope.now ++ part_bytes number last rows.now)) }
+    ensures ok { OnOk result (out.new.items ≡ out.old.items
+        ++ (kind_byte kind ∷ text_bytes scope.now ++ part_bytes number last rows.now)) }
     ensures limits { OnOk result (IsPart kind scope.now number rows.now) }
     ensures same { OnErr result (out.new.items ≡ out.old.items) }
 {

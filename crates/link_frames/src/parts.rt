@@ -65,7 +65,8 @@ impl Parts {
         number: u32,
         rows: Rows,
     ) -> Result<Undo, OutOfMemory>
-        ensures ok { OnOk result (self.new ≡ begun_after self.old (frames.Part kind scope number false rows)) }
+        ensures ok { OnOk result (self.new
+            ≡ begun_after self.old (frames.Part kind scope number false rows)) }
         ensures undo { IfOk result (λ undo. undone undo self.new ≡ self.old) }
         ensures same { OnErr result (self.new ≡ self.old) }
     {
@@ -127,7 +128,8 @@ impl Parts {
 
     /// Lets go of what is kept, if it is of that scope.
     pub fn break_off(&mut self, scope: &Scope)
-        ensures { self.new ≡ cond (option_map_or (λ b. same b.scope scope.now) self.old false) None self.old }
+        ensures { self.new ≡ cond (option_map_or (λ b. same b.scope scope.now) self.old false) None
+            self.old }
     {
         if let Some(begun) = &self.begun
             && begun.scope() == scope

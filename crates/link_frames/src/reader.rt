@@ -1,5 +1,5 @@
-//! Streams of bodies after the handshake, each behind its length of 4 bytes, with ticks between them (Distribution
-//! Protocol, Protocol between Connected Nodes).
+//! Streams of bodies after the handshake, each behind its length of 4 bytes, with ticks between
+//! them (Distribution Protocol, Protocol between Connected Nodes).
 ghost use Rattle.std.specs.Prelude.{◌≡◌, [], false, IfOk, IfErr};
 ghost use Rattle.link_frames.specs.Stream.{Feeds, IsFeedFault};
 
@@ -10,8 +10,8 @@ use handshake_frames::Fed;
 use std::alloc::Global;
 use std::marker::Model;
 
-/// Cuts a stream into bodies and skips ticks. Contracts see it as the bytes that it has used since its last body, without
-/// ticks at their front, and the mark that it has answered `TooLong`.
+/// Cuts a stream into bodies and skips ticks. Contracts see it as the bytes that it has used since
+/// its last body, without ticks at their front, and the mark that it has answered `TooLong`.
 #[derive(Debug)]
 pub struct LinkReader {
     alloc: Global,
@@ -51,8 +51,8 @@ impl LinkReader {
         }
     }
 
-    /// Uses the piece up to the end of one body at most. The caller feeds what is left of it again. After `TooLong` each
-    /// further call answers `TooLong`.
+    /// Uses the piece up to the end of one body at most. The caller feeds what is left of it again.
+    /// After `TooLong` each further call answers `TooLong`.
     pub fn feed(&mut self, piece: &[u8]) -> Result<Fed, FeedFault>
         ensures ok { IfOk result (λ fed. Feeds self.old piece.now fed.used fed.body self.new) }
         ensures refused { IfErr result (λ fault. IsFeedFault fault self.old piece.now self.new) }

@@ -1,4 +1,5 @@
-//! What the links of a node tell beside it: why they have ended, where they lead to, and which writers get on.
+//! What the links of a node tell beside it: why they have ended, where they lead to, and which
+//! writers get on.
 #![tactic(auto)]
 
 mod addresses;

@@ -40,7 +40,8 @@ allows rules name = (length rules.allowed == 0) || has_name rules.allowed name
 
 -- the node dials the peer that dials it, has no link of it up, and has the greater name
 abbrev pub outranks : AdmissionRules → Pending → List ℕ → Bool
-outranks rules pending peer = not (is_up pending peer) && is_dialled pending peer && is_gt (text_cmp rules.own peer)
+outranks rules pending peer = not (is_up pending peer) && is_dialled pending peer
+    && is_gt (text_cmp rules.own peer)
 
 -- the status lets the dialler go on
 abbrev pub goes_on : StatusWord → Bool
@@ -83,7 +84,8 @@ answer_checks (Some status) = unless (is_true status) rule.PeerSaid ∷ []
 -- where a reply is awaited
 abbrev pub reply_checks : AdmissionRules → List ℕ → ℕ → Option ReplyFrame → List Check
 reply_checks rules peer challenge None = unless false rule.BadFrame ∷ []
-reply_checks rules peer challenge (Some reply) = unless (is_answer rules peer challenge reply.digest) rule.BadDigest ∷ []
+reply_checks rules peer challenge (Some reply) =
+    unless (is_answer rules peer challenge reply.digest) rule.BadDigest ∷ []
 
 -- where the status is awaited
 abbrev pub status_checks : Pending → List ℕ → Option StatusWord → List Check
@@ -104,4 +106,5 @@ challenge_checks peer (Some challenge) =
 -- where the acknowledgement is awaited
 abbrev pub ack_checks : AdmissionRules → List ℕ → ℕ → Option AckFrame → List Check
 ack_checks rules peer challenge None = unless false rule.BadFrame ∷ []
-ack_checks rules peer challenge (Some ack) = unless (is_answer rules peer challenge ack.digest) rule.BadDigest ∷ []
+ack_checks rules peer challenge (Some ack) =
+    unless (is_answer rules peer challenge ack.digest) rule.BadDigest ∷ []

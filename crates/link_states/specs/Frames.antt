@@ -12,7 +12,12 @@ use Rattle.link_states.specs.declared.state_rule.StateRule.TheVariants as rule
 -- the node's own name frame, with the latest version that it knows
 abbrev pub own_name : AdmissionRules → List ℕ
 own_name rules =
-    name_bytes (record { flags = own_flags rules.hidden; creation = rules.creation; name = rules.own; version = rules.links })
+    name_bytes (record {
+      flags = own_flags rules.hidden;
+      creation = rules.creation;
+      name = rules.own;
+      version = rules.links;
+    })
 
 -- the node's own challenge frame, with that version
 abbrev pub own_challenge : AdmissionRules → ℕ → List ℕ
@@ -37,11 +42,14 @@ status_owed status = []
 
 -- a challenge owes the own challenge, and the digest for the peer's
 abbrev pub reply_owed : AdmissionRules → List ℕ → ℕ → ℕ → List (List ℕ)
-reply_owed rules peer challenge peers = reply_bytes (record { challenge = challenge; digest = digest_of (cookie_of rules peer) peers }) ∷ []
+reply_owed rules peer challenge peers =
+    reply_bytes (record { challenge = challenge; digest = digest_of (cookie_of rules peer) peers })
+    ∷ []
 
 -- a reply owes the digest for the peer's challenge
 abbrev pub ack_owed : AdmissionRules → List ℕ → ℕ → List (List ℕ)
-ack_owed rules peer peers = ack_bytes (record { digest = digest_of (cookie_of rules peer) peers }) ∷ []
+ack_owed rules peer peers = ack_bytes (record { digest = digest_of (cookie_of rules peer) peers })
+    ∷ []
 
 -- a refusal owes the status that says so, by three of the rules
 abbrev pub refusal_frames : StateRule → List (List ℕ)

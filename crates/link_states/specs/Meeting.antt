@@ -3,7 +3,8 @@ use Rattle.std.specs.Prelude.{◌≡◌, ◌≢◌, ◌<◌, ◌^◌}
 use Rattle.dist_types.specs.Text.{IsNodeName}
 use Rattle.admission_rules.specs.Admission.{AdmissionRules, cookie_of, IsAllowed}
 
--- the first may dial the second: two nodes with one cookie for each other, of which the second allows the first
+-- the first may dial the second: two nodes with one cookie for each other, of which the second
+-- allows the first
 pub record MayDial (a b : AdmissionRules) : Type 0 where
   pub dialler : IsNodeName a.own
   pub acceptor : IsNodeName b.own

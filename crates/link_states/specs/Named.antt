@@ -13,9 +13,11 @@ use Rattle.link_states.specs.Frames.{greeting_owed}
 
 -- the status that answers a name frame
 abbrev pub welcome : Bool → Bool → StatusWord
-welcome is_up gives_up = if is_up then word.Alive else if gives_up then word.OkSimultaneous else word.Ok
+welcome is_up gives_up = if is_up then word.Alive else if gives_up then word.OkSimultaneous else
+    word.Ok
 
--- a peer of which a link is up is asked whether it wants another; an own dial to any other peer is given up
+-- a peer of which a link is up is asked whether it wants another; an own dial to any other peer is
+-- given up
 abbrev pub named_by : AdmissionRules → Pending → ℕ → Name → Named
 named_by rules pending challenge peer =
     let state = introduced rules challenge peer in

@@ -10,14 +10,16 @@ use Rattle.link_states.specs.States.{Dialled, Introduced}
 abbrev pub is_visible : AdmissionRules → ℕ → Bool
 is_visible rules flags = not rules.hidden && has_bit 0 flags
 
--- the version of the link's messages: 2 where the node knows it and the peer's frame says it, else 1
+-- the version of the link's messages: 2 where the node knows it and the peer's frame says it, else
+-- 1
 abbrev pub link_version : AdmissionRules → ℕ → ℕ
 link_version rules version = if (rules.links == 2) && (version == 2) then 2 else 1
 
 -- the peer is as its name frame says
 abbrev pub IsPeer : AdmissionRules → Peer → Name → Type 0
 IsPeer rules peer said =
-    (peer.name ≡ said.name) × (peer.creation ≡ said.creation) × (peer.visible ≡ is_visible rules said.flags)
+    (peer.name ≡ said.name) × (peer.creation ≡ said.creation)
+    × (peer.visible ≡ is_visible rules said.flags)
     × (peer.version ≡ link_version rules said.version)
 
 -- an acceptor with this challenge, after its peer's name frame

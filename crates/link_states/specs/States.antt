@@ -25,4 +25,10 @@ pub record Linked : Type 0 where
 -- the state once its peer has answered the challenge
 abbrev pub linked : Introduced → Linked
 linked state =
-    record { peer = state.peer; creation = state.creation; visible = state.visible; version = state.version; proof = state.challenge }
+    record {
+      peer = state.peer;
+      creation = state.creation;
+      visible = state.visible;
+      version = state.version;
+      proof = state.challenge;
+    }

@@ -10,9 +10,11 @@ use Rattle.link_states.specs.declared.stopped.Stopped.TheVariants as stopped
 use Rattle.link_states.specs.Checks.{Check, first_broken}
 use Rattle.link_states.specs.Frames.{refusal_frames}
 
--- a state ends by the first rule that is broken, with the frames that it owes; for want of memory it is handed back as it was
+-- a state ends by the first rule that is broken, with the frames that it owes; for want of memory
+-- it is handed back as it was
 abbrev pub IsStopped : {S : Type 0} → Stopped S → S → List Check → Type 0
-IsStopped (stopped.Ended rule frames) state checks = (first_broken checks ≡ Some rule) × (frames ≡ refusal_frames rule)
+IsStopped (stopped.Ended rule frames) state checks = (first_broken checks ≡ Some rule)
+    × (frames ≡ refusal_frames rule)
 IsStopped (stopped.OutOfMemory back) state checks = back ≡ state
 
 -- the refusal names the first check that fails

@@ -43,7 +43,13 @@ impl Model for AwaitAck {
 
 impl AwaitAck {
     pub(crate) fn new(peer: Peer, challenge: Challenge) -> AwaitAck
-        ensures { result ≡ record { peer = peer.name; creation = peer.creation; visible = peer.visible; version = peer.version; challenge = challenge } }
+        ensures { result ≡ record {
+          peer = peer.name;
+          creation = peer.creation;
+          visible = peer.visible;
+          version = peer.version;
+          challenge = challenge;
+        } }
     {
         AwaitAck { peer, challenge }
     }
@@ -67,7 +73,8 @@ impl AwaitAck {
             PassesAll (ack_checks admission.now self.peer self.challenge (ack_frame body.now))
             × (up ≡ linked self) × (frames ≡ [])) }
         ensures refused { IfErr result (λ stopped.
-            IsStopped stopped self (ack_checks admission.now self.peer self.challenge (ack_frame body.now))) }
+            IsStopped stopped self (ack_checks admission.now self.peer self.challenge
+            (ack_frame body.now))) }
     {
         let Ok(ack) = decode_ack(body) else {
             return Err(stop(alloc, Refusal::Broken(StateRule::BadFrame), self));

@@ -43,7 +43,13 @@ impl Model for AwaitAnswer {
 
 impl AwaitAnswer {
     pub(crate) fn new(peer: Peer, challenge: Challenge) -> AwaitAnswer
-        ensures { result ≡ record { peer = peer.name; creation = peer.creation; visible = peer.visible; version = peer.version; challenge = challenge } }
+        ensures { result ≡ record {
+          peer = peer.name;
+          creation = peer.creation;
+          visible = peer.visible;
+          version = peer.version;
+          challenge = challenge;
+        } }
     {
         AwaitAnswer { peer, challenge }
     }
@@ -65,7 +71,8 @@ impl AwaitAnswer {
     ) -> Result<(AwaitReply, Bodies), Stopped<AwaitAnswer>>
         ensures ok { IfOk result (λ (next, frames). PassesAll (answer_checks (status_of body.now))
             × (next ≡ self) × (frames ≡ own_challenge admission.now self.challenge ∷ [])) }
-        ensures refused { IfErr result (λ stopped. IsStopped stopped self (answer_checks (status_of body.now))) }
+        ensures refused { IfErr result (λ stopped.
+            IsStopped stopped self (answer_checks (status_of body.now))) }
     {
         let frames = match self.owed(alloc, body, admission) {
             Ok(frames) => frames,
@@ -79,7 +86,8 @@ impl AwaitAnswer {
     fn owed(&self, alloc: Global, body: &[u8], admission: &Admission) -> Result<Bodies, Refusal>
         ensures ok { IfOk result (λ frames. PassesAll (answer_checks (status_of body.now))
             × (frames ≡ own_challenge admission.now self.now.challenge ∷ [])) }
-        ensures refused { IfErr result (λ refusal. IsBroken refusal (answer_checks (status_of body.now))) }
+        ensures refused { IfErr result (λ refusal.
+            IsBroken refusal (answer_checks (status_of body.now))) }
     {
         let word = decode_status(body)?;
         unless(word == StatusWord::True, StateRule::PeerSaid)?;

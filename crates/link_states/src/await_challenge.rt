@@ -62,7 +62,8 @@ impl AwaitChallenge {
         admission: &Admission,
         _links: &L,
     ) -> Result<(AwaitAck, Bodies), Stopped<AwaitChallenge>>
-        ensures ok { IfOk result (λ (next, frames). PassesAll (challenge_checks self.peer (challenge_frame body.now))
+        ensures ok { IfOk result (λ (next, frames).
+            PassesAll (challenge_checks self.peer (challenge_frame body.now))
             × IsSomeAnd (challenge_frame body.now) (λ peer. (next ≡ found admission.now self peer)
             × (frames ≡ reply_owed admission.now self.peer self.challenge peer.challenge))) }
         ensures refused { IfErr result (λ stopped.
@@ -84,9 +85,11 @@ impl AwaitChallenge {
         body: &'a [u8],
         admission: &Admission,
     ) -> Result<(ChallengeFrame<'a>, Bodies), Refusal>
-        ensures ok { IfOk result (λ (given, frames). PassesAll (challenge_checks self.now.peer (challenge_frame body.now))
+        ensures ok { IfOk result (λ (given, frames).
+            PassesAll (challenge_checks self.now.peer (challenge_frame body.now))
             × (challenge_frame body.now ≡ Some (challenge_said given))
-            × (frames ≡ reply_owed admission.now self.now.peer self.now.challenge given.challenge)) }
+            × (frames ≡ reply_owed admission.now self.now.peer self.now.challenge
+            given.challenge)) }
         ensures refused { IfErr result (λ refusal.
             IsBroken refusal (challenge_checks self.now.peer (challenge_frame body.now))) }
     {

@@ -69,10 +69,13 @@ impl AwaitName {
         admission: &Admission,
         links: &L,
     ) -> Result<Named, Stopped<AwaitName>>
-        ensures ok { IfOk result (λ named. PassesAll (name_checks admission.now (L.pending links.now) (name_frame body.now))
-            × IsSomeAnd (name_frame body.now) (λ peer. named ≡ named_by admission.now (L.pending links.now) self peer)) }
+        ensures ok { IfOk result (λ named.
+            PassesAll (name_checks admission.now (L.pending links.now) (name_frame body.now))
+            × IsSomeAnd (name_frame body.now) (λ peer. named
+            ≡ named_by admission.now (L.pending links.now) self peer)) }
         ensures refused { IfErr result (λ stopped.
-            IsStopped stopped self (name_checks admission.now (L.pending links.now) (name_frame body.now))) }
+            IsStopped stopped self (name_checks admission.now (L.pending links.now)
+            (name_frame body.now))) }
     {
         let (peer, standing) = match peer_named(alloc, body, admission, links) {
             Ok(named) => named,
@@ -124,7 +127,8 @@ fn peer_named<L: OtherLinks>(
     Ok((peer, standing))
 }
 
-/// Whether the name is the node's own. Who says it is owed nothing, so that is found without memory.
+/// Whether the name is the node's own. Who says it is owed nothing, so that is found without
+/// memory.
 fn is_own(admission: &Admission, name: &[u8]) -> bool
     ensures own { result ≡ bytes_eq name.now admission.now.own }
     ensures name { IsTrue result → is_node_name name.now ≡ true }
@@ -140,7 +144,8 @@ fn allows(admission: &Admission, name: &NodeName) -> bool
 
 /// Whether the own dial to the peer goes on in place of the peer's.
 fn outranks(admission: &Admission, standing: Standing, peer: &NodeName) -> bool
-    ensures { result ≡ (not standing.is_up && standing.is_dialled && is_gt (text_cmp admission.now.own peer.now)) }
+    ensures { result ≡ (not standing.is_up && standing.is_dialled
+        && is_gt (text_cmp admission.now.own peer.now)) }
 {
     !standing.is_up && standing.is_dialled && admission.own() > peer
 }

@@ -43,7 +43,13 @@ impl Model for AwaitReply {
 
 impl AwaitReply {
     pub(crate) fn new(peer: Peer, challenge: Challenge) -> AwaitReply
-        ensures { result ≡ record { peer = peer.name; creation = peer.creation; visible = peer.visible; version = peer.version; challenge = challenge } }
+        ensures { result ≡ record {
+          peer = peer.name;
+          creation = peer.creation;
+          visible = peer.visible;
+          version = peer.version;
+          challenge = challenge;
+        } }
     {
         AwaitReply { peer, challenge }
     }
@@ -66,9 +72,11 @@ impl AwaitReply {
         ensures ok { IfOk result (λ (up, frames).
             PassesAll (reply_checks admission.now self.peer self.challenge (reply_frame body.now))
             × (up ≡ linked self)
-            × IsSomeAnd (reply_frame body.now) (λ reply. frames ≡ ack_owed admission.now self.peer reply.challenge)) }
+            × IsSomeAnd (reply_frame body.now) (λ reply. frames
+            ≡ ack_owed admission.now self.peer reply.challenge)) }
         ensures refused { IfErr result (λ stopped.
-            IsStopped stopped self (reply_checks admission.now self.peer self.challenge (reply_frame body.now))) }
+            IsStopped stopped self (reply_checks admission.now self.peer self.challenge
+            (reply_frame body.now))) }
     {
         let (digest, frames) = match self.owed(alloc, body, admission) {
             Ok(owed) => owed,
@@ -89,9 +97,11 @@ impl AwaitReply {
         admission: &Admission,
     ) -> Result<([u8; 16], Bodies), Refusal>
         ensures ok { IfOk result (λ (digest, frames). IsSomeAnd (reply_frame body.now) (λ reply.
-            (digest ≡ reply.digest) × (frames ≡ ack_owed admission.now self.now.peer reply.challenge))) }
+            (digest ≡ reply.digest)
+            × (frames ≡ ack_owed admission.now self.now.peer reply.challenge))) }
         ensures refused { IfErr result (λ refusal.
-            IsBroken refusal (reply_checks admission.now self.now.peer self.now.challenge (reply_frame body.now))) }
+            IsBroken refusal (reply_checks admission.now self.now.peer self.now.challenge
+            (reply_frame body.now))) }
     {
         let reply = decode_reply(body)?;
         let digest = reply.digest;

@@ -47,7 +47,8 @@ impl AwaitStatus {
         admission: &Admission,
     ) -> Result<(AwaitStatus, HandshakeBody), (NodeName, Challenge)>
         ensures ok { IfOk result (λ (state, frame).
-            (state ≡ record { peer = peer; challenge = challenge }) × (frame ≡ own_name admission.now)) }
+            (state ≡ record { peer = peer; challenge = challenge })
+            × (frame ≡ own_name admission.now)) }
         ensures memory { IfErr result (λ back. back ≡ (peer, challenge)) }
     {
         match name_frame(alloc, admission) {
@@ -76,7 +77,8 @@ impl AwaitStatus {
             × (next ≡ self)
             × IsSomeAnd (status_of body.now) (λ word. frames ≡ status_owed word)) }
         ensures refused { IfErr result (λ stopped.
-            IsStopped stopped self (status_checks (L.pending links.now) self.peer (status_of body.now))) }
+            IsStopped stopped self (status_checks (L.pending links.now) self.peer
+            (status_of body.now))) }
     {
         let frames = match self.owed(alloc, body, links) {
             Ok(frames) => frames,
@@ -88,10 +90,12 @@ impl AwaitStatus {
 
     /// The answer to a status with which the handshake goes on.
     fn owed<L: OtherLinks>(&self, alloc: Global, body: &[u8], links: &L) -> Result<Bodies, Refusal>
-        ensures ok { IfOk result (λ frames. PassesAll (status_checks (L.pending links.now) self.now.peer (status_of body.now))
+        ensures ok { IfOk result (λ frames.
+            PassesAll (status_checks (L.pending links.now) self.now.peer (status_of body.now))
             × IsSomeAnd (status_of body.now) (λ word. frames ≡ status_owed word)) }
         ensures refused { IfErr result (λ refusal.
-            IsBroken refusal (status_checks (L.pending links.now) self.now.peer (status_of body.now))) }
+            IsBroken refusal (status_checks (L.pending links.now) self.now.peer
+            (status_of body.now))) }
     {
         let word = decode_status(body)?;
         unless(goes_on(word), StateRule::PeerSaid)?;

@@ -4,8 +4,8 @@ ghost use Rattle.std.specs.Prelude.{◌≡◌, ◌<◌, ◌^◌, length, IfOk};
 use dist_types::{Body, OutOfMemory};
 use std::marker::Model;
 
-/// The bytes of a frame of the handshake, without the length before them, which has 2 bytes (Distribution Protocol,
-/// Distribution Handshake): at most 65,535.
+/// The bytes of a frame of the handshake, without the length before them, which has 2 bytes
+/// (Distribution Protocol, Distribution Handshake): at most 65,535.
 #[derive(Debug, PartialEq, Eq)]
 pub struct HandshakeBody {
     body: Body,

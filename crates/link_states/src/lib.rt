@@ -1,5 +1,5 @@
-//! The states of both ends of the distribution handshake, version 6, each a type of its own (Distribution Protocol,
-//! Distribution Handshake).
+//! The states of both ends of the distribution handshake, version 6, each a type of its own
+//! (Distribution Protocol, Distribution Handshake).
 #![tactic(auto)]
 
 mod await_ack;

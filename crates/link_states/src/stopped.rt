@@ -33,7 +33,8 @@ impl<S> Stopped<S> {
     }
 }
 
-/// Ends a state whose frame was refused, or gives it back. The state's challenge is discarded where it ends.
+/// Ends a state whose frame was refused, or gives it back. The state's challenge is discarded where
+/// it ends.
 pub fn stop<S: Drop>(alloc: Global, refusal: Refusal, state: S) -> Stopped<S>
     ensures { (checks : List Check) → IsBroken refusal checks → IsStopped result state checks }
 {

@@ -35,7 +35,13 @@ impl Model for Up {
 
 impl Up {
     pub(crate) fn new(peer: Peer, proof: Proof) -> Up
-        ensures { result ≡ record { peer = peer.name; creation = peer.creation; visible = peer.visible; version = peer.version; proof = proof } }
+        ensures { result ≡ record {
+          peer = peer.name;
+          creation = peer.creation;
+          visible = peer.visible;
+          version = peer.version;
+          proof = proof;
+        } }
     {
         Up { peer, proof }
     }
@@ -61,7 +67,8 @@ impl Up {
         self.peer.visible
     }
 
-    /// The version of the link's messages: 2 where the node knows it and the peer's name frame or challenge frame says it, else 1.
+    /// The version of the link's messages: 2 where the node knows it and the peer's name frame or
+    /// challenge frame says it, else 1.
     pub fn version(&self) -> u8
         ensures { result ≡ self.now.version }
     {

@@ -49,5 +49,6 @@ pub record AdmissionFollows (w : AdmissionWords) (rules : AdmissionRules) : Type
 
 -- why a cookie for a peer is refused
 abbrev pub IsCookieRefusal : (old after : AdmissionRules) → CoreFault → Type 0
-IsCookieRefusal old after (faults.Refused r) = (r ≡ rule.CookiesFull) × (length old.peers ≤ max_peers) × (max_peers < length after.peers)
+IsCookieRefusal old after (faults.Refused r) = (r ≡ rule.CookiesFull)
+    × (length old.peers ≤ max_peers) × (max_peers < length after.peers)
 IsCookieRefusal old after faults.OutOfMemory = Unit {0}

@@ -20,12 +20,15 @@ is_query (event.Groups s) = true
 is_query (event.LocalGroups s) = true
 is_query e = false
 
--- the refused event is no frame, or a frame of a link that isn't unfinished, to which nothing is owed
+-- the refused event is no frame, or a frame of a link that isn't unfinished, to which nothing is
+-- owed
 abbrev pub refuses_calmly : History → Event → Rule → Bool
-refuses_calmly h (event.Frame l body) r = (not (is_open l h.entries) || is_whole l h.entries) && is_empty (refusal_owes r)
+refuses_calmly h (event.Frame l body) r = (not (is_open l h.entries) || is_whole l h.entries)
+    && is_empty (refusal_owes r)
 refuses_calmly h e r = true
 
 -- where a rule is named, it is the first that the event breaks, and no link ends
 abbrev pub IsCalmFault : History → ℕ → Event → CoreFault → Type 0
-IsCalmFault h seat e (faults.Refused r) = (first_broken (checks h seat e) ≡ Some r) × (refuses_calmly h e r ≡ true)
+IsCalmFault h seat e (faults.Refused r) = (first_broken (checks h seat e) ≡ Some r)
+    × (refuses_calmly h e r ≡ true)
 IsCalmFault h seat e faults.OutOfMemory = Unit {0}

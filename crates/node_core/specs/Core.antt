@@ -45,7 +45,13 @@ pub record Follows (h : History) (parts : Parts) : Type 0 where
   pub monitors : FollowsPolicy (audit_of h) parts.monitors
 
 abbrev pub parts : Kept → Parts
-parts kept = record { admission = kept.admission; processes = kept.processes; scopes = kept.scopes.items; links = kept.links.items; monitors = kept.monitors }
+parts kept = record {
+  admission = kept.admission;
+  processes = kept.processes;
+  scopes = kept.scopes.items;
+  links = kept.links.items;
+  monitors = kept.monitors;
+}
 
 -- what is kept is that of a node with this history
 pub record Keeps (h : History) (kept : Kept) : Type 0 where

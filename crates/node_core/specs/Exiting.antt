@@ -44,7 +44,8 @@ all_frames (r ∷ rs) (c ∷ cs) l parted =
     exit_frames r c.groups l parted ++ all_frames rs cs l parted
 
 -- the changes of all scopes but those that have none, and the Leaves prepared
-pub record AreExits (p : Pid) (rs : List Running) (old new : List KeptLink) (cs : List Change) : Type 0 where
+pub record AreExits (p : Pid) (rs : List Running) (old new : List KeptLink)
+    (cs : List Change) : Type 0 where
   pub all : List Change
   pub each : AllZip (IsParting (λ t. count_after_exit t p)) rs all
   pub some : cs ≡ filter (λ c. not (is_empty c.groups)) all

@@ -34,8 +34,10 @@ pub record IsUpLink (call : Call) (kept : Kept) (place number : ℕ) : Type 0 wh
   pub link : IsLinkHere call kept place number
   pub up : is_up number call.past.entries ≡ true
 
--- the message, for the scope that is kept at this place, breaks no rule but those that the table tells
-pub record IsSoundMessage (call : Call) (kept : Kept) (place at number : ℕ) (message : Message2) : Type 0 where
+-- the message, for the scope that is kept at this place, breaks no rule but those that the table
+-- tells
+pub record IsSoundMessage (call : Call) (kept : Kept) (place at number : ℕ)
+    (message : Message2) : Type 0 where
   pub on : IsUpLink call kept place number
   pub there : scope_place (scope_in message) kept.scopes.items ≡ Some at
   pub holds : first_broken (early_checks call.past number message) ≡ None

@@ -1,4 +1,5 @@
--- What a frame of the handshake makes of a link's state: the next one, or the first rule that is broken.
+-- What a frame of the handshake makes of a link's state: the next one, or the first rule that is
+-- broken.
 use Rattle.std.specs.Prelude.{◌≡◌, ℕ, Bool, true, false, List, [], ◌∷◌, Option, Some, None}
 use Rattle.std.specs.List.{flat_map}
 use Rattle.std.specs.Option.{option_map, option_to_list}
@@ -53,9 +54,12 @@ is_handshake s = true
 abbrev pub state_checks : AdmissionRules → Pending → LinkState → List ℕ → List Check
 state_checks rules pending (state.Name challenge) body = name_checks rules pending (name_frame body)
 state_checks rules pending (state.Answer s) body = answer_checks (status_of body)
-state_checks rules pending (state.Reply s) body = reply_checks rules s.peer s.challenge (reply_frame body)
-state_checks rules pending (state.Status dial) body = status_checks pending dial.peer (status_of body)
-state_checks rules pending (state.Challenge dial) body = challenge_checks dial.peer (challenge_frame body)
+state_checks rules pending (state.Reply s) body =
+    reply_checks rules s.peer s.challenge (reply_frame body)
+state_checks rules pending (state.Status dial) body =
+    status_checks pending dial.peer (status_of body)
+state_checks rules pending (state.Challenge dial) body =
+    challenge_checks dial.peer (challenge_frame body)
 state_checks rules pending (state.Ack s) body = ack_checks rules s.peer s.challenge (ack_frame body)
 state_checks rules pending s body = []
 
@@ -66,16 +70,25 @@ heard_named (named.Reply s frames gives_up) = heard.On (state.Reply s) frames gi
 
 -- what an accepted frame leads to
 abbrev pub accepted_as : AdmissionRules → Pending → LinkState → List ℕ → Option Heard
-accepted_as rules pending (state.Name challenge) body = option_map (λ f. heard_named (named_by rules pending challenge f)) (name_frame body)
-accepted_as rules pending (state.Answer s) body = Some (heard.On (state.Reply s) (own_challenge rules s.challenge ∷ []) false)
-accepted_as rules pending (state.Reply s) body = option_map (λ f. heard.Up (linked s) (ack_owed rules s.peer f.challenge)) (reply_frame body)
-accepted_as rules pending (state.Status dial) body = option_map (λ w. heard.On (state.Challenge dial) (status_owed w) false) (status_of body)
-accepted_as rules pending (state.Challenge dial) body = option_map (λ f. heard.On (state.Ack (found rules dial f)) (reply_owed rules dial.peer dial.challenge f.challenge) false) (challenge_frame body)
+accepted_as rules pending (state.Name challenge) body =
+    option_map (λ f. heard_named (named_by rules pending challenge f)) (name_frame body)
+accepted_as rules pending (state.Answer s) body =
+    Some (heard.On (state.Reply s) (own_challenge rules s.challenge ∷ []) false)
+accepted_as rules pending (state.Reply s) body =
+    option_map (λ f. heard.Up (linked s) (ack_owed rules s.peer f.challenge)) (reply_frame body)
+accepted_as rules pending (state.Status dial) body =
+    option_map (λ w. heard.On (state.Challenge dial) (status_owed w) false) (status_of body)
+accepted_as rules pending (state.Challenge dial) body =
+    option_map (λ f. heard.On (state.Ack (found rules dial f))
+    (reply_owed rules dial.peer dial.challenge f.challenge) false) (challenge_frame body)
 accepted_as rules pending (state.Ack s) body = Some (heard.Up (linked s) [])
 accepted_as rules pending s body = None
 
--- what a frame leads to: on, where it breaks no rule; else to the end, by the first rule, with the frames that it owes
+-- what a frame leads to: on, where it breaks no rule; else to the end, by the first rule, with the
+-- frames that it owes
 abbrev pub Hears : AdmissionRules → Pending → LinkState → List ℕ → Heard → Type 0
-Hears rules pending s body (heard.Ended r frames) = (b : StateRule) × (r ≡ rule_of b) × (first_broken (state_checks rules pending s body) ≡ Some b) × (frames ≡ refusal_frames b)
+Hears rules pending s body (heard.Ended r frames) = (b : StateRule) × (r ≡ rule_of b)
+    × (first_broken (state_checks rules pending s body) ≡ Some b) × (frames ≡ refusal_frames b)
 Hears rules pending s body (heard.OutOfMemory back) = back ≡ s
-Hears rules pending s body result = (first_broken (state_checks rules pending s body) ≡ None) × (accepted_as rules pending s body ≡ Some result)
+Hears rules pending s body result = (first_broken (state_checks rules pending s body) ≡ None)
+    × (accepted_as rules pending s body ≡ Some result)

@@ -1,4 +1,5 @@
--- The links of a node are those of its history: each in the state that the policy's words give, with the frames that wait for it.
+-- The links of a node are those of its history: each in the state that the policy's words give,
+-- with the frames that wait for it.
 use Rattle.std.specs.Prelude.{◌≡◌, ℕ, Bool, true, false, ◌&&◌, not, List, [], Option, Some, reverse, map}
 use Rattle.std.specs.List.{filter, AllByRecursion}
 use Rattle.dist_types.specs.Flags.{has_bit}
@@ -60,8 +61,10 @@ pub record IsDialled (f : LinkFacts) (dial : Dialled) : Type 0 where
   pub peer : IsPeer f dial.peer
   pub challenge : dial.challenge ≡ f.challenge
 
--- what the peer gave: its name, its creation, flags that make the link visible or not, and a version that makes the link's
-pub record IsGiven (f : LinkFacts) (n : Name) (name : List ℕ) (creation : ℕ) (visible : Bool) (version : ℕ) : Type 0 where
+-- what the peer gave: its name, its creation, flags that make the link visible or not, and a
+-- version that makes the link's
+pub record IsGiven (f : LinkFacts) (n : Name) (name : List ℕ) (creation : ℕ) (visible : Bool)
+    (version : ℕ) : Type 0 where
   pub said : f.said ≡ Some n
   pub name_is : n.name ≡ name
   pub creation_is : creation ≡ n.creation
@@ -69,7 +72,8 @@ pub record IsGiven (f : LinkFacts) (n : Name) (name : List ℕ) (creation : ℕ)
   pub version_is : version ≡ f.version
 
 -- an end whose peer has given its flags, its creation and its version
-pub record IsIntroduced (f : LinkFacts) (name : List ℕ) (creation : ℕ) (visible : Bool) (version number : ℕ) : Type 0 where
+pub record IsIntroduced (f : LinkFacts) (name : List ℕ) (creation : ℕ) (visible : Bool)
+    (version number : ℕ) : Type 0 where
   pub peer : IsPeer f name
   pub said : (n : Name) × IsGiven f n name creation visible version
   pub challenge : number ≡ f.challenge
@@ -77,12 +81,16 @@ pub record IsIntroduced (f : LinkFacts) (name : List ℕ) (creation : ℕ) (visi
 -- the state is what these words say
 abbrev pub IsState : LinkFacts → LinkState → Type 0
 IsState f (state.Name challenge) = Awaits f AwaitName false × (challenge ≡ f.challenge)
-IsState f (state.Answer s) = Awaits f AwaitAnswer false × IsIntroduced f s.peer s.creation s.visible s.version s.challenge
-IsState f (state.Reply s) = Awaits f AwaitReply false × IsIntroduced f s.peer s.creation s.visible s.version s.challenge
+IsState f (state.Answer s) = Awaits f AwaitAnswer false
+    × IsIntroduced f s.peer s.creation s.visible s.version s.challenge
+IsState f (state.Reply s) = Awaits f AwaitReply false
+    × IsIntroduced f s.peer s.creation s.visible s.version s.challenge
 IsState f (state.Status dial) = Awaits f AwaitStatus false × IsDialled f dial
 IsState f (state.Challenge dial) = Awaits f AwaitChallenge false × IsDialled f dial
-IsState f (state.Ack s) = Awaits f AwaitAck false × IsIntroduced f s.peer s.creation s.visible s.version s.challenge
-IsState f (state.Up s) = Awaits f AwaitMessage true × IsIntroduced f s.peer s.creation s.visible s.version s.proof
+IsState f (state.Ack s) = Awaits f AwaitAck false
+    × IsIntroduced f s.peer s.creation s.visible s.version s.challenge
+IsState f (state.Up s) = Awaits f AwaitMessage true
+    × IsIntroduced f s.peer s.creation s.visible s.version s.proof
 IsState f state.Ended = f.open_now ≡ false
 
 -- what the policy's words say of all links

@@ -15,8 +15,8 @@ use Rattle.node_core.specs.declared.link_state.LinkState.{LinkState}
 use Rattle.node_core.specs.declared.link_state.LinkState.TheVariants as state
 
 -- the number of the entry that opened it, its state, what is kept of a message of which parts came,
--- the frames that wait for it, those that are prepared for it, and how many more it can take without
--- memory
+-- the frames that wait for it, those that are prepared for it, and how many more it can take
+-- without memory
 pub record KeptLink : Type 0 where
   pub number : ℕ
   pub state : LinkState
@@ -73,7 +73,10 @@ dialled_link rules number peer challenge room = record {
 -- the link, where nothing is kept of a message of this scope
 abbrev pub broken_off : List ℕ → KeptLink → KeptLink
 broken_off s link =
-    record link { begun = cond (option_map_or (λ b. same b.scope s) link.begun false) None link.begun }
+    record link {
+      begun = cond (option_map_or (λ b. same b.scope s) link.begun false) None
+          link.begun;
+    }
 
 -- the link, where this is kept of a message
 abbrev pub begun_with : KeptLink → Option Begun → KeptLink
@@ -128,7 +131,8 @@ known_peer s = dialled_peer s
 
 -- the rows are of processes of the peer, with the creation that it gave on the link, which is up
 abbrev pub are_of_peer : LinkState → List Row → Bool
-are_of_peer (state.Up up) rows = list_all (λ r. same r.pid.node up.peer && r.pid.creation == up.creation) rows
+are_of_peer (state.Up up) rows = list_all (λ r. same r.pid.node up.peer
+    && r.pid.creation == up.creation) rows
 are_of_peer s rows = false
 
 -- the own dial to a peer, if there is one

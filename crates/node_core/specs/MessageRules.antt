@@ -1,4 +1,5 @@
--- What a message has to meet before the table of its scope is asked, and what messages make of a scope.
+-- What a message has to meet before the table of its scope is asked, and what messages make of a
+-- scope.
 use Rattle.std.specs.Prelude.{◌≡◌, ℕ, ◌+◌, ◌-◌, ◌/◌, ◌++◌, Bool, true, false, ◌||◌, cond, nat_le}
 use Rattle.std.specs.Prelude.{List, [], ◌∷◌, length, Option, Some, None}
 use Rattle.dist_types.specs.declared.pid.Pid.{Pid}
@@ -47,7 +48,8 @@ early_checks h l (frames.Down s) = is_shown h l ∷ runs h s ∷ []
 -- ---- what messages make of a scope
 
 -- the scope has these counts, and the links of these numbers are heard and told
-pub record HasBecome (old new : Running) (count : List ℕ → Pid → ℕ) (hears tells : List ℕ) : Type 0 where
+pub record HasBecome (old new : Running) (count : List ℕ → Pid → ℕ)
+    (hears tells : List ℕ) : Type 0 where
   pub scope : new.scope ≡ old.scope
   pub rows : Counts old.table new.table count
   pub heard : new.heard.items ≡ hears
@@ -104,7 +106,8 @@ abbrev pub sync_frames : Bool → ℕ → ℕ
 sync_frames parted rows = cond parted ((rows - 1) / max_rows + 1) 1
 
 -- the frames of a Sync with all own rows, in parts or whole
-pub record AreSyncFrames (r : Running) (s : List ℕ) (parted : Bool) (frames : List OutFrame) : Type 0 where
+pub record AreSyncFrames (r : Running) (s : List ℕ) (parted : Bool)
+    (frames : List OutFrame) : Type 0 where
   pub rows : List Row
   pub own : IsRowListing (local_count r.table) rows
   pub frames_are : frames ≡ said_in (said.Sync s rows) parted

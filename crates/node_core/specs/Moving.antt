@@ -40,7 +40,9 @@ join_of s g ps = said.Join s (map (row g) (listing pid_cmp (λ p. mentions p ps)
 
 -- the Leave of those that a leave of these processes takes
 abbrev pub leave_of : Running → List ℕ → List Pid → Message
-leave_of r g ps = said.Leave r.scope (map (row g) (listing pid_cmp (λ p. min (mentions p ps) (local_count r.table g p)) ps))
+leave_of r g ps =
+    said.Leave r.scope
+    (map (row g) (listing pid_cmp (λ p. min (mentions p ps) (local_count r.table g p)) ps))
 
 -- the message is prepared for the links that are told of the scope, if it is said
 abbrev pub IsPrepared : Message → Running → List KeptLink → List KeptLink → Type 0

@@ -25,7 +25,8 @@ pub record IsParting (left : Table → List ℕ → Pid → ℕ) (r : Running) (
   pub groups : IsDifference (count_of r.table) (left r.table) c.groups
 
 -- the changes of all scopes, but those that have none
-pub record ArePartings (left : Table → List ℕ → Pid → ℕ) (rs : List Running) (cs : List Change) : Type 0 where
+pub record ArePartings (left : Table → List ℕ → Pid → ℕ) (rs : List Running)
+    (cs : List Change) : Type 0 where
   pub all : List Change
   pub each : AllZip (IsParting left) rs all
   pub some : cs ≡ filter (λ c. not (is_empty c.groups)) all
@@ -41,7 +42,8 @@ pub record HasParted (away : Leaving) (old new : Running) : Type 0 where
 abbrev pub without : ℕ → List ℕ → List ℕ
 without l numbers = filter (λ k. not (nat_eq k l)) numbers
 
--- the scope after link l of node n is gone: nobody is heard or told over it, and the rows of the node have left
+-- the scope after link l of node n is gone: nobody is heard or told over it, and the rows of the
+-- node have left
 pub record IsCutOff (l : ℕ) (n : List ℕ) (old new : Running) : Type 0 where
   pub scope : new.scope ≡ old.scope
   pub rows : Counts old.table new.table (count_after_drop old.table n)

@@ -55,7 +55,11 @@ frame_awaited state.Ended = None
 
 -- link l, and what it awaits where it is open
 abbrev pub awaiting : History → ℕ → Awaiting
-awaiting h l = record { link = l; frame = cond (is_open l h.entries) (Some (frame_of (awaits l h.entries))) None }
+awaiting h l = record {
+  link = l;
+  frame =
+      cond (is_open l h.entries) (Some (frame_of (awaits l h.entries))) None;
+}
 
 -- ---- rows
 
@@ -66,8 +70,10 @@ event_of s (query.LocalMembers g) = event.LocalMembers s g.now
 event_of s query.Groups = event.Groups s
 event_of s query.LocalGroups = event.LocalGroups s
 
--- what the policy answers the event of any seat, or its first broken rule, whether or not the audit is full
+-- what the policy answers the event of any seat, or its first broken rule, whether or not the audit
+-- is full
 abbrev pub IsAnswer : History → Event → Result Reply CoreFault → Type 0
-IsAnswer h e (Ok reply) = (seat : ℕ) → (first_broken (checks h seat e) ≡ None) × (answer h seat e ≡ reply)
+IsAnswer h e (Ok reply) = (seat : ℕ) → (first_broken (checks h seat e) ≡ None)
+    × (answer h seat e ≡ reply)
 IsAnswer h e (Err (faults.Refused rule)) = (seat : ℕ) → first_broken (checks h seat e) ≡ Some rule
 IsAnswer h e (Err faults.OutOfMemory) = Unit {0}

@@ -1,4 +1,5 @@
--- The scopes of a node are those that run: each with the rows that are listed, and the links over which it is shared.
+-- The scopes of a node are those that run: each with the rows that are listed, and the links over
+-- which it is shared.
 use Rattle.std.specs.Prelude.{◌≡◌, ℕ, Bool, cond, nat_eq, List, [], ◌∷◌, ◌++◌, Option, map}
 use Rattle.std.specs.Prelude.{position}
 use Rattle.std.specs.List.{list_any, AllByRecursion}

@@ -22,8 +22,10 @@ use Rattle.node_core.specs.Core.{Keeps}
 
 -- the policy's verdict on the event, and its history after it; for want of memory the history stays
 unfoldable pub IsStepped : History → ℕ → Event → History → Result Reply CoreFault → Type 0
-IsStepped old seat e new (Ok reply) = (verdict old seat e ≡ verdicts.Accepted reply) × (new ≡ after old seat e)
-IsStepped old seat e new (Err (faults.Refused rule)) = (verdict old seat e ≡ verdicts.Refused rule) × (new ≡ after old seat e)
+IsStepped old seat e new (Ok reply) = (verdict old seat e ≡ verdicts.Accepted reply)
+    × (new ≡ after old seat e)
+IsStepped old seat e new (Err (faults.Refused rule)) = (verdict old seat e ≡ verdicts.Refused rule)
+    × (new ≡ after old seat e)
 IsStepped old seat e new (Err faults.OutOfMemory) = (is_full old ≡ false) × (new ≡ old)
 
 -- why there is no node: the limit comes first, and then the version, which is 1 or 2
@@ -56,16 +58,25 @@ Says a reply changes = (a.reply ≡ reply) × (a.copy ≡ reply) × (a.changes.i
 
 -- the entry of an event with this verdict and these changes
 abbrev pub made : History → ℕ → Event → Verdict → List Change → Entry
-made h seat e v changes = record { number = next_number h; seat = seat; event = e; verdict = v; change = changes }
+made h seat e v changes = record {
+  number = next_number h;
+  seat = seat;
+  event = e;
+  verdict = v;
+  change = changes;
+}
 
 -- this entry is the policy's next, and what is kept is that of a node which has it
 abbrev pub Enters : History → Entry → Kept → Type 0
 Enters h entry kept = IsNext h entry × Keeps (with_entry h entry) kept
 
--- the event is answered by the policy, and what is kept follows; after want of memory it is that of the node as it was
+-- the event is answered by the policy, and what is kept follows; after want of memory it is that of
+-- the node as it was
 unfoldable pub Answers : Call → Event → Kept → Result Answered CoreFault → Type 0
-Answers call e kept (Ok a) = (a.copy ≡ a.reply) × Enters call.past (made call.past call.seat e (verdicts.Accepted a.reply) a.changes.items) kept
-Answers call e kept (Err (faults.Refused rule)) = Enters call.past (made call.past call.seat e (verdicts.Refused rule) []) kept
+Answers call e kept (Ok a) = (a.copy ≡ a.reply)
+    × Enters call.past (made call.past call.seat e (verdicts.Accepted a.reply) a.changes.items) kept
+Answers call e kept (Err (faults.Refused rule)) =
+    Enters call.past (made call.past call.seat e (verdicts.Refused rule) []) kept
 Answers call e kept (Err faults.OutOfMemory) = Keeps call.past kept
 
 -- the entries of an audit with one more, of an event that was answered so;

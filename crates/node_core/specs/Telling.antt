@@ -67,8 +67,8 @@ IsBrief most (said.Join s rows) = length rows ≤ most
 IsBrief most (said.Leave s rows) = length rows ≤ most
 IsBrief most m = Unit {0}
 
--- the most rows that the links of these numbers can be told at once: those of one message, where one
--- of them takes no parts
+-- the most rows that the links of these numbers can be told at once: those of one message, where
+-- one of them takes no parts
 abbrev pub told_limit : List ℕ → List KeptLink → ℕ
 told_limit numbers links = cond (is_any_in false numbers links) max_rows 65536
 
@@ -79,7 +79,8 @@ CanBeSaid false m = HasSpelling m
 
 -- the message can be said to the links of these numbers, as each of them takes it
 abbrev pub MayBeSaid : List ℕ → List KeptLink → Message → Type 0
-MayBeSaid numbers links m = (parted : Bool) → is_any_in parted numbers links ≡ true → CanBeSaid parted m
+MayBeSaid numbers links m = (parted : Bool) → is_any_in parted numbers links ≡ true
+    → CanBeSaid parted m
 
 -- the frames are those of the message, if one of the links of these numbers takes it so
 abbrev pub IsSpelled : Bool → List ℕ → List KeptLink → Message → List OutFrame → Type 0

@@ -85,7 +85,8 @@ fn give_cookie(
 ) -> Result<(), CoreFault>
     ensures ok { OnOk result (admission.new ≡ with_cookie_for admission.old peer.now cookie.now) }
     ensures limits { OnOk result (length admission.new.peers ≤ max_peers) }
-    ensures refused { IfErr result (IsCookieRefusal admission.old (with_cookie_for admission.old peer.now cookie.now)) }
+    ensures refused { IfErr result (IsCookieRefusal admission.old
+        (with_cookie_for admission.old peer.now cookie.now)) }
     ensures same { OnErr result (admission.new ≡ admission.old) }
 {
     let name = peer.try_clone(alloc)?;

@@ -46,7 +46,8 @@ fn frame_awaited(state: &LinkState) -> Option<FrameKind>
 
 /// What each of these links awaits.
 pub fn awaiting_of(alloc: Global, links: &[Link]) -> Result<Vec<Awaiting>, OutOfMemory>
-    ensures { IfOk result (λ all. all.items ≡ map (λ x. record { link = x.number; frame = frame_awaited x.state }) links.now) }
+    ensures { IfOk result (λ all. all.items
+        ≡ map (λ x. record { link = x.number; frame = frame_awaited x.state }) links.now) }
 {
     let mut all = Vec::new(alloc);
     for link in links {

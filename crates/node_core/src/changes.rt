@@ -31,7 +31,8 @@ pub enum Leaving<'a> {
 
 /// What the leaving of these rows will change.
 fn change_of(table: &ScopeTable, leaving: Leaving<'_>) -> Result<Vec<GroupChange>, OutOfMemory>
-    ensures { IfOk result (λ groups. IsDifference (count_of table.now) (count_but leaving.entry table.now) groups.items) }
+    ensures { IfOk result (λ groups. IsDifference (count_of table.now)
+        (count_but leaving.entry table.now) groups.items) }
 {
     match leaving {
         Leaving::Process(pid) => table.exit_change(pid),
@@ -57,7 +58,8 @@ pub fn changes_of(
     scopes: &[Running],
     leaving: Leaving<'_>,
 ) -> Result<Vec<Change>, OutOfMemory>
-    ensures { IfOk result (λ changes. ArePartings (count_but leaving.entry) scopes.now changes.items) }
+    ensures { IfOk result (λ changes. ArePartings (count_but leaving.entry) scopes.now
+        changes.items) }
 {
     let mut changes = Vec::new(alloc);
     for running in scopes {
@@ -82,7 +84,8 @@ pub fn leave_all(scopes: &mut Vec<Running>, leaving: Leaving<'_>)
     }
 }
 
-/// A link of a peer is gone, for one scope: nobody is heard or told over it, and the rows of the peer leave.
+/// A link of a peer is gone, for one scope: nobody is heard or told over it, and the rows of the
+/// peer leave.
 pub fn cut_off(running: &mut Running, number: u32, peer: &NodeName)
     ensures { IsCutOff number peer.now running.old running.new }
 {
@@ -114,7 +117,8 @@ impl Model for ChangeRoom {
 
     ghost view = { λ room. room.scope };
 
-    ghost invariant = { λ room. (room.changes.items ≡ []) × (vec_len room.changes < vec_capacity room.changes) };
+    ghost invariant = { λ room. (room.changes.items ≡ [])
+        × (vec_len room.changes < vec_capacity room.changes) };
 }
 
 impl ChangeRoom {
@@ -159,7 +163,8 @@ pub fn rows_left(alloc: Global, groups: &[GroupChange]) -> Result<Vec<Row>, OutO
 
 /// The rows of processes in a group, ascending.
 pub fn rows_of(alloc: Global, group: &Group, pids: &[Pid]) -> Result<Vec<Row>, OutOfMemory>
-    ensures rows { IfOk result (λ rows. IsRowListing (λ g p. cond (same g group.now) (mentions p pids.now) 0) rows.items) }
+    ensures rows { IfOk result (λ rows.
+        IsRowListing (λ g p. cond (same g group.now) (mentions p pids.now) 0) rows.items) }
     ensures length { IfOk result (λ rows. length rows.items ≡ length pids.now) }
 {
     let mut rows = Vec::new(alloc);

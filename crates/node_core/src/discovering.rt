@@ -99,7 +99,8 @@ fn sync_frames(rows: usize, parted: bool) -> usize
     }
 }
 
-/// What answers a Discover, with room for it on the link. The link of this number is told from now on.
+/// What answers a Discover, with room for it on the link. The link of this number is told from now
+/// on.
 fn ready_to_answer(
     alloc: Global,
     link: &mut Link,
@@ -110,11 +111,14 @@ fn ready_to_answer(
 ) -> Result<Vec<OutFrame>, OutOfMemory>
     requires idle { link.old.prepared ≡ [] }
     requires few { parted ≡ false → local_total running.old.table ≤ max_rows }
-    ensures frames { IfOk result (λ frames. AnswersDiscover running.old parted number scope.now frames.items) }
+    ensures frames { IfOk result (λ frames. AnswersDiscover running.old parted number scope.now
+        frames.items) }
     ensures fits { IfOk result (λ frames. length frames.items ≤ link.new.room) }
     ensures roomy { link.new ≡ with_room link.old link.new.room }
-    ensures told { OnOk result (HasBecome running.old running.new (count_of running.old.table) running.old.heard.items (with_number number running.old.told.items)) }
-    ensures same { OnErr result (HasBecome running.old running.new (count_of running.old.table) running.old.heard.items running.old.told.items) }
+    ensures told { OnOk result (HasBecome running.old running.new (count_of running.old.table)
+        running.old.heard.items (with_number number running.old.told.items)) }
+    ensures same { OnErr result (HasBecome running.old running.new (count_of running.old.table)
+        running.old.heard.items running.old.told.items) }
 {
     let frames = answer_to_discover(alloc, running, number, scope, parted)?;
     link.make_room(frames.len())?;
@@ -132,7 +136,8 @@ fn answer_to_discover(
     parted: bool,
 ) -> Result<Vec<OutFrame>, OutOfMemory>
     requires { parted ≡ false → local_total running.now.table ≤ max_rows }
-    ensures { IfOk result (λ frames. AnswersDiscover running.now parted number scope.now frames.items) }
+    ensures { IfOk result (λ frames. AnswersDiscover running.now parted number scope.now
+        frames.items) }
 {
     let mut frames = sync_of(alloc, running, scope, parted)?;
     if !running.heard.contains(&number) {
@@ -164,8 +169,10 @@ fn sync_of(
 
 /// The peer of this link is told from now on.
 fn tell(running: &mut Running, number: u32) -> Result<(), OutOfMemory>
-    ensures ok { OnOk result (HasBecome running.old running.new (count_of running.old.table) running.old.heard.items (with_number number running.old.told.items)) }
-    ensures same { OnErr result (HasBecome running.old running.new (count_of running.old.table) running.old.heard.items running.old.told.items) }
+    ensures ok { OnOk result (HasBecome running.old running.new (count_of running.old.table)
+        running.old.heard.items (with_number number running.old.told.items)) }
+    ensures same { OnErr result (HasBecome running.old running.new (count_of running.old.table)
+        running.old.heard.items running.old.told.items) }
 {
     running.told.reserve(1)?;
     note(&mut running.told, number);

@@ -9,7 +9,8 @@ use dist_types::{OutOfMemory, TryClone};
 use policy_audit::{Audit, Change, Changes, Event, Reply, Rule, Verdict};
 use std::alloc::Global;
 
-/// What an accepted event is answered, once for the caller and once for the audit, and what it changed.
+/// What an accepted event is answered, once for the caller and once for the audit, and what it
+/// changed.
 pub struct Answered {
     reply: Reply,
     copy: Reply,
@@ -92,7 +93,8 @@ impl Answered {
     }
 }
 
-/// Enters an event, into the room that there is, with what it was answered. Where memory was wanting there is no entry.
+/// Enters an event, into the room that there is, with what it was answered. Where memory was
+/// wanting there is no entry.
 pub fn enter(
     alloc: Global,
     audit: &mut Audit,

@@ -12,7 +12,8 @@ use thiserror::Error;
 /// Why a step has no reply.
 #[derive(Clone, Copy, Debug, PartialEq, Eq, Error)]
 pub enum CoreFault {
-    /// The first rule that the event breaks. The refusal is an entry of its own, unless the audit is full.
+    /// The first rule that the event breaks. The refusal is an entry of its own, unless the audit
+    /// is full.
     #[error("refused: {0}")]
     Refused(Rule),
     /// Nothing was entered, and nothing has changed.

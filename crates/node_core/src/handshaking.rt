@@ -150,7 +150,8 @@ impl Kept {
     }
 }
 
-/// The handshake of a link goes on, at this place. Where it gives an own dial to its peer up, that dial is gone.
+/// The handshake of a link goes on, at this place. Where it gives an own dial to its peer up, that
+/// dial is gone.
 fn go_on(
     links: &mut Vec<Link>,
     place: usize,
@@ -240,12 +241,14 @@ fn put(links: &mut Vec<Link>, place: usize, link: Link)
     let _ = links.insert(place, link);
 }
 
-/// Frames that wait from now on: those of the handshake, and then the Discovers, if the link is visible.
+/// Frames that wait from now on: those of the handshake, and then the Discovers, if the link is
+/// visible.
 fn owe_all(link: &mut Link, frames: Bodies, visible: bool, discovers: Vec<OutFrame>)
     requires room { length frames + length discovers.items ≤ link.old.room }
     requires idle { link.old.prepared ≡ [] }
     requires unbegun { link.old.begun ≡ None }
-    ensures { link.new ≡ moved_on link.old.state (narrow_frames frames ++ cond visible discovers.items []) link.new.room link.old }
+    ensures { link.new ≡ moved_on link.old.state (narrow_frames frames
+        ++ cond visible discovers.items []) link.new.room link.old }
 {
     link.owe_bodies(frames);
     if visible {
@@ -262,7 +265,8 @@ fn older_of(links: &[Link], peer: &NodeName) -> Option<u32>
 
 /// The link that is up with this peer.
 fn up_with<'a>(links: &'a [Link], peer: &NodeName) -> Option<&'a Link>
-    ensures { option_map (λ x. x.now) result ≡ find (λ x. option_map_or (λ n. same n peer.now) (up_peer x.state) false) links.now }
+    ensures { option_map (λ x. x.now) result
+        ≡ find (λ x. option_map_or (λ n. same n peer.now) (up_peer x.state) false) links.now }
 {
     links.iter().find(|link| link.is_up_with(peer))
 }
@@ -283,8 +287,10 @@ fn arrival_of(alloc: Global, link: &Link, scopes: &[Running]) -> Result<Arrival,
     requires { is_some (known_peer link.now.state) ≡ true }
     ensures known { IfOk result (λ a. known_peer link.now.state ≡ Some a.kept) }
     ensures copy { IfOk result (λ a. a.peer ≡ a.kept) }
-    ensures changes { IfOk result (λ a. AreLost (known_peer link.now.state) scopes.now a.changes.items) }
-    ensures discovers { IfOk result (λ a. a.discovers.items ≡ map (λ r. wide (said.Discover r.scope)) scopes.now) }
+    ensures changes { IfOk result (λ a. AreLost (known_peer link.now.state) scopes.now
+        a.changes.items) }
+    ensures discovers { IfOk result (λ a. a.discovers.items
+        ≡ map (λ r. wide (said.Discover r.scope)) scopes.now) }
 {
     let Some(peer) = link.peer() else {
         unreachable!()
@@ -309,7 +315,8 @@ fn dial_beside(links: &[Link], state: &LinkState) -> Option<u32>
 
 /// A Discover for each scope that runs.
 fn discovers_of(alloc: Global, scopes: &[Running]) -> Result<Vec<OutFrame>, OutOfMemory>
-    ensures { IfOk result (λ frames. frames.items ≡ map (λ r. wide (said.Discover r.scope)) scopes.now) }
+    ensures { IfOk result (λ frames. frames.items
+        ≡ map (λ r. wide (said.Discover r.scope)) scopes.now) }
 {
     let mut frames = Vec::new(alloc);
     for running in scopes {

@@ -42,8 +42,8 @@ impl Drop for Kept {
 }
 
 impl Kept {
-    /// Answers an event of a seat, which will be the entry of this number, by the written policy, and follows it. Without memory
-    /// nothing but room has changed.
+    /// Answers an event of a seat, which will be the entry of this number, by the written policy,
+    /// and follows it. Without memory nothing but room has changed.
     pub fn answer(
         &mut self,
         audit: &Audit,

@@ -1,4 +1,5 @@
-//! What follows from `step` for who holds its contract. Each function does nothing; its contract is the law.
+//! What follows from `step` for who holds its contract. Each function does nothing; its contract is
+//! the law.
 ghost use Rattle.std.specs.Prelude.{◌≡◌, ℕ};
 ghost use Rattle.std.specs.declared.result.Result.{Result};
 ghost use Rattle.policy_audit.specs.declared.event.Event.{Event};
@@ -10,6 +11,8 @@ ghost use Rattle.node_core.specs.Step.{IsStepped};
 
 /// A step leaves a history legal, and leaves its opening.
 pub fn stepped()
-    ensures legal { (old new : History) (seat : ℕ) (e : Event) (result : Result Reply CoreFault) → IsLegal old → IsStepped old seat e new result → IsLegal new }
-    ensures opening { (old new : History) (seat : ℕ) (e : Event) (result : Result Reply CoreFault) → IsStepped old seat e new result → new.opening ≡ old.opening }
+    ensures legal { (old new : History) (seat : ℕ) (e : Event) (result : Result Reply CoreFault)
+        → IsLegal old → IsStepped old seat e new result → IsLegal new }
+    ensures opening { (old new : History) (seat : ℕ) (e : Event) (result : Result Reply CoreFault)
+        → IsStepped old seat e new result → new.opening ≡ old.opening }
 {}

@@ -168,7 +168,8 @@ impl Link {
     pub fn owe_bodies(&mut self, bodies: Bodies)
         requires room { length bodies ≤ self.old.room }
         requires idle { self.old.prepared ≡ [] }
-        ensures owed { self.new ≡ with_room (with_frames self.old (narrow_frames bodies)) self.new.room }
+        ensures owed { self.new ≡ with_room (with_frames self.old (narrow_frames bodies))
+            self.new.room }
         ensures room { self.old.room ≤ self.new.room + length bodies }
     {
         put_bodies(&mut self.waiting, bodies.into_vec());

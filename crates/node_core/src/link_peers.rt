@@ -21,7 +21,8 @@ impl Link {
 
     /// Whether the link is an own dial to this peer that is unfinished.
     pub fn is_dial_to(&self, peer: &NodeName) -> bool
-        ensures { result ≡ option_map_or (λ n. same n peer.now) (dialled_peer self.now.state) false }
+        ensures { result ≡ option_map_or (λ n. same n peer.now) (dialled_peer self.now.state)
+            false }
     {
         match self.state() {
             LinkState::Status(state) => state.peer() == peer,

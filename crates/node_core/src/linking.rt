@@ -100,15 +100,11 @@ impl Kept {
         let Some(place) = place_of(&self.links, number) else {
             return Err(CoreFault::Refused(Rule::NoSuchLink));
         };
-        let copies = copies_of(self.alloc, self.links[place].frames())?;
+        let copies = OutFrames::of(copies_of(self.alloc, self.links[place].frames())?);
         let frames = self.links[place].hand_over(self.alloc);
         drop_ended(&mut self.links, place);
         let nothing = Vec::new(self.alloc);
-        Ok(Answered::both(
-            Reply::Out(frames),
-            Reply::Out(OutFrames::of(copies)),
-            nothing,
-        ))
+        Ok(Answered::both(Reply::Out(frames), Reply::Out(copies), nothing))
     }
 
     /// A link is gone.
@@ -160,7 +156,8 @@ fn dialled(
     challenge: u32,
     admission: &Admission,
 ) -> Result<Link, OutOfMemory>
-    ensures { IfOk result (λ link. link ≡ dialled_link admission.now number peer.now challenge link.room) }
+    ensures { IfOk result (λ link. link ≡ dialled_link admission.now number peer.now challenge
+        link.room) }
 {
     let mut waiting = Vec::new(alloc);
     waiting.reserve(1)?;

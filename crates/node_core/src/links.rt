@@ -31,14 +31,16 @@ pub fn place_of(links: &[Link], number: u32) -> Option<usize>
 
 /// The place of the link that is up with this peer.
 pub fn place_of_up(links: &[Link], peer: &NodeName) -> Option<usize>
-    ensures { result ≡ position (λ x. option_map_or (λ n. same n peer.now) (up_peer x.state) false) links.now }
+    ensures { result ≡ position (λ x. option_map_or (λ n. same n peer.now) (up_peer x.state) false)
+        links.now }
 {
     links.iter().position(|link| link.is_up_with(peer))
 }
 
 /// Whether an own dial to this peer is unfinished.
 pub fn is_dialling(links: &[Link], peer: &NodeName) -> bool
-    ensures { result ≡ list_any (λ x. option_map_or (λ n. same n peer.now) (dialled_peer x.state) false) links.now }
+    ensures { result ≡ list_any (λ x. option_map_or (λ n. same n peer.now) (dialled_peer x.state)
+        false) links.now }
 {
     links.iter().any(|link| link.is_dial_to(peer))
 }
@@ -52,7 +54,8 @@ pub fn dial_to<'a>(links: &'a [Link], peer: &NodeName) -> Option<&'a Link>
 
 /// Whether the link of this number is up.
 pub fn is_up(links: &[Link], number: u32) -> bool
-    ensures { result ≡ list_any (λ x. nat_eq x.number number && is_some (up_peer x.state)) links.now }
+    ensures { result ≡ list_any (λ x. nat_eq x.number number && is_some (up_peer x.state))
+        links.now }
 {
     links
         .iter()
@@ -61,7 +64,8 @@ pub fn is_up(links: &[Link], number: u32) -> bool
 
 /// The peers that are up.
 pub fn up_peers(alloc: Global, links: &[Link]) -> Result<Vec<NodeName>, OutOfMemory>
-    ensures { IfOk result (λ names. names.items ≡ flat_map (λ x. option_to_list (up_peer x.state)) links.now) }
+    ensures { IfOk result (λ names. names.items
+        ≡ flat_map (λ x. option_to_list (up_peer x.state)) links.now) }
 {
     let mut peers = Vec::new(alloc);
     for link in links {
@@ -74,7 +78,8 @@ pub fn up_peers(alloc: Global, links: &[Link]) -> Result<Vec<NodeName>, OutOfMem
 
 /// The numbers of the links that are up and visible.
 pub fn shown(alloc: Global, links: &[Link]) -> Result<Vec<u32>, OutOfMemory>
-    ensures { IfOk result (λ ns. ns.items ≡ map (λ x. x.number) (filter (λ x. is_shown x.state) links.now)) }
+    ensures { IfOk result (λ ns. ns.items
+        ≡ map (λ x. x.number) (filter (λ x. is_shown x.state) links.now)) }
 {
     let mut numbers = Vec::new(alloc);
     for link in links {
@@ -97,7 +102,8 @@ pub fn prepare(
     ensures ok { OnOk result
         (map unroomed links.new.items
         ≡ map (λ x. unroomed (prepared_for numbers.now (said_in message.now) x)) links.old.items) }
-    ensures forgot { OnErr result (map unroomed links.new.items ≡ map (λ x. unroomed (with_prepared x [])) links.old.items) }
+    ensures forgot { OnErr result (map unroomed links.new.items
+        ≡ map (λ x. unroomed (with_prepared x [])) links.old.items) }
 {
     if numbers.is_empty() {
         return Ok(());
@@ -185,7 +191,8 @@ fn prepare_frames(
         ≡ map (λ x. unroomed
         (prepared_for numbers.now (λ p. cond p spelled.now.parts.items spelled.now.whole.items) x))
         links.old.items) }
-    ensures forgot { OnErr result (map unroomed links.new.items ≡ map (λ x. unroomed (with_prepared x [])) links.old.items) }
+    ensures forgot { OnErr result (map unroomed links.new.items
+        ≡ map (λ x. unroomed (with_prepared x [])) links.old.items) }
 {
     for place in 0..links.len() {
         if !numbers.contains(&links[place].number()) {
@@ -221,7 +228,8 @@ pub fn break_off(links: &mut Vec<Link>, scope: &Scope)
 
 /// The prepared frames of all links are dropped.
 pub fn forget(links: &mut Vec<Link>)
-    ensures { map unroomed links.new.items ≡ map (λ x. unroomed (with_prepared x [])) links.old.items }
+    ensures { map unroomed links.new.items
+        ≡ map (λ x. unroomed (with_prepared x [])) links.old.items }
 {
     for link in links.iter_mut() {
         link.forget();
@@ -251,7 +259,8 @@ pub fn remove(links: &mut Vec<Link>, number: u32)
 /// The link at a place is gone if it has ended.
 pub fn drop_ended(links: &mut Vec<Link>, place: usize)
     requires { place < length links.old.items }
-    ensures { (d : KeptLink) → links.new.items ≡ without_ended (slice_index_or links.old.items place d) links.old.items }
+    ensures { (d : KeptLink) → links.new.items
+        ≡ without_ended (slice_index_or links.old.items place d) links.old.items }
 {
     let number = links[place].number();
     if links[place].is_ended() {

@@ -87,7 +87,8 @@ impl Kept {
 
     /// Whether the process has the node's name and its creation.
     pub fn is_local(&self, pid: &Pid) -> bool
-        ensures { result ≡ (same pid.now.node self.now.opening.name && pid.now.creation == self.now.admission.creation) }
+        ensures { result ≡ (same pid.now.node self.now.opening.name
+            && pid.now.creation == self.now.admission.creation) }
     {
         pid.node == self.opening.name && pid.creation == self.admission.creation()
     }
@@ -239,8 +240,8 @@ fn join_ending(
     ending_with(alloc, links, scopes, &own, None)
 }
 
-/// Prepares a Join of own processes for the links that are told. Where memory is wanting, what was prepared before is dropped,
-/// too.
+/// Prepares a Join of own processes for the links that are told. Where memory is wanting, what was
+/// prepared before is dropped, too.
 fn tell_join(
     alloc: Global,
     links: &mut Vec<Link>,
@@ -250,7 +251,8 @@ fn tell_join(
 ) -> Result<(), OutOfMemory>
     requires few { length pids.now ≤ told_limit running.now.told.items links.old.items }
     requires idle { AreIdle links.old.items }
-    ensures told { OnOk result (IsPrepared (join_of running.now.scope group.now pids.now) running.now links.old.items links.new.items) }
+    ensures told { OnOk result (IsPrepared (join_of running.now.scope group.now pids.now)
+        running.now links.old.items links.new.items) }
     ensures same { OnErr result (Alike links.old.items links.new.items) }
 {
     let rows = Rows::of(rows_of(alloc, group, pids)?);
@@ -306,8 +308,8 @@ fn leave_ending(
     ending_with(alloc, links, scopes, &own, None)
 }
 
-/// Prepares a Leave of the own processes that a leave of these takes, for the links that are told. Where memory is wanting, what
-/// was prepared before is dropped, too.
+/// Prepares a Leave of the own processes that a leave of these takes, for the links that are told.
+/// Where memory is wanting, what was prepared before is dropped, too.
 fn tell_leave(
     alloc: Global,
     links: &mut Vec<Link>,
@@ -319,7 +321,8 @@ fn tell_leave(
     requires few { local_total running.now.table
         ≤ told_limit running.now.told.items links.old.items }
     requires idle { AreIdle links.old.items }
-    ensures told { OnOk result (IsPrepared (leave_of running.now group.now pids.now) running.now links.old.items links.new.items) }
+    ensures told { OnOk result (IsPrepared (leave_of running.now group.now pids.now) running.now
+        links.old.items links.new.items) }
     ensures same { OnErr result (Alike links.old.items links.new.items) }
 {
     let gone = running.table.leaving(group, pids)?;

@@ -1,21 +1,21 @@
 //! Messages of linked nodes (Kernel manual, `pg`), for a scope S that both ends of a link run.
 //!
-//! - Discover S: "I run S: tell me." Sent for each scope as the link comes up, and to each peer as S
-//!   starts. The receiver answers with a Sync, and with a Discover of its own where it hasn't heard
-//!   the sender in S. The sender is told in S from then on.
+//! - Discover S: "I run S: tell me." Sent for each scope as the link comes up, and to each peer as
+//!   S starts. The receiver answers with a Sync, and with a Discover of its own where it hasn't
+//!   heard the sender in S. The sender is told in S from then on.
 //! - Sync S: all rows of the sender's own processes. They replace what the receiver had of that
 //!   node. The sender is heard in S from then on.
 //! - Join S, Leave S: the rows that a join, a leave or an exit brings or takes of them, sent to all
 //!   that are told. The receiver adds or takes just these, of a sender that it has heard.
-//! - Down S: the sender stops S, and says so to each peer. The receiver drops the sender's rows, and
-//!   neither hears nor tells it in S any more.
+//! - Down S: the sender stops S, and says so to each peer. The receiver drops the sender's rows,
+//!   and neither hears nor tells it in S any more.
 //!
 //! So what a receiver lists of a node is what that node had itself a while ago: a Sync has all rows
 //! up to then, each later change follows behind it, and a link keeps their order and loses none.
 //! Where the link ends, the peer's rows go, heard and told with them. The next one begins anew.
 //!
-//! A link of version 2 brings the rows of a Sync, a Join or a Leave in parts. They are kept with the
-//! link, and count once the last has come. On a link of version 1 a message is one part.
+//! A link of version 2 brings the rows of a Sync, a Join or a Leave in parts. They are kept with
+//! the link, and count once the last has come. On a link of version 1 a message is one part.
 ghost use Rattle.std.specs.Prelude.{◌≡◌, ◌==◌, ◌&&◌, not, List, ℕ, true, Some, None, MatchResult};
 ghost use Rattle.std.specs.List.{list_all};
 ghost use Rattle.dist_types.specs.Listing.{same};
@@ -72,7 +72,8 @@ impl Kept {
         self.follow(place, at, number, message)
     }
 
-    /// A message for the scope at a place, that breaks no rule but those that the table of the scope tells.
+    /// A message for the scope at a place, that breaks no rule but those that the table of the
+    /// scope tells.
     #[tactic(auto, unfolding(crate::specs::Step::Answers))]
     fn follow(
         &mut self,
@@ -117,7 +118,8 @@ impl Kept {
         rows: &Rows,
     ) -> Result<Answered, CoreFault>
         ghost call: { Call }
-        requires { IsSoundMessage call self.old place at number (messages.Part kind scope 1 true rows.now) }
+        requires { IsSoundMessage call self.old place at number
+            (messages.Part kind scope 1 true rows.now) }
         ensures { (body : List ℕ)
             → frame_taken call.past.opening number call.past.entries body
             ≡ Some (messages.Part kind scope 1 true rows.now)
@@ -150,7 +152,8 @@ impl Kept {
         rows: Rows,
     ) -> Result<Answered, CoreFault>
         ghost call: { Call }
-        requires { IsSoundMessage call self.old place at number (messages.Part kind scope count last rows) }
+        requires { IsSoundMessage call self.old place at number
+            (messages.Part kind scope count last rows) }
         ensures { (body : List ℕ)
             → frame_taken call.past.opening number call.past.entries body
             ≡ Some (messages.Part kind scope count last rows)
@@ -188,7 +191,8 @@ impl Kept {
         ghost call: { Call }
         requires { IsSoundMessage call self.old place at number (messages.Down scope) }
         ensures { (body : List ℕ)
-            → frame_taken call.past.opening number call.past.entries body ≡ Some (messages.Down scope)
+            → frame_taken call.past.opening number call.past.entries body
+            ≡ Some (messages.Down scope)
             → Answers call (events.Frame number body) self.new result }
     {
         let link = &mut self.links[place];
@@ -263,7 +267,8 @@ fn scope_in(message: &Message2) -> &Scope
     }
 }
 
-/// The first rule that a message on this link breaks, but for those that the table of the scope tells.
+/// The first rule that a message on this link breaks, but for those that the table of the scope
+/// tells.
 fn refusal(link: &Link, running: &Running, message: &Message2) -> Option<Rule>
     ensures { result ≡ refusal link.now running.now.heard.items message.now }
 {
@@ -291,7 +296,8 @@ fn refusal(link: &Link, running: &Running, message: &Message2) -> Option<Rule>
 
 /// Whether rows of this kind go on with others, which the link hasn't: it isn't heard.
 fn is_unheard(link: &Link, running: &Running, kind: PartKind) -> bool
-    ensures { result ≡ (brings_further kind && not (is_number link.now.number running.now.heard.items)) }
+    ensures { result ≡ (brings_further kind
+        && not (is_number link.now.number running.now.heard.items)) }
 {
     match kind {
         PartKind::Sync => false,
@@ -311,7 +317,8 @@ fn are_of_peer(link: &Link, rows: &Rows) -> bool
 
 /// Whether each row's process is of the peer, with the creation that it gave.
 fn are_from(up: &Up, rows: &Rows) -> bool
-    ensures { result ≡ list_all (λ r. same r.pid.node up.now.peer && r.pid.creation == up.now.creation) rows.now }
+    ensures { result ≡ list_all (λ r. same r.pid.node up.now.peer
+        && r.pid.creation == up.now.creation) rows.now }
 {
     rows.as_slice().iter().all(|row| row.pid.node == *up.peer()
         && row.pid.creation == up.creation())

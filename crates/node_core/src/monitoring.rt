@@ -106,8 +106,10 @@ impl Kept {
 
 /// The groups of a scope with their members.
 fn contents_of(alloc: Global, running: &Running) -> Result<Contents, OutOfMemory>
-    ensures groups { IfOk result (λ contents. IsGroupListing (count_of running.now.table) (map (λ c. c.group) contents)) }
-    ensures pids { IfOk result (λ contents. AllByRecursion (λ c. IsPidListing (count_of running.now.table c.group) c.pids) contents) }
+    ensures groups { IfOk result (λ contents.
+        IsGroupListing (count_of running.now.table) (map (λ c. c.group) contents)) }
+    ensures pids { IfOk result (λ contents.
+        AllByRecursion (λ c. IsPidListing (count_of running.now.table c.group) c.pids) contents) }
 {
     let groups = running.table.groups()?;
     let mut contents = Vec::with_capacity(alloc, groups.len())?;

@@ -143,7 +143,8 @@ impl NodeCore {
     pub fn table(&self, scope: &Scope) -> Option<&ScopeTable>
         ensures runs { is_some result ≡ is_running self.now.history scope.now }
         ensures own { IfSome result (λ table. table.now.own ≡ self.now.history.opening.name) }
-        ensures listed { IfSome result (λ table. (g : List ℕ) (p : Pid) → count_of table.now g p ≡ listed self.now.history scope.now g p) }
+        ensures listed { IfSome result (λ table. (g : List ℕ) (p : Pid) → count_of table.now g p
+            ≡ listed self.now.history scope.now g p) }
     {
         Some(&self.running(scope)?.table)
     }
@@ -152,7 +153,8 @@ impl NodeCore {
     /// frames that waited when a refused frame of its own ended it.
     pub fn waiting(&self, link: u32) -> Option<usize>
         ensures waiting { result
-            ≡ cond (is_kept self.now.history link) (Some (length (waiting self.now.history link))) None }
+            ≡ cond (is_kept self.now.history link) (Some (length (waiting self.now.history link)))
+            None }
         ensures few { IfSome result (λ n. n ≤ max_waiting) }
     {
         let place = place_of(&self.kept.links, link)?;
@@ -166,8 +168,9 @@ impl NodeCore {
         let_go(&mut self.kept.scopes);
     }
 
-    /// Answers an event of a seat by the written policy, and enters it with what it changed. `Refused` names the first rule
-    /// that the event breaks; that is an entry, too, unless the audit is full. After `OutOfMemory` nothing has happened.
+    /// Answers an event of a seat by the written policy, and enters it with what it changed.
+    /// `Refused` names the first rule that the event breaks; that is an entry, too, unless the
+    /// audit is full. After `OutOfMemory` nothing has happened.
     pub fn step(&mut self, seat: u32, event: Event) -> Result<Reply, CoreFault>
         ensures stepped { IsStepped self.old.history seat event self.new.history result }
         ensures forgotten { self.new.forgotten ≡ self.old.forgotten }
@@ -191,7 +194,15 @@ pub(crate) fn admission_of(
     creation: u32,
 ) -> Result<Admission, OutOfMemory>
     requires { IsVersion opening.now.links }
-    ensures { IfOk result (λ a. a ≡ record { own = opening.now.name; cookie = opening.now.cookie; hidden = opening.now.hidden; creation = creation; links = opening.now.links; peers = []; allowed = [] }) }
+    ensures { IfOk result (λ a. a ≡ record {
+      own = opening.now.name;
+      cookie = opening.now.cookie;
+      hidden = opening.now.hidden;
+      creation = creation;
+      links = opening.now.links;
+      peers = [];
+      allowed = [];
+    }) }
 {
     let own = opening.name.try_clone(alloc)?;
     let cookie = opening.cookie.try_clone(alloc)?;

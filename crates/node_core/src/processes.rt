@@ -62,8 +62,10 @@ impl Processes {
     pub fn spawn(&mut self) -> Result<(), AllocError>
         requires { self.old.spawned + 1 < 2 ^ 64 }
         ensures spawned { OnOk result (self.new.spawned ≡ self.old.spawned + 1) }
-        ensures live { OnOk result ((n : ℕ) → is_number n self.new.live ≡ cond (nat_eq (self.old.spawned + 1) n) true (is_number n self.old.live)) }
-        ensures count { is_number (self.old.spawned + 1) self.old.live ≡ false → OnOk result (length self.new.live ≡ length self.old.live + 1) }
+        ensures live { OnOk result ((n : ℕ) → is_number n self.new.live
+            ≡ cond (nat_eq (self.old.spawned + 1) n) true (is_number n self.old.live)) }
+        ensures count { is_number (self.old.spawned + 1) self.old.live ≡ false
+            → OnOk result (length self.new.live ≡ length self.old.live + 1) }
         ensures same { OnErr result (self.new ≡ self.old) }
     {
         self.live.insert(self.spawned + 1)?;
@@ -74,8 +76,10 @@ impl Processes {
     /// The process ends.
     pub fn exit(&mut self, number: u64)
         ensures spawned { self.new.spawned ≡ self.old.spawned }
-        ensures live { (n : ℕ) → is_number n self.new.live ≡ cond (nat_eq number n) false (is_number n self.old.live) }
-        ensures count { is_number number self.old.live ≡ true → length self.new.live + 1 ≡ length self.old.live }
+        ensures live { (n : ℕ) → is_number n self.new.live
+            ≡ cond (nat_eq number n) false (is_number n self.old.live) }
+        ensures count { is_number number self.old.live ≡ true → length self.new.live + 1
+            ≡ length self.old.live }
     {
         self.live.swap_remove(&number);
     }

@@ -31,7 +31,9 @@ pub enum Query<'a> {
 impl NodeCore {
     /// The scope, if it runs.
     pub(crate) fn running(&self, scope: &Scope) -> Option<&Running>
-        ensures found { IfSome result (λ r. (r.now.scope ≡ scope.now) × IsRunningOf (scope_words self.now.history) r.now × (is_running self.now.history scope.now ≡ true)) }
+        ensures found { IfSome result (λ r. (r.now.scope ≡ scope.now)
+            × IsRunningOf (scope_words self.now.history) r.now
+            × (is_running self.now.history scope.now ≡ true)) }
         ensures none { IfNone result (is_running self.now.history scope.now ≡ false) }
         ensures legal { IsLegal self.now.history }
     {

@@ -34,14 +34,16 @@ impl NodeCore {
     /// The peers that are up, each once, in the order in which their links were opened.
     pub fn peers(&self) -> Result<NodeNames, OutOfMemory>
         ensures names { IfOk result (λ names. names ≡ up_names self.now.history) }
-        ensures once { IfOk result (λ names. (n : List ℕ) → occurrences same n names ≡ cond (is_name_up n self.now.history.entries) 1 0) }
+        ensures once { IfOk result (λ names. (n : List ℕ) → occurrences same n names
+            ≡ cond (is_name_up n self.now.history.entries) 1 0) }
     {
         Ok(NodeNames::of(up_peers(self.kept.alloc, &self.kept.links)?))
     }
 
     /// The kept links in the order in which they were opened, each with what it awaits.
     pub fn links(&self) -> Result<Vec<Awaiting>, OutOfMemory>
-        ensures { IfOk result (λ links. links.items ≡ map (awaiting self.now.history) (kept_numbers self.now.history)) }
+        ensures { IfOk result (λ links. links.items
+            ≡ map (awaiting self.now.history) (kept_numbers self.now.history)) }
     {
         awaiting_of(self.kept.alloc, &self.kept.links)
     }

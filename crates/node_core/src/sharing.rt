@@ -1,4 +1,5 @@
-//! Names that an event shares with what the node keeps, so that an entry of the audit has no copies of its own.
+//! Names that an event shares with what the node keeps, so that an entry of the audit has no copies
+//! of its own.
 ghost use Rattle.std.specs.Prelude.{◌≡◌};
 ghost use Rattle.node_core.specs.ScopeFacts.{AreAscending};
 
@@ -9,7 +10,8 @@ use policy_audit::Event;
 use std::alloc::Global;
 
 impl Kept {
-    /// The same event; what it names by the running scope, a group of it or the own node is the node's copy, where the node has one.
+    /// The same event; what it names by the running scope, a group of it or the own node is the
+    /// node's copy, where the node has one.
     pub fn shared(&self, event: Event) -> Event
         requires { AreAscending self.now.scopes.items }
         ensures { result ≡ event }

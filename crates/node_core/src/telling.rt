@@ -17,8 +17,8 @@ use link_frames::{Message, Rows};
 use policy_audit::Change;
 use std::alloc::Global;
 
-/// Prepares a message for the links of these numbers, unless it brings no rows. Where memory is wanting, what was prepared
-/// before is dropped, too.
+/// Prepares a message for the links of these numbers, unless it brings no rows. Where memory is
+/// wanting, what was prepared before is dropped, too.
 pub fn tell(
     alloc: Global,
     links: &mut Vec<Link>,
@@ -31,7 +31,8 @@ pub fn tell(
         ≡ map (λ x. unroomed
         (prepared_for (said_to numbers.now message.now) (said_in message.now) x))
         links.old.items) }
-    ensures forgot { OnErr result (map unroomed links.new.items ≡ map (λ x. unroomed (with_prepared x [])) links.old.items) }
+    ensures forgot { OnErr result (map unroomed links.new.items
+        ≡ map (λ x. unroomed (with_prepared x [])) links.old.items) }
 {
     if !is_said(message) {
         return Ok(());
@@ -76,7 +77,8 @@ fn prepare_exit(
     pid: &Pid,
 ) -> Result<Vec<Change>, OutOfMemory>
     requires { AllByRecursion (IsOwnScope pid.now.node links.old.items) scopes.now }
-    ensures told { IfOk result (λ changes. AreExits pid.now scopes.now links.old.items links.new.items changes.items) }
+    ensures told { IfOk result (λ changes. AreExits pid.now scopes.now links.old.items
+        links.new.items changes.items) }
     ensures same { OnErr result (map bare links.new.items ≡ map bare links.old.items) }
 {
     let mut changes = Vec::new(alloc);
@@ -100,8 +102,11 @@ fn exit_one(
     pid: &Pid,
 ) -> Result<Vec<GroupChange>, OutOfMemory>
     requires { IsOwnScope pid.now.node links.old.items running.now }
-    ensures groups { IfOk result (λ groups. IsDifference (count_of running.now.table) (count_after_exit running.now.table pid.now) groups.items) }
-    ensures told { IfOk result (λ groups. ArePrepared (exit_frames running.now groups.items) links.old.items links.new.items) }
+    ensures groups { IfOk result (λ groups.
+        IsDifference (count_of running.now.table) (count_after_exit running.now.table pid.now)
+        groups.items) }
+    ensures told { IfOk result (λ groups. ArePrepared (exit_frames running.now groups.items)
+        links.old.items links.new.items) }
     ensures same { OnErr result (map bare links.new.items ≡ map bare links.old.items) }
 {
     let groups = running.table.exit_change(pid)?;

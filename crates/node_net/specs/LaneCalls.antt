@@ -13,7 +13,8 @@ use Rattle.node_threads.specs.declared.pass.Call.{Call}
 use Rattle.node_threads.specs.Calls.{Record, Gains}
 use Rattle.node_threads.specs.Drawing.{Draws, challenges}
 
--- both passes of a lane, the challenge for the next link, and what is left of its generator behind that
+-- both passes of a lane, the challenge for the next link, and what is left of its generator behind
+-- that
 pub record Pair : Type 0 where
   pub reader : Record
   pub writer : Record
@@ -60,16 +61,19 @@ AreOf links calls = All (λ (c : Call). IsLinkEvent links c.event) calls
 abbrev pub words_of : ChaCha → Stream
 words_of = stream_of (steps_u32 (next_word 10))
 
--- both passes have called nothing else, of no other links than those that the lane has opened;
--- the reader alone has opened links, with words of the generator one after another, each once; the word behind them is for the next link
+-- both passes have called nothing else, of no other links than those that the lane has opened; the
+-- reader alone has opened links, with words of the generator one after another, each once; the word
+-- behind them is for the next link
 pub record IsLane (lane : Pair) : Type 0 where
   pub reader : AreOf (own_links lane.reader.calls) lane.reader.calls
   pub writer : AreOf (own_links lane.reader.calls) lane.writer.calls
   pub reader_alone : challenges lane.writer.calls ≡ []
-  pub drawn : (given : ChaCha) × Draws (words_of given) (challenges lane.reader.calls ++ lane.challenge ∷ []) (words_of lane.left)
+  pub drawn : (given : ChaCha) × Draws (words_of given) (challenges lane.reader.calls
+      ++ lane.challenge ∷ []) (words_of lane.left)
 
 -- it is a new lane of these passes, and the next word of the generator is for its first link
-pub record IsBegun (reader : Record) (writer : Record) (source : ChaCha) (lane : Pair) : Type 0 where
+pub record IsBegun (reader : Record) (writer : Record) (source : ChaCha)
+    (lane : Pair) : Type 0 where
   pub reader_is : lane.reader ≡ reader
   pub writer_is : lane.writer ≡ writer
   pub drawn : Draws (words_of source) (lane.challenge ∷ []) (words_of lane.left)

@@ -32,8 +32,8 @@ pub fn start_accepting<'s, E: 's, R: Threads + Wait + Clock + Sync + 's>(
         .is_ok()
 }
 
-/// Serves the link of one connection after another, until the stop. After a link that didn't come up it rests, the longer the more
-/// there were in a row, so that strangers can't fill the audit.
+/// Serves the link of one connection after another, until the stop. After a link that didn't come
+/// up it rests, the longer the more there were in a row, so that strangers can't fill the audit.
 fn take_connections<'a, R: Threads + Wait + Clock + Sync>(
     rt: &'a R,
     alloc: Global,

@@ -1,4 +1,5 @@
-//! Where peers connect. One thread takes connections there, over all lives of the node, and hands each to one that serves links.
+//! Where peers connect. One thread takes connections there, over all lives of the node, and hands
+//! each to one that serves links.
 use crate::lanes::Lanes;
 use dial_targets::PeerKind;
 use std::io;
@@ -70,7 +71,8 @@ impl Arrivals {
         self.listener.local_addr()
     }
 
-    /// Takes one connection after another, each once a thread waits for one, until the end. The others wait in the system.
+    /// Takes one connection after another, each once a thread waits for one, until the end. The
+    /// others wait in the system.
     pub fn take_all<R: Wait + Clock, F: TakingFaults>(&self, rt: &R, faults: &F) {
         let mut has_failed = false;
         for _ in rt.forever() {
@@ -138,8 +140,8 @@ impl Arrivals {
         arrived
     }
 
-    /// Wakes the threads that wait for a connection, so that they look whether their lanes are stopping. A connection that was
-    /// taken meanwhile is served by the next life.
+    /// Wakes the threads that wait for a connection, so that they look whether their lanes are
+    /// stopping. A connection that was taken meanwhile is served by the next life.
     pub fn wake<R: Wait>(&self, rt: &R) {
         drop(self.hall.lock(rt));
         self.arrived.notify_all();

@@ -1,7 +1,8 @@
 //! Pauses that grow.
 use std::time::Duration;
 
-/// The pause before the next try: doubled after each failure, from the second one on at least so long, up to the longest one.
+/// The pause before the next try: doubled after each failure, from the second one on at least so
+/// long, up to the longest one.
 #[derive(Clone, Copy, Debug)]
 pub(crate) struct Backoff {
     first: Duration,

@@ -16,8 +16,9 @@ use std::time::{Clock, Duration, Instant};
 /// The milliseconds between two looks whether a peer is up yet that has opened the link itself.
 const LOOK: u64 = 1_000;
 
-/// A link that ended so many seconds after it was dialled, or sooner, has ended early. Longer than the longest pause, so that two
-/// nodes of one name, which end each other's link to a peer, dial it no more often than that.
+/// A link that ended so many seconds after it was dialled, or sooner, has ended early. Longer than
+/// the longest pause, so that two nodes of one name, which end each other's link to a peer, dial it
+/// no more often than that.
 const EARLY: u64 = 60;
 
 /// Starts a thread that keeps a link to a peer, for which a lane is kept: whether it could be made.
@@ -242,7 +243,8 @@ fn creation_in(entry: &Entry, wanted: &NodeName) -> Option<u32> {
     }
 }
 
-/// Says that links to the peer end early, and wakes who waits for the node, so that it is looked at.
+/// Says that links to the peer end early, and wakes who waits for the node, so that it is looked
+/// at.
 fn tell_unsteady<R: Wait>(rt: &R, node: &Node, lanes: &Lanes<'_>, target: &Target) {
     target.note_unsteady();
     lanes.counts().early_end();

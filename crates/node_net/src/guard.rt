@@ -1,5 +1,6 @@
-//! A guard against peers that hand a challenge of this node's own back to it (Distribution Protocol, Distribution Handshake). The
-//! digest has no direction: who dials this node, and is dialled by it, could else have it answer its own challenge.
+//! A guard against peers that hand a challenge of this node's own back to it (Distribution
+//! Protocol, Distribution Handshake). The digest has no direction: who dials this node, and is
+//! dialled by it, could else have it answer its own challenge.
 use crate::lanes::Lanes;
 use dist_types::OutOfMemory;
 use handshake_frames::{Fed, HsReader, decode_challenge};

@@ -13,7 +13,8 @@ use std::net::TcpStream;
 use std::sync::Wait;
 use std::time::{Clock, Duration, Instant};
 
-/// After so many bytes of a handshake no more are read: a whole one has some hundreds, and the audit keeps what came.
+/// After so many bytes of a handshake no more are read: a whole one has some hundreds, and the
+/// audit keeps what came.
 const LONGEST_HANDSHAKE: usize = 1_024;
 
 /// How far a link is.
@@ -25,8 +26,8 @@ pub(crate) enum Stage {
     Up(u32),
 }
 
-/// What the reader of a link reads from. Until the link is up all reads together have the time of a handshake; then each waits
-/// for a pulse, and the link is lost after eight of them without a byte.
+/// What the reader of a link reads from. Until the link is up all reads together have the time of a
+/// handshake; then each waits for a pulse, and the link is lost after eight of them without a byte.
 #[derive(Drop)]
 pub(crate) struct LinkInput<'a, R: Wait + Clock> {
     pub(crate) at: &'a HostedLink<'a, R>,

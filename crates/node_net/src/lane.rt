@@ -13,12 +13,14 @@ use std::marker::Model;
 use std::sync::Wait;
 use std::thread::Threads;
 
-/// Two passes that serve one link after another, and a source of challenges. Whatever a peer sends, they only ever call Opened and
-/// Dial, each with the next word of the source, and Frame, Take and Lost of the links that these opened.
+/// Two passes that serve one link after another, and a source of challenges. Whatever a peer sends,
+/// they only ever call Opened and Dial, each with the next word of the source, and Frame, Take and
+/// Lost of the links that these opened.
 pub struct Lane {
     reader: Pass,
     writer: Pass,
-    /// That of the next link. It is drawn already, so that it can be guarded before the link is opened.
+    /// That of the next link. It is drawn already, so that it can be guarded before the link is
+    /// opened.
     challenge: u32,
     source: ChallengeSource<ChaCha20Rng>,
 }
@@ -39,9 +41,19 @@ impl Model for Lane {
 
     ghost Value = { Pair };
 
-    ghost view = { λ lane. record { reader = lane.reader; writer = lane.writer; challenge = lane.challenge; left = lane.source } };
+    ghost view = { λ lane. record {
+      reader = lane.reader;
+      writer = lane.writer;
+      challenge = lane.challenge;
+      left = lane.source;
+    } };
 
-    ghost invariant = { λ lane. IsLane (record { reader = lane.reader; writer = lane.writer; challenge = lane.challenge; left = lane.source }) };
+    ghost invariant = { λ lane. IsLane (record {
+      reader = lane.reader;
+      writer = lane.writer;
+      challenge = lane.challenge;
+      left = lane.source;
+    }) };
 }
 
 /// A pass that has made calls before can't be a lane's; both come back.
@@ -104,7 +116,8 @@ impl Lane {
         self.challenge
     }
 
-    /// Opens a link with its challenge: its number, unless the node refuses it. A call that makes an entry uses the challenge up.
+    /// Opens a link with its challenge: its number, unless the node refuses it. A call that makes
+    /// an entry uses the challenge up.
     pub(crate) fn open<R: Wait>(&mut self, rt: &R, node: &Node, event: Event) -> Option<u32>
         requires opening { IsOpening self.old.challenge event }
         ensures own { IfSome result (Contains (own_links self.new.reader.calls)) }

@@ -37,7 +37,8 @@ struct State {
     next: u64,
     /// To how many peers that are dialled no link is up.
     dials: usize,
-    /// Somebody waits for a lane, or none is left for a further peer; that is said once until one is free again.
+    /// Somebody waits for a lane, or none is left for a further peer; that is said once until one
+    /// is free again.
     is_full: bool,
     /// No further link is served.
     is_draining: bool,
@@ -295,7 +296,8 @@ impl<'a> Lanes<'a> {
         self.free_some(state);
     }
 
-    /// No lane is kept for a dial from now on, since a link to its peer is up that the peer has opened.
+    /// No lane is kept for a dial from now on, since a link to its peer is up that the peer has
+    /// opened.
     pub(crate) fn keep_one_less<R: Wait>(&self, rt: &R) {
         let mut state = self.state.lock(rt);
         state.dials = state.dials.saturating_sub(1);

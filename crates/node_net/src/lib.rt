@@ -1,4 +1,5 @@
-//! The links of a node over TCP: lanes that take connections and lanes that dial, their limits of time, and their end.
+//! The links of a node over TCP: lanes that take connections and lanes that dial, their limits of
+//! time, and their end.
 #![tactic(auto)]
 
 mod accepting;

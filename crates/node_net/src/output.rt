@@ -9,11 +9,12 @@ use std::sync::{Mutex, Wait};
 use std::thread;
 use std::time::{Clock, Duration, Instant};
 
-/// A message without a body, which says that this end lives (Distribution Protocol, Protocol between Connected Nodes).
+/// A message without a body, which says that this end lives (Distribution Protocol, Protocol
+/// between Connected Nodes).
 const TICK: [u8; 4] = [0; 4];
 
-/// How the acknowledgement begins, behind its length: the last frame that an end owes to a handshake that it hasn't begun, and the
-/// first one of its batch.
+/// How the acknowledgement begins, behind its length: the last frame that an end owes to a
+/// handshake that it hasn't begun, and the first one of its batch.
 const ACK: [u8; 3] = [0, 17, b'a'];
 
 /// What was written.
@@ -24,7 +25,8 @@ struct Written {
     last: Instant,
 }
 
-/// The way out of a link, shared by both directions. The lock is held for a whole batch of frames, or a tick.
+/// The way out of a link, shared by both directions. The lock is held for a whole batch of frames,
+/// or a tick.
 #[derive(Drop)]
 pub(crate) struct Outlet<'a> {
     stream: &'a TcpStream,

@@ -57,8 +57,9 @@ impl Tries {
         self.pauses.reset();
     }
 
-    /// Counts a dial: whether it is the second one to the same life of the peer that has ended early. A peer that has begun anew is
-    /// dialled at once. One that hangs up again and again may have another peer of this node's name, and is left in peace for longer.
+    /// Counts a dial: whether it is the second one to the same life of the peer that has ended
+    /// early. A peer that has begun anew is dialled at once. One that hangs up again and again may
+    /// have another peer of this node's name, and is left in peace for longer.
     pub(crate) fn count(&mut self, dialled: Dialled) -> bool {
         let early = match dialled {
             Dialled::Stopped | Dialled::Failed(_) => return false,
@@ -73,7 +74,8 @@ impl Tries {
         is_same
     }
 
-    /// The pause before the next dial: shortened by up to its half, so that nodes don't all dial at once.
+    /// The pause before the next dial: shortened by up to its half, so that nodes don't all dial at
+    /// once.
     pub(crate) fn pause<R: Clock>(&mut self, rt: &R) -> Duration {
         let pause = self.pauses.grow();
         let part = pause / (2 * PARTS);

@@ -27,7 +27,8 @@ with_call pass n e v = record {
   gone = pass.gone;
 }
 
--- the room after an event of the seat: with the policy's entry and a count that is one more, unless the audit was full
+-- the room after an event of the seat: with the policy's entry and a count that is one more, unless
+-- the audit was full
 abbrev pub room_after : Room → ℕ → Event → Room
 room_after room seat e = record {
   history = after room.history seat e;
@@ -35,12 +36,15 @@ room_after room seat e = record {
   forgotten = room.forgotten;
 }
 
--- the pass after an event with this verdict: with the call that made the entry, unless the audit was full
+-- the pass after an event with this verdict: with the call that made the entry, unless the audit
+-- was full
 abbrev pub pass_after : History → Record → Event → Verdict → Record
 pass_after h pass e v = cond (is_full h) pass (with_call pass (next_number h) e v)
 
--- the pass fits, the verdict on its seat's event is the policy's, and the room and the pass have gained the entry and the call
-pub record IsAnswered (room : Room) (pass : Record) (e : Event) (v : Verdict) (room' : Room) (pass' : Record) : Type 0 where
+-- the pass fits, the verdict on its seat's event is the policy's, and the room and the pass have
+-- gained the entry and the call
+pub record IsAnswered (room : Room) (pass : Record) (e : Event) (v : Verdict) (room' : Room)
+    (pass' : Record) : Type 0 where
   pub fits : Fits room pass
   pub policy : v ≡ verdict room.history pass.seat e
   pub room_is : room' ≡ room_after room pass.seat e
@@ -53,14 +57,19 @@ pub record IsSame (room : Room) (pass : Record) (room' : Room) (pass' : Record) 
 
 -- what a call that is answered so makes of the room and the pass
 abbrev pub Applied : Room → Record → Event → Result Reply CallFault → Room → Record → Type 0
-Applied room pass e (Ok reply) room' pass' = IsAnswered room pass e (verdicts.Accepted reply) room' pass'
-Applied room pass e (Err (Core (Refused rule))) room' pass' = IsAnswered room pass e (verdicts.Refused rule) room' pass'
-Applied room pass e (Err (Core OutOfMemory)) room' pass' = Fits room pass × (is_full room.history ≡ false) × IsSame room pass room' pass'
-Applied room pass e (Err StrangePass) room' pass' = (Fits room pass → ⊥) × IsSame room pass room' pass'
+Applied room pass e (Ok reply) room' pass' =
+    IsAnswered room pass e (verdicts.Accepted reply) room' pass'
+Applied room pass e (Err (Core (Refused rule))) room' pass' =
+    IsAnswered room pass e (verdicts.Refused rule) room' pass'
+Applied room pass e (Err (Core OutOfMemory)) room' pass' = Fits room pass
+    × (is_full room.history ≡ false) × IsSame room pass room' pass'
+Applied room pass e (Err StrangePass) room' pass' = (Fits room pass → ⊥)
+    × IsSame room pass room' pass'
 
 -- the same, of a room that was found behind the lock and is left there
 abbrev pub Called : Record → Event → Result Reply CallFault → Record → Type 0
-Called pass e answer pass' = (room : Room) × (room' : Room) × IsSound room × IsSound room' × Applied room pass e answer room' pass'
+Called pass e answer pass' = (room : Room) × (room' : Room) × IsSound room × IsSound room'
+    × Applied room pass e answer room' pass'
 
 -- the answer, without the loan
 abbrev pub answer_now : Result (Bor Reply) CallFault → Result Reply CallFault

@@ -31,7 +31,8 @@ entries_of seat es = length (filter (of seat) es)
 abbrev pub call_of : Entry → Call
 call_of e = record { number = e.number; event = e.event; verdict = e.verdict }
 
--- the calls that made the entries of this seat, the oldest first; a history has its newest entry first
+-- the calls that made the entries of this seat, the oldest first; a history has its newest entry
+-- first
 abbrev pub calls_of : ℕ → List Entry → List Call
 calls_of seat es = map call_of (filter (of seat) (reverse es))
 

@@ -48,8 +48,8 @@ kept_entries forgotten es = reverse (later_than forgotten es)
 abbrev pub MadeLast : ℕ → List Call → List Entry → Type 0
 MadeLast seat calls kept = Agree (reverse calls) (map call_of (filter (of seat) kept))
 
--- the pass is of one of the seats, has made as many calls as its seat has entries, and those that it
--- keeps made the last of these, as far as the audit keeps them, each once and in their order
+-- the pass is of one of the seats, has made as many calls as its seat has entries, and those that
+-- it keeps made the last of these, as far as the audit keeps them, each once and in their order
 pub record IsOwn (room : Room) (p : Record) : Type 0 where
   pub fits : Fits room p
   pub last : MadeLast p.seat (kept_calls p)
@@ -78,7 +78,8 @@ pub record IsSettled (room : Room) (ps : List Record) : Type 0 where
 abbrev pub IsCloseFault : CloseRule → Room → List Record → Type 0
 IsCloseFault MissingPass room ps = LacksOne (length room.counts) ps
 IsCloseFault DoublePass room ps = HaveEach (length room.counts) ps × HasTwo (length room.counts) ps
-IsCloseFault Mismatch room ps = HaveEach (length room.counts) ps × HaveOne (length room.counts) ps × (AreOwn room ps → ⊥)
+IsCloseFault Mismatch room ps = HaveEach (length room.counts) ps × HaveOne (length room.counts) ps
+    × (AreOwn room ps → ⊥)
 
 -- the node and the passes are those of some room, which the passes settle
 abbrev pub IsClosed : Recorded → List Record → Type 0

@@ -13,5 +13,7 @@ is_done (Messages reader) = true
 
 -- it is fed as the reader that it is, and stays a reader of that kind
 abbrev pub CutsOff : Cutter → List ℕ → ℕ → Option (List ℕ) → Cutter → Type 0
-CutsOff (Handshake rest) piece used body new = (later : List ℕ) × (new ≡ Handshake later) × IsFed w16 rest piece used body later
-CutsOff (Messages reader) piece used body new = (later : Progress) × (new ≡ Messages later) × Feeds reader piece used body later
+CutsOff (Handshake rest) piece used body new = (later : List ℕ) × (new ≡ Handshake later)
+    × IsFed w16 rest piece used body later
+CutsOff (Messages reader) piece used body new = (later : Progress) × (new ≡ Messages later)
+    × Feeds reader piece used body later

@@ -10,7 +10,8 @@ use Rattle.node_threads.specs.Calls.{Record}
 -- these are the next words of the stream, in order, and this is what is left of it
 abbrev pub Draws : Stream → List ℕ → Stream → Type 0
 Draws stream [] left = left ≡ stream
-Draws stream (word ∷ words) left = (word ≡ (next_u32 stream).0) × Draws (next_u32 stream).1 words left
+Draws stream (word ∷ words) left = (word ≡ (next_u32 stream).0)
+    × Draws (next_u32 stream).1 words left
 
 -- these are the next words of the stream, in order
 abbrev pub AreNext : Stream → List ℕ → Type 0

@@ -17,7 +17,8 @@ abbrev pub read_end_of_feed : FeedFault → ReadEnd
 read_end_of_feed faults.TooLong = ends.TooLong
 read_end_of_feed faults.OutOfMemory = ends.Memory
 
--- which end follows on a frame without a reply, if one does: a handshake ends when it is refused; one that is done outlives refusals
+-- which end follows on a frame without a reply, if one does: a handshake ends when it is refused;
+-- one that is done outlives refusals
 abbrev pub end_of : CallFault → Bool → Option ReadEnd
 end_of StrangePass done = Some ends.StrangePass
 end_of (Core OutOfMemory) done = Some ends.Memory

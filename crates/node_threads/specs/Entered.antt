@@ -18,7 +18,8 @@ abbrev pub is_entered : Rule → Bool
 is_entered EntriesFull = false
 is_entered rule = true
 
--- the verdict of the entry that was made, if one was: none by a full audit, want of memory or a strange pass
+-- the verdict of the entry that was made, if one was: none by a full audit, want of memory or a
+-- strange pass
 abbrev pub verdict_in : Result Reply CallFault → Option Verdict
 verdict_in (Ok reply) = Some (verdicts.Accepted reply)
 verdict_in (Err (Core (Refused rule))) = cond (is_entered rule) (Some (verdicts.Refused rule)) None
@@ -30,14 +31,18 @@ abbrev pub IsEntry : Event → Option Verdict → List Call → Type 0
 IsEntry e None calls = calls ≡ []
 IsEntry e (Some v) calls = (c : Call) × (calls ≡ c ∷ []) × (c.event ≡ e) × (c.verdict ≡ v)
 
--- the event was called and answered so, and the pass has gained the call where it is an entry, and nothing else
-pub record Enters (pass : Record) (e : Event) (answer : Result Reply CallFault) (more : List Call) (pass' : Record) : Type 0 where
+-- the event was called and answered so, and the pass has gained the call where it is an entry, and
+-- nothing else
+pub record Enters (pass : Record) (e : Event) (answer : Result Reply CallFault) (more : List Call)
+    (pass' : Record) : Type 0 where
   pub called : Called pass e answer pass'
   pub entry : IsEntry e (verdict_in answer) more
   pub gains : Gains pass more pass'
 
--- the pass has gained these calls, and the last that was called is this event, answered with this fault
-pub record EndsAt (e : Event) (fault : CallFault) (pass : Record) (calls : List Call) (pass' : Record) : Type 0 where
+-- the pass has gained these calls, and the last that was called is this event, answered with this
+-- fault
+pub record EndsAt (e : Event) (fault : CallFault) (pass : Record) (calls : List Call)
+    (pass' : Record) : Type 0 where
   pub earlier : List Call
   pub mid : Record
   pub last : List Call

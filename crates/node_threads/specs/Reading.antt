@@ -22,8 +22,10 @@ use Rattle.node_threads.specs.Retreat.{Leaves}
 abbrev pub AreFrames : ℕ → List (List ℕ) → List Call → Type 0
 AreFrames link bodies calls = map (λ (c : Call). c.event) calls ≡ map (Frame link) bodies
 
--- the calls are the frames of the bodies that stand in the bytes behind lengths of 2 bytes; a rest is less than a whole one
-pub record OfHandshake (link : ℕ) (bytes : List ℕ) (calls : List Call) (rest : List ℕ) : Type 0 where
+-- the calls are the frames of the bodies that stand in the bytes behind lengths of 2 bytes; a rest
+-- is less than a whole one
+pub record OfHandshake (link : ℕ) (bytes : List ℕ) (calls : List Call)
+    (rest : List ℕ) : Type 0 where
   pub bodies : List (List ℕ)
   pub splits : Splits w16 bytes bodies rest
   pub frames : AreFrames link bodies calls
@@ -62,21 +64,26 @@ IsRead link bytes calls (Messages reader) = AfterUp link bytes calls reader.rest
 
 -- from the one cutter to the other the bytes were read as these calls, whatever was read before
 abbrev pub Moves : ℕ → Cutter → List ℕ → List Call → Cutter → Type 0
-Moves link old bytes more new = (before : List ℕ) (calls : List Call) → IsRead link before calls old → IsRead link (before ++ bytes) (calls ++ more) new
+Moves link old bytes more new = (before : List ℕ) (calls : List Call) → IsRead link before calls old
+    → IsRead link (before ++ bytes) (calls ++ more) new
 
 -- the bytes were read, and the pass has gained their frames
-pub record ReadsOn (link : ℕ) (pass : Record) (old : Cutter) (bytes : List ℕ) (pass' : Record) (new : Cutter) : Type 0 where
+pub record ReadsOn (link : ℕ) (pass : Record) (old : Cutter) (bytes : List ℕ) (pass' : Record)
+    (new : Cutter) : Type 0 where
   pub more : List Call
   pub gains : Gains pass more pass'
   pub moves : Moves link old bytes more new
 
--- the reader stops for a reason of its own; or the last that was called is a frame whose answer ends it, the handshake being done or not
+-- the reader stops for a reason of its own; or the last that was called is a frame whose answer
+-- ends it, the handshake being done or not
 abbrev pub HasReason : ℕ → Bool → Record → List Call → ReadEnd → Record → Type 0
 HasReason link done pass frames stop pass' =
-    (reader_gives_up stop ≡ true) ⊎ ((body : List ℕ) × (fault : CallFault) × EndsAt (Frame link body) fault pass frames pass' × (end_of fault done ≡ Some stop))
+    (reader_gives_up stop ≡ true) ⊎ ((body : List ℕ) × (fault : CallFault)
+    × EndsAt (Frame link body) fault pass frames pass' × (end_of fault done ≡ Some stop))
 
 -- some of the bytes were read, and then the reader stopped
-pub record Stops (link : ℕ) (pass : Record) (old : Cutter) (bytes : List ℕ) (stop : ReadEnd) (pass' : Record) : Type 0 where
+pub record Stops (link : ℕ) (pass : Record) (old : Cutter) (bytes : List ℕ) (stop : ReadEnd)
+    (pass' : Record) : Type 0 where
   pub used : List ℕ
   pub unused : List ℕ
   pub cutter : Cutter
@@ -87,18 +94,23 @@ pub record Stops (link : ℕ) (pass : Record) (old : Cutter) (bytes : List ℕ) 
 
 -- a body was handed in, and the reader goes on; or the answer to its frame ends it
 abbrev pub Gave : ℕ → List ℕ → Bool → Record → Result Bool ReadEnd → Record → Type 0
-Gave link body done pass (Ok up) pass' = (c : Call) × (c.event ≡ Frame link body) × (is_up c ≡ up) × Gains pass (c ∷ []) pass'
-Gave link body done pass (Err stop) pass' = (fault : CallFault) × (more : List Call) × Enters pass (Frame link body) (Err fault) more pass' × (end_of fault done ≡ Some stop)
+Gave link body done pass (Ok up) pass' = (c : Call) × (c.event ≡ Frame link body) × (is_up c ≡ up)
+    × Gains pass (c ∷ []) pass'
+Gave link body done pass (Err stop) pass' = (fault : CallFault) × (more : List Call)
+    × Enters pass (Frame link body) (Err fault) more pass' × (end_of fault done ≡ Some stop)
 
 -- a body at most was cut off and handed in: so many bytes were used
 abbrev pub Handed : ℕ → Record → Cutter → List ℕ → Result ℕ ReadEnd → Record → Cutter → Type 0
-Handed link pass old piece (Ok used) pass' new = (used ≤ length piece) × (0 < length piece → 0 < used) × ReadsOn link pass old (take used piece) pass' new
+Handed link pass old piece (Ok used) pass' new = (used ≤ length piece)
+    × (0 < length piece → 0 < used) × ReadsOn link pass old (take used piece) pass' new
 Handed link pass old piece (Err stop) pass' new = Stops link pass old piece stop pass'
 
 -- ---- the whole
 
--- of what was read, the pass has gained the frames of the first bodies; where the bytes have ended, of all whole ones
-pub record ReadsTo (link : ℕ) (pass : Record) (bytes : List ℕ) (stop : ReadEnd) (pass' : Record) : Type 0 where
+-- of what was read, the pass has gained the frames of the first bodies; where the bytes have ended,
+-- of all whole ones
+pub record ReadsTo (link : ℕ) (pass : Record) (bytes : List ℕ) (stop : ReadEnd)
+    (pass' : Record) : Type 0 where
   pub used : List ℕ
   pub unused : List ℕ
   pub frames : List Call
@@ -109,8 +121,10 @@ pub record ReadsTo (link : ℕ) (pass : Record) (bytes : List ℕ) (stop : ReadE
   pub reason : HasReason link (is_done cutter) pass frames stop pass'
   pub closed : stop ≡ ends.Closed → unused ≡ []
 
--- the same; then a reader that stops for a reason of its own gives its link up, and tells what that came to
-pub record ReadsAs (link : ℕ) (pass : Record) (bytes : List ℕ) (end : ReadEnd) (pass' : Record) : Type 0 where
+-- the same; then a reader that stops for a reason of its own gives its link up, and tells what that
+-- came to
+pub record ReadsAs (link : ℕ) (pass : Record) (bytes : List ℕ) (end : ReadEnd)
+    (pass' : Record) : Type 0 where
   pub stop : ReadEnd
   pub mid : Record
   pub lost : List Call

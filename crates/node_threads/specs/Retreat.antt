@@ -27,8 +27,10 @@ step_after tries (Err (Core (Refused rule))) = steps.Settled
 step_after tries (Err StrangePass) = steps.Settled
 step_after tries (Ok reply) = steps.Settled
 
--- the link was given up: the last that was called is its Lost, which the pass has gained where it is an entry; the answer says what follows
-pub record GivesUp (link : ℕ) (pass : Record) (lost : List Call) (step : RetreatStep) (pass' : Record) : Type 0 where
+-- the link was given up: the last that was called is its Lost, which the pass has gained where it
+-- is an entry; the answer says what follows
+pub record GivesUp (link : ℕ) (pass : Record) (lost : List Call) (step : RetreatStep)
+    (pass' : Record) : Type 0 where
   pub answer : Result Reply CallFault
   pub enters : Enters pass (Lost link) answer lost pass'
   pub step_is : step ≡ step_after 63 answer

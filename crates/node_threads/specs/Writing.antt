@@ -33,26 +33,35 @@ wires calls = flat_map wire_bytes (flat_map (λ (c : Call). frames_in c.verdict)
 
 -- the last Take is answered so that its writer ends, or some link of the node is stuck
 abbrev pub IsSent : ℕ → Record → List Call → WriteEnd → Record → Type 0
-IsSent link pass takes stop pass' = (stop ≡ ends.StuckLink) ⊎ ((fault : CallFault) × EndsAt (Take link) fault pass takes pass' × (stop ≡ take_end fault))
+IsSent link pass takes stop pass' = (stop ≡ ends.StuckLink)
+    ⊎ ((fault : CallFault) × EndsAt (Take link) fault pass takes pass' × (stop ≡ take_end fault))
 
 -- the writer stops for a reason of its own; or it is sent away, and has written all that it took
-abbrev pub HasReason : ℕ → Record → List Call → Option (List ℕ) → WriteEnd → Option (List ℕ) → Record → Type 0
-HasReason link pass takes known stop known' pass' = (writer_gives_up stop ≡ true) ⊎ (IsSent link pass takes stop pass' × Appends known known' (wires takes))
+abbrev pub HasReason : ℕ → Record → List Call → Option (List ℕ) → WriteEnd → Option (List ℕ)
+    → Record → Type 0
+HasReason link pass takes known stop known' pass' = (writer_gives_up stop ≡ true)
+    ⊎ (IsSent link pass takes stop pass' × Appends known known' (wires takes))
 
 -- one Take: its frames were written; or the writer stops
-abbrev pub Took : ℕ → Record → Option (List ℕ) → Result (Unit {0}) WriteEnd → Option (List ℕ) → Record → Type 0
-Took link pass known (Ok done) known' pass' = (c : Call) × (c.event ≡ Take link) × Gains pass (c ∷ []) pass' × Appends known known' (wires (c ∷ []))
-Took link pass known (Err stop) known' pass' = (more : List Call) × AreTakes link more × Gains pass more pass' × HasReason link pass more known stop known' pass'
+abbrev pub Took : ℕ → Record → Option (List ℕ) → Result (Unit {0}) WriteEnd → Option (List ℕ)
+    → Record → Type 0
+Took link pass known (Ok done) known' pass' = (c : Call) × (c.event ≡ Take link)
+    × Gains pass (c ∷ []) pass' × Appends known known' (wires (c ∷ []))
+Took link pass known (Err stop) known' pass' = (more : List Call) × AreTakes link more
+    × Gains pass more pass' × HasReason link pass more known stop known' pass'
 
 -- the pass has gained Takes, and then the writer stopped
-pub record WritesTo (link : ℕ) (pass : Record) (known : Option (List ℕ)) (stop : WriteEnd) (known' : Option (List ℕ)) (pass' : Record) : Type 0 where
+pub record WritesTo (link : ℕ) (pass : Record) (known : Option (List ℕ)) (stop : WriteEnd)
+    (known' : Option (List ℕ)) (pass' : Record) : Type 0 where
   pub takes : List Call
   pub are_takes : AreTakes link takes
   pub gains : Gains pass takes pass'
   pub reason : HasReason link pass takes known stop known' pass'
 
--- the same; then a writer that stops for a reason of its own gives its link up, and tells what that came to
-pub record WritesAs (link : ℕ) (pass : Record) (known : Option (List ℕ)) (end : WriteEnd) (known' : Option (List ℕ)) (pass' : Record) : Type 0 where
+-- the same; then a writer that stops for a reason of its own gives its link up, and tells what that
+-- came to
+pub record WritesAs (link : ℕ) (pass : Record) (known : Option (List ℕ)) (end : WriteEnd)
+    (known' : Option (List ℕ)) (pass' : Record) : Type 0 where
   pub stop : WriteEnd
   pub mid : Record
   pub lost : List Call

@@ -57,9 +57,10 @@ pub struct Accepted {
     pub end: AcceptEnd,
 }
 
-/// Takes connections from a door, opens a link for each with the next challenge of the source, and serves it with the next pair,
-/// on threads of its own; where no thread can be made, on this one. A connection is hung up where the node has no room for its link,
-/// and the next one is taken. Returns when no more are taken and all links have ended.
+/// Takes connections from a door, opens a link for each with the next challenge of the source, and
+/// serves it with the next pair, on threads of its own; where no thread can be made, on this one. A
+/// connection is hung up where the node has no room for its link, and the next one is taken.
+/// Returns when no more are taken and all links have ended.
 pub fn accept_links<R, D, S, G>(
     rt: &R,
     alloc: Global,
@@ -88,10 +89,12 @@ where
         thread::scope_env(),
         rt,
         |scope| -> Accepted
-            requires { (held.items ≡ []) × (back.items ≡ []) × (vec_len pairs ≤ vec_capacity held) × (vec_len pairs ≤ vec_capacity back) }
+            requires { (held.items ≡ []) × (back.items ≡ []) × (vec_len pairs ≤ vec_capacity held)
+                × (vec_len pairs ≤ vec_capacity back) }
             ensures served { HaveServed result.served pairs.items result.pairs.items }
             ensures used { result.end ≡ ends.PassesUsed → result.served ≡ vec_len pairs }
-            ensures drawn { AreNext (S.stream source.entry.now) (opened_with pairs.items result.pairs.items) }
+            ensures drawn { AreNext (S.stream source.entry.now)
+                (opened_with pairs.items result.pairs.items) }
         {
             let host = Host {
                 scope,
@@ -108,7 +111,8 @@ where
 fn unserved(pairs: Vec<Pair>) -> Accepted
     ensures served { HaveServed result.served pairs.items result.pairs.items }
     ensures used { result.end ≢ ends.PassesUsed }
-    ensures drawn { (stream : Stream) → AreNext stream (opened_with pairs.items result.pairs.items) }
+    ensures drawn { (stream : Stream)
+        → AreNext stream (opened_with pairs.items result.pairs.items) }
 {
     Accepted {
         pairs,
@@ -143,11 +147,13 @@ where
     D::Output: 's,
     S: Rng,
     G: Gate + Sync + 's,
-    requires { (held.items ≡ []) × (back.items ≡ []) × (vec_len pairs ≤ vec_capacity held) × (vec_len pairs ≤ vec_capacity back) }
+    requires { (held.items ≡ []) × (back.items ≡ []) × (vec_len pairs ≤ vec_capacity held)
+        × (vec_len pairs ≤ vec_capacity back) }
     ensures served { HaveServed result.served pairs.items result.pairs.items }
     ensures used { result.end ≡ ends.PassesUsed → result.served ≡ vec_len pairs }
     ensures drawn { AreNext (S.stream source.old) (opened_with pairs.items result.pairs.items) }
-    ensures left { HaveDrawn result.end (S.stream source.old) (opened_with pairs.items result.pairs.items) (S.stream source.new) }
+    ensures left { HaveDrawn result.end (S.stream source.old)
+        (opened_with pairs.items result.pairs.items) (S.stream source.new) }
 {
     let mut stop = None;
     for pair in pairs {
@@ -192,7 +198,8 @@ impl Promise<Pair> for OfLink {
     ghost kept_by = { λ promise pair. Works promise.link promise.pair.value pair };
 }
 
-/// What the pair at this place does: it serves the next connection. Where there is an end, it rests.
+/// What the pair at this place does: it serves the next connection. Where there is an end, it
+/// rests.
 fn serve_next<'s, E: 's, R, D, S, G>(
     host: &Host<'s, E, R, G>,
     mut pair: Pair,
@@ -209,7 +216,8 @@ where
     S: Rng,
     G: Gate + Sync + 's,
     ensures turn { Turns pair place stop.old result stop.new }
-    ensures drawn { Spends pair stop.old (S.stream source.old) result stop.new (S.stream source.new) }
+    ensures drawn { Spends pair stop.old (S.stream source.old) result stop.new
+        (S.stream source.new) }
 {
     if stop.is_some() {
         return Held::Ended(pair);

@@ -1,4 +1,5 @@
-//! Calls. A reply is lent out of the pass, so a caller learns what becomes of its pass where the pass comes first.
+//! Calls. A reply is lent out of the pass, so a caller learns what becomes of its pass where the
+//! pass comes first.
 ghost use Rattle.std.specs.Prelude.{◌≡◌};
 ghost use Rattle.std.specs.Borrow.{sem};
 ghost use Rattle.node_threads.specs.Calls.{Record};
@@ -14,10 +15,11 @@ use policy_audit::{Event, Reply};
 use std::sync::Wait;
 
 impl Pass {
-    /// Answers an event of this seat under a lock that the caller has taken, and keeps the call where it made an entry. It
-    /// wakes nobody.
+    /// Answers an event of this seat under a lock that the caller has taken, and keeps the call
+    /// where it made an entry. It wakes nobody.
     pub fn apply(&mut self, shared: &mut Shared, event: Event) -> Result<&Reply, CallFault>
-        ensures* applied { sem 𝓛 (PassEnds self.entry (λ pass. Applied shared.old self.old event (answer_now result) shared.new pass)) }
+        ensures* applied { sem 𝓛 (PassEnds self.entry (λ pass.
+            Applied shared.old self.old event (answer_now result) shared.new pass)) }
         ensures found { IsSound shared.old }
         ensures left { IsSound shared.new }
     {
@@ -25,10 +27,11 @@ impl Pass {
         Ok(self.last_reply())
     }
 
-    /// Takes the node's lock, answers an event of this seat, keeps the call where it made an entry, and wakes whom it concerns.
-    /// The lock is free again while the caller looks at the reply.
+    /// Takes the node's lock, answers an event of this seat, keeps the call where it made an entry,
+    /// and wakes whom it concerns. The lock is free again while the caller looks at the reply.
     pub fn call<R: Wait>(&mut self, node: &Node, rt: &R, event: Event) -> Result<&Reply, CallFault>
-        ensures* { sem 𝓛 (PassEnds self.entry (λ pass. Called self.old event (answer_now result) pass)) }
+        ensures* { sem 𝓛 (PassEnds self.entry (λ pass.
+            Called self.old event (answer_now result) pass)) }
     {
         let mut shared = node.shared.lock(rt);
         let answer = self.apply(&mut shared, event);
@@ -40,7 +43,8 @@ impl Pass {
 impl Shared {
     /// `Pass::apply` with the lock first.
     pub fn apply<'a>(&mut self, pass: &'a mut Pass, event: Event) -> Result<&'a Reply, CallFault>
-        ensures applied { (left : Record) × Applied self.old pass.old event (answer_now result) self.new left }
+        ensures applied { (left : Record)
+            × Applied self.old pass.old event (answer_now result) self.new left }
         ensures found { IsSound self.old }
         ensures left { IsSound self.new }
     {

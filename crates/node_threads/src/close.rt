@@ -52,8 +52,9 @@ pub struct Closed {
 }
 
 impl Shared {
-    /// Whether these are the passes of all seats, each once, each made as many calls as its seat has entries, and its calls are
-    /// these, as far as it keeps them, and the audit keeps those. It takes no memory.
+    /// Whether these are the passes of all seats, each once, each made as many calls as its seat
+    /// has entries, and its calls are these, as far as it keeps them, and the audit keeps those. It
+    /// takes no memory.
     pub fn settles(&self, passes: &[Pass]) -> Result<(), CloseRule>
         ensures ok { OnOk result (IsSettled self.now passes.now) }
         ensures refused { IfErr result (λ rule. IsCloseFault rule self.now passes.now) }
@@ -89,10 +90,11 @@ impl Shared {
         passes.iter().all(|pass| self.knows(pass))
     }
 
-    /// Hands out the node, where these are the passes of all seats, each once, and each is that of its seat, as `settles` says.
-    /// Else all comes back as it was. It takes no memory.
+    /// Hands out the node, where these are the passes of all seats, each once, and each is that of
+    /// its seat, as `settles` says. Else all comes back as it was. It takes no memory.
     pub fn close(self, passes: Vec<Pass>) -> Result<Closed, Unsettled>
-        ensures ok { IfOk result (λ closed. (closed.core ≡ recorded self) × IsSettled self passes.items) }
+        ensures ok { IfOk result (λ closed. (closed.core ≡ recorded self)
+            × IsSettled self passes.items) }
         ensures refused { IfErr result (λ fault. IsCloseFault fault.rule self passes.items) }
         ensures passes { IfOk result (λ closed. closed.passes ≡ passes) }
         ensures back { IfErr result (λ fault. (fault.shared ≡ self) × (fault.passes ≡ passes)) }
@@ -113,10 +115,13 @@ impl Shared {
 }
 
 impl Node {
-    /// `Shared::close` of what lies behind the lock. Where passes don't settle it, node and passes come back.
+    /// `Shared::close` of what lies behind the lock. Where passes don't settle it, node and passes
+    /// come back.
     pub fn close(self, passes: Vec<Pass>) -> Result<Closed, CloseFault>
-        ensures ok { IfOk result (λ closed. IsClosed closed.core closed.passes.items × (closed.passes ≡ passes)) }
-        ensures refused { IfErr result (λ fault. IsRefused fault.rule fault.passes.items × (fault.passes ≡ passes)) }
+        ensures ok { IfOk result (λ closed. IsClosed closed.core closed.passes.items
+            × (closed.passes ≡ passes)) }
+        ensures refused { IfErr result (λ fault. IsRefused fault.rule fault.passes.items
+            × (fault.passes ≡ passes)) }
     {
         let Node {
             shared,
@@ -194,13 +199,14 @@ fn calls_by_seat(passes: &[Pass], seats: u32) -> [&[Call]; 256]
     calls
 }
 
-/// Whether these are, seat by seat, the last calls that made the entries of the audit, as far as both are kept. It goes from the
-/// last entry back.
+/// Whether these are, seat by seat, the last calls that made the entries of the audit, as far as
+/// both are kept. It goes from the last entry back.
 fn are_last(audit: &Audit, seats: u32, mut left: [&[Call]; 256]) -> bool
     requires seated { AllByRecursion (λ e. e.seat < seats) audit.now.entries }
     requires few { seats ≤ 256 }
     requires fits { length audit.now.entries < 2 ^ 32 }
-    ensures { IsTrue result ↔ AreLast seats left.entry (kept_entries audit.now.forgotten audit.now.entries) }
+    ensures { IsTrue result ↔ AreLast seats left.entry
+        (kept_entries audit.now.forgotten audit.now.entries) }
 {
     let mut number = audit.len() as u32;
     while let Some(entry) = audit.get(number) {
@@ -215,7 +221,8 @@ fn are_last(audit: &Audit, seats: u32, mut left: [&[Call]; 256]) -> bool
 
 /// The calls before the one that made the entry, where it is the last of these, or there are none.
 fn earlier_calls<'a>(calls: &'a [Call], entry: &Entry) -> Option<&'a [Call]>
-    ensures { MatchOption result ((earlier : List Call) → Precede calls.now entry.now earlier → ⊥) (λ earlier. Precede calls.now entry.now earlier.now) }
+    ensures { MatchOption result ((earlier : List Call) → Precede calls.now entry.now earlier
+        → ⊥) (λ earlier. Precede calls.now entry.now earlier.now) }
 {
     match calls.split_last() {
         None => Some(calls),

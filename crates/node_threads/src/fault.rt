@@ -18,8 +18,8 @@ pub enum NewFault {
 /// Why a call has no reply.
 #[derive(Clone, Copy, Debug, PartialEq, Eq, Error)]
 pub enum CallFault {
-    /// The node lacks the seat of the pass, or has not the entries of that seat which the pass recorded: another node made the
-    /// pass. Nothing has changed.
+    /// The node lacks the seat of the pass, or has not the entries of that seat which the pass
+    /// recorded: another node made the pass. Nothing has changed.
     #[error("the pass isn't of this node")]
     StrangePass,
     #[error("{0}")]

@@ -6,8 +6,8 @@ ghost use Rattle.node_threads.specs.declared.pass.Call.{Call};
 use crate::pass::Call;
 use std::marker::Model;
 
-/// Calls that only contracts read, in their order. It has no bytes, and no type parameter: the prover
-/// would go through what that names like a field.
+/// Calls that only contracts read, in their order. It has no bytes, and no type parameter: the
+/// prover would go through what that names like a field.
 #[derive(Drop)]
 pub(crate) struct LetGo {
     pub ghost calls: { List Call },

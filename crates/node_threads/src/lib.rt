@@ -1,5 +1,5 @@
-//! One node for many threads: a lock around it, a pass for each caller that keeps what it called, and the two workers of a
-//! link.
+//! One node for many threads: a lock around it, a pass for each caller that keeps what it called,
+//! and the two workers of a link.
 #![tactic(auto)]
 
 mod accepting;

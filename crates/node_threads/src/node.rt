@@ -26,15 +26,17 @@ pub struct Node {
 }
 
 impl Shared {
-    /// What a new node has behind its lock, where it has seen nothing, with a pass for each seat, in the order of the seats.
-    /// `BadSeats` where there are none or more than 256, then `BadLimit` where the opening allows no
-    /// entry, and then `BadLinks` where its version of link messages is neither 1 nor 2.
+    /// What a new node has behind its lock, where it has seen nothing, with a pass for each seat,
+    /// in the order of the seats. `BadSeats` where there are none or more than 256, then `BadLimit`
+    /// where the opening allows no entry, and then `BadLinks` where its version of link messages is
+    /// neither 1 nor 2.
     pub fn open(
         alloc: Global,
         opening: Opening,
         seats: u32,
     ) -> Result<(Shared, Vec<Pass>), NewFault>
-        ensures ok { IfOk result (λ made. (made.0 ≡ new_room opening seats) × IsOpened seats made.1.items) }
+        ensures ok { IfOk result (λ made. (made.0 ≡ new_room opening seats)
+            × IsOpened seats made.1.items) }
         ensures bounds { OnOk result (HasBounds seats × (0 < opening.entries)) }
         ensures links { OnOk result (IsVersion opening.links) }
         ensures refused { IfErr result (λ fault. IsNewFault fault opening seats) }
@@ -78,7 +80,8 @@ impl Node {
         Ok((node, passes))
     }
 
-    /// Gives the lock back, and wakes whom it concerns what was called under it: first those for whom a peer or a client waits.
+    /// Gives the lock back, and wakes whom it concerns what was called under it: first those for
+    /// whom a peer or a client waits.
     pub(crate) fn give_back(&self, shared: MutexGuard<'_, Shared>) {
         let calls_writers = shared.calls_writers();
         let has_news = shared.is_last_news();
@@ -92,7 +95,8 @@ impl Node {
         self.moved.notify_all();
     }
 
-    /// Wakes all who wait for the node, so that each looks at it, and at what has changed beside it.
+    /// Wakes all who wait for the node, so that each looks at it, and at what has changed beside
+    /// it.
     pub fn wake<R: Wait>(&self, rt: &R) {
         drop(self.shared.lock(rt));
         self.moved.notify_all();

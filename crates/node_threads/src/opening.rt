@@ -26,9 +26,12 @@ pub(crate) fn open_next<R: Wait, D: Door, S: Rng>(
     source: &mut ChallengeSource<S>,
 ) -> Result<Connection<D::Input, D::Output>, AcceptEnd>
     ensures ok { IfOk result (λ opened. Opens (Some opened.link) reader.old reader.new) }
-    ensures drawn { IfOk result (λ _. Draws (S.stream source.old) (new_challenges reader.old reader.new) (S.stream source.new)) }
-    ensures none { IfErr result (λ end. Opens None reader.old reader.new × (end ≢ ends.PassesUsed)) }
-    ensures left { IfErr result (λ end. HaveDrawn end (S.stream source.old) (new_challenges reader.old reader.new) (S.stream source.new)) }
+    ensures drawn { IfOk result (λ _.
+        Draws (S.stream source.old) (new_challenges reader.old reader.new) (S.stream source.new)) }
+    ensures none { IfErr result (λ end. Opens None reader.old reader.new
+        × (end ≢ ends.PassesUsed)) }
+    ensures left { IfErr result (λ end. HaveDrawn end (S.stream source.old)
+        (new_challenges reader.old reader.new) (S.stream source.new)) }
 {
     for _ in rt.forever() {
         let (input, mut output) = next_of(door)?;

@@ -30,8 +30,9 @@ impl Drop for Call {
     }
 }
 
-/// The right to call a node for one seat, with the calls for that seat that made an entry: all of them, or those since the pass
-/// was last told to let its calls go. Contracts go on seeing all. A node makes one for each seat, and there are no copies.
+/// The right to call a node for one seat, with the calls for that seat that made an entry: all of
+/// them, or those since the pass was last told to let its calls go. Contracts go on seeing all. A
+/// node makes one for each seat, and there are no copies.
 pub struct Pass {
     pub(crate) seat: u32,
     /// How many calls it has let go.
@@ -70,7 +71,11 @@ impl Model for Pass {
 
     ghost Value = { Record };
 
-    ghost view = { λ pass. record { seat = pass.seat; calls = pass.past.calls ++ pass.calls.items; gone = pass.gone } };
+    ghost view = { λ pass. record {
+      seat = pass.seat;
+      calls = pass.past.calls ++ pass.calls.items;
+      gone = pass.gone;
+    } };
 
     ghost invariant = { λ pass. AreParted pass.gone pass.past.calls pass.calls.items };
 }
@@ -110,7 +115,11 @@ impl Pass {
 
     /// Lets the calls go that it keeps, and their memory but for a little.
     pub fn let_go(&mut self)
-        ensures { self.new ≡ record { seat = self.old.seat; calls = self.old.calls; gone = length self.old.calls } }
+        ensures { self.new ≡ record {
+          seat = self.old.seat;
+          calls = self.old.calls;
+          gone = length self.old.calls;
+        } }
     {
         self.gone = self.count();
         self.past = self.past.then(&self.calls);

@@ -27,9 +27,10 @@ const PIECE: usize = 4096;
 /// The most reads of a link.
 const TURNS: u64 = 1 << 32;
 
-/// Reads the bytes of a link and hands in the frame of each body, until there is an end. Up to the frame that is answered `Up`
-/// bodies stand behind lengths of 2 bytes, after it behind lengths of 4. Where the bytes end, a read fails, a body is too long or
-/// memory is wanting, the link is lost. A link that is up outlives the refusals of its messages.
+/// Reads the bytes of a link and hands in the frame of each body, until there is an end. Up to the
+/// frame that is answered `Up` bodies stand behind lengths of 2 bytes, after it behind lengths of
+/// 4. Where the bytes end, a read fails, a body is too long or memory is wanting, the link is lost.
+/// A link that is up outlives the refusals of its messages.
 pub fn read_link<R: Wait, I: Read, G: Gate>(
     rt: &R,
     alloc: Global,
@@ -39,7 +40,8 @@ pub fn read_link<R: Wait, I: Read, G: Gate>(
     input: &mut I,
     gate: &G,
 ) -> ReadEnd
-    ensures bytes { (bytes : List ℕ) × Consumes (I.remaining input.old) (I.remaining input.new) bytes × ReadsAs link pass.old bytes result pass.new }
+    ensures bytes { (bytes : List ℕ) × Consumes (I.remaining input.old) (I.remaining input.new)
+        bytes × ReadsAs link pass.old bytes result pass.new }
     ensures closed { result ≡ ends.Closed → IsAtEnd (I.remaining input.new) }
 {
     let work = LinkWork {
@@ -58,7 +60,8 @@ pub(crate) fn read_to_end<R: Wait, I: Read, G: Gate>(
     input: &mut I,
     gate: &G,
 ) -> ReadEnd
-    ensures bytes { (bytes : List ℕ) × Consumes (I.remaining input.old) (I.remaining input.new) bytes × ReadsAs work.now.link pass.old bytes result pass.new }
+    ensures bytes { (bytes : List ℕ) × Consumes (I.remaining input.old) (I.remaining input.new)
+        bytes × ReadsAs work.now.link pass.old bytes result pass.new }
     ensures closed { result ≡ ends.Closed → IsAtEnd (I.remaining input.new) }
 {
     let stop = read_on(work, pass, input, gate);
@@ -73,7 +76,8 @@ fn read_on<R: Wait, I: Read, G: Gate>(
     input: &mut I,
     gate: &G,
 ) -> ReadEnd
-    ensures bytes { (bytes : List ℕ) × Consumes (I.remaining input.old) (I.remaining input.new) bytes × ReadsTo work.now.link pass.old bytes result pass.new }
+    ensures bytes { (bytes : List ℕ) × Consumes (I.remaining input.old) (I.remaining input.new)
+        bytes × ReadsTo work.now.link pass.old bytes result pass.new }
     ensures closed { result ≡ ends.Closed → IsAtEnd (I.remaining input.new) }
 {
     let mut piece = [0u8; PIECE];
@@ -102,8 +106,10 @@ fn hand_in_all<R: Wait, G: Gate>(
     piece: &[u8],
     gate: &G,
 ) -> Result<(), ReadEnd>
-    ensures ok { OnOk result (ReadsOn work.now.link pass.old cutter.old piece.now pass.new cutter.new) }
-    ensures ended { IfErr result (λ end. Stops work.now.link pass.old cutter.old piece.now end pass.new) }
+    ensures ok { OnOk result (ReadsOn work.now.link pass.old cutter.old piece.now pass.new
+        cutter.new) }
+    ensures ended { IfErr result (λ end. Stops work.now.link pass.old cutter.old piece.now end
+        pass.new) }
 {
     let mut left = piece;
     while !left.is_empty() {
@@ -161,7 +167,8 @@ fn is_up(reply: &Reply) -> bool
     matches!(reply, Reply::Up { .. })
 }
 
-/// Which end follows on a frame without a reply, if one does: a link whose handshake is done outlives the refusals of its messages.
+/// Which end follows on a frame without a reply, if one does: a link whose handshake is done
+/// outlives the refusals of its messages.
 fn end_of(fault: CallFault, done: bool) -> Option<ReadEnd>
     ensures { result ≡ end_of fault done }
 {

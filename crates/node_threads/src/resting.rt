@@ -1,4 +1,5 @@
-//! Writers that rest until something waits for their links. Which links these are is kept, so that no call wakes them in vain.
+//! Writers that rest until something waits for their links. Which links these are is kept, so that
+//! no call wakes them in vain.
 
 /// How many writers may rest so: as many as a node keeps links.
 const PLACES: usize = 64;

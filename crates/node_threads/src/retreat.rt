@@ -55,12 +55,14 @@ impl Retreat {
         Retreat { tries: 0 }
     }
 
-    /// `Again` for the first 63 wants of memory and `Stuck` from the 64th on, `Full` for a full audit, and `Settled` for every
-    /// other answer.
+    /// `Again` for the first 63 wants of memory and `Stuck` from the 64th on, `Full` for a full
+    /// audit, and `Settled` for every other answer.
     pub fn next(&mut self, answer: &Result<&Reply, CallFault>) -> RetreatStep
         ensures tries { self.new ≡ tries_after self.old (answer_now answer.now) }
         ensures step { result ≡ step_after self.old (answer_now answer.now) }
-        ensures again { result ≡ steps.Again → (answer_now answer.now ≡ Err (faults.Core core_faults.OutOfMemory)) × (self.new ≡ self.old + 1) × (self.new < 64) }
+        ensures again { result ≡ steps.Again
+            → (answer_now answer.now ≡ Err (faults.Core core_faults.OutOfMemory))
+            × (self.new ≡ self.old + 1) × (self.new < 64) }
     {
         match answer {
             Err(CallFault::Core(CoreFault::OutOfMemory)) => {
@@ -79,8 +81,8 @@ impl Retreat {
     }
 }
 
-/// Calls `Lost` until it is settled, and tells the gate of each call. Where memory is wanting to the end, all writers of the node
-/// are told.
+/// Calls `Lost` until it is settled, and tells the gate of each call. Where memory is wanting to
+/// the end, all writers of the node are told.
 fn lose<R: Wait, G: Gate>(work: &LinkWork<'_, R>, pass: &mut Pass, gate: &G) -> RetreatStep
     ensures { (lost : List Call) × GivesUp work.now.link pass.old lost result pass.new }
 {

@@ -51,8 +51,8 @@ pub struct ServedLink {
     pub written: WriteEnd,
 }
 
-/// Serves a link until both workers have ended: one reads on this thread, one writes on a thread of its own. Where no thread can
-/// be made the writer runs after the reader.
+/// Serves a link until both workers have ended: one reads on this thread, one writes on a thread of
+/// its own. Where no thread can be made the writer runs after the reader.
 pub fn serve_link<R, I, W, G>(
     rt: &R,
     alloc: Global,
@@ -66,8 +66,10 @@ where
     I: Read + Drop,
     W: LinkOut + Send + Drop,
     G: Gate,
-    ensures read { HasRead connection.link pair.reader (I.remaining connection.input) result.read result.pair.reader }
-    ensures written { HasWritten connection.link pair.writer (W.contents connection.output) result.written result.pair.writer }
+    ensures read { HasRead connection.link pair.reader (I.remaining connection.input) result.read
+        result.pair.reader }
+    ensures written { HasWritten connection.link pair.writer (W.contents connection.output)
+        result.written result.pair.writer }
 {
     let Pair { reader, writer } = pair;
     let Connection {

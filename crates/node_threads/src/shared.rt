@@ -29,7 +29,8 @@ pub struct Shared {
     counts: Vec<u32>,
     /// The writers of all links are to hang up. No contract rests on it.
     stuck: bool,
-    /// How often in a row memory was wanting for an event, those of monitors aside. No contract rests on it.
+    /// How often in a row memory was wanting for an event, those of monitors aside. No contract
+    /// rests on it.
     wants: u32,
     /// The number of the last entry that is news, or 0. No contract rests on it.
     last_news: u32,
@@ -94,12 +95,13 @@ impl Shared {
         &self.core
     }
 
-    /// Hands out the oldest page of the audit, under a lock that the caller has taken: the 256 entries behind those that were
-    /// handed out before. Nothing else changes. `None` for the last page, and while a monitor has still to be told of one of the
-    /// entries.
+    /// Hands out the oldest page of the audit, under a lock that the caller has taken: the 256
+    /// entries behind those that were handed out before. Nothing else changes. `None` for the last
+    /// page, and while a monitor has still to be told of one of the entries.
     pub fn forget(&mut self) -> Option<Page>
         ensures same { (self.new.history ≡ self.old.history) × (self.new.counts ≡ self.old.counts) }
-        ensures page { IfSome result (λ page. IsPageBehind self.old.forgotten (audited self.old.history.entries) page
+        ensures page { IfSome result (λ page.
+            IsPageBehind self.old.forgotten (audited self.old.history.entries) page
             × (self.new.forgotten ≡ self.old.forgotten + page_size)) }
         ensures spare { OnSome result (IsSpare (recorded self.old)) }
         ensures none { IfNone result ((self.new ≡ self.old) × (IsSpare (recorded self.old) → ⊥)) }
@@ -107,8 +109,8 @@ impl Shared {
         self.core.forget()
     }
 
-    /// Whether memory was wanting for an event, and again for the next one, after the node had let go what it can. Who only
-    /// watches can do without an answer: events of monitors don't count.
+    /// Whether memory was wanting for an event, and again for the next one, after the node had let
+    /// go what it can. Who only watches can do without an answer: events of monitors don't count.
     pub fn wants_memory(&self) -> bool {
         self.wants >= LASTING
     }
@@ -120,7 +122,8 @@ impl Shared {
         self.core.let_go();
     }
 
-    /// Notes that memory was wanting for an event, which may count, and lets go what the node can do without.
+    /// Notes that memory was wanting for an event, which may count, and lets go what the node can
+    /// do without.
     fn note_want(&mut self, counts: bool) -> CallFault
         ensures fault { result ≡ faults.Core core_faults.OutOfMemory }
         ensures same { self.new ≡ self.old }
@@ -183,7 +186,8 @@ impl Shared {
         false
     }
 
-    /// The number of the last entry that is news to who watches the node: rows changed, or a peer came or went. 0 if there is none.
+    /// The number of the last entry that is news to who watches the node: rows changed, or a peer
+    /// came or went. 0 if there is none.
     pub fn last_news(&self) -> u32 {
         self.last_news
     }
@@ -233,7 +237,8 @@ impl Shared {
         core
     }
 
-    /// Whether a call with the pass would be taken: its seat is one of the node's, which has as many entries of it as the pass has calls.
+    /// Whether a call with the pass would be taken: its seat is one of the node's, which has as
+    /// many entries of it as the pass has calls.
     pub fn knows(&self, pass: &Pass) -> bool
         ensures { IsTrue result ↔ Fits self.now pass.now }
     {
@@ -243,12 +248,15 @@ impl Shared {
         }
     }
 
-    /// Applies an event for the seat of the pass, and leaves the answer in the pass. All that grows has grown before the step.
+    /// Applies an event for the seat of the pass, and leaves the answer in the pass. All that grows
+    /// has grown before the step.
     pub(crate) fn enter(&mut self, pass: &mut Pass, event: Event) -> Result<(), CallFault>
-        ensures ok { OnOk result (IfSome (last_reply pass.new.calls) (λ reply. Applied self.old pass.old event (Ok reply) self.new pass.new)) }
+        ensures ok { OnOk result (IfSome (last_reply pass.new.calls) (λ reply.
+            Applied self.old pass.old event (Ok reply) self.new pass.new)) }
         ensures replied { OnOk result (IsSome (last_reply pass.new.calls)) }
         ensures kept { OnOk result (pass.new.gone < length pass.new.calls) }
-        ensures refused { IfErr result (λ fault. Applied self.old pass.old event (Err fault) self.new pass.new) }
+        ensures refused { IfErr result (λ fault.
+            Applied self.old pass.old event (Err fault) self.new pass.new) }
         ensures found { IsSound self.old }
         ensures left { IsSound self.new }
     {
@@ -283,7 +291,8 @@ impl Shared {
         requires free { is_full self.old.history ≡ false }
         ensures number { IfOk result (λ entry. entry.0 ≡ next_number self.old.history) }
         ensures verdict { IfOk result (λ entry. entry.1 ≡ verdict self.old.history seat event) }
-        ensures few { OnOk result (entries_of seat (audited self.old.history.entries) + 1 < 2 ^ 32) }
+        ensures few { OnOk result (entries_of seat (audited self.old.history.entries) + 1
+            < 2 ^ 32) }
         ensures room { OnOk result (self.new ≡ room_after self.old seat event) }
         ensures memory { OnErr result (self.new ≡ self.old) }
         ensures left { IsSound self.new }

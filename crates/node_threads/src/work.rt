@@ -20,7 +20,8 @@ pub(crate) struct LinkWork<'a, R> {
 }
 
 impl<R: Wait> LinkWork<'_, R> {
-    /// Lets the calls of a worker's pass go, where there are many, and the node no longer keeps all entries itself.
+    /// Lets the calls of a worker's pass go, where there are many, and the node no longer keeps all
+    /// entries itself.
     pub(crate) fn lighten(&self, pass: &mut Pass)
         ensures { Gains pass.old [] pass.new }
     {

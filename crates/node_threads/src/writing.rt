@@ -17,8 +17,8 @@ use policy_audit::{Event, OutFrame, Reply, Rule};
 use std::alloc::Global;
 use std::sync::Wait;
 
-/// Takes the frames that wait for a link and writes them, whenever some wait, until there is an end; then it hangs up. Where a write
-/// fails or memory is wanting, the link is lost.
+/// Takes the frames that wait for a link and writes them, whenever some wait, until there is an
+/// end; then it hangs up. Where a write fails or memory is wanting, the link is lost.
 pub fn write_link<R: Wait, W: LinkOut>(
     rt: &R,
     alloc: Global,
@@ -27,7 +27,8 @@ pub fn write_link<R: Wait, W: LinkOut>(
     link: u32,
     output: &mut W,
 ) -> WriteEnd
-    ensures takes { WritesAs link pass.old (W.contents output.old) result (W.contents output.new) pass.new }
+    ensures takes { WritesAs link pass.old (W.contents output.old) result (W.contents output.new)
+        pass.new }
     ensures hung_up { W.is_hung_up output.new }
 {
     let work = LinkWork {
@@ -45,7 +46,8 @@ pub(crate) fn write_to_end<R: Wait, W: LinkOut>(
     pass: &mut Pass,
     output: &mut W,
 ) -> WriteEnd
-    ensures takes { WritesAs work.now.link pass.old (W.contents output.old) result (W.contents output.new) pass.new }
+    ensures takes { WritesAs work.now.link pass.old (W.contents output.old) result
+        (W.contents output.new) pass.new }
     ensures hung_up { W.is_hung_up output.new }
 {
     let stop = write_on(work, pass, output);
@@ -60,7 +62,8 @@ fn write_on<R: Wait, W: LinkOut>(
     pass: &mut Pass,
     output: &mut W,
 ) -> WriteEnd
-    ensures { WritesTo work.now.link pass.old (W.contents output.old) result (W.contents output.new) pass.new }
+    ensures { WritesTo work.now.link pass.old (W.contents output.old) result (W.contents output.new)
+        pass.new }
 {
     for _ in work.rt.forever() {
         if is_stuck_at(work) {
@@ -95,7 +98,8 @@ fn write_once<R: Wait, W: LinkOut>(
     pass: &mut Pass,
     output: &mut W,
 ) -> Result<(), WriteEnd>
-    ensures { Took work.now.link pass.old (W.contents output.old) result (W.contents output.new) pass.new }
+    ensures { Took work.now.link pass.old (W.contents output.old) result (W.contents output.new)
+        pass.new }
 {
     let wire = match pass.call(work.node, work.rt, Event::Take(work.link)) {
         Ok(Reply::Out(frames)) => wire_of(work.alloc, frames.as_slice()),

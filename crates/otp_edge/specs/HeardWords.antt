@@ -10,7 +10,8 @@ use Rattle.otp_edge.specs.declared.word.Word.TheVariants as words
 
 abbrev pub heard_said : Run → Said → Seen → HeardWord
 heard_said run (saids.Discover p) seen = cond (is_of run p) (heard_of p words.Discover seen) nothing
-heard_said run (saids.Sync p rows) seen = cond (is_of run p) (heard_of p (words.Sync rows) seen) nothing
+heard_said run (saids.Sync p rows) seen = cond (is_of run p) (heard_of p (words.Sync rows) seen)
+    nothing
 heard_said run (saids.Join p rows) seen =
     cond (may_state p rows seen) (only_word (words.Join rows)) nothing
 heard_said run (saids.Leave p rows) seen =

@@ -38,7 +38,8 @@ abbrev pub rows_of : List Told → List Row
 rows_of ts = flat_map (λ t. t.rows.now) ts
 
 -- rows are told: gathered by group, and nothing else is
-pub record AreTold (atoms : List (List ℕ)) (say : Pid → List Told → List PgMessage) (own other : Pid)
+pub record AreTold (atoms : List (List ℕ)) (say : Pid → List Told → List PgMessage)
+    (own other : Pid)
     (rows : List Row) (out : List ℕ) (all : List Row) : Type 0 where
   pub sorted : List Row
   pub groups : List Told

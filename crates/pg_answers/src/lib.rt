@@ -1,5 +1,5 @@
-//! What the lines of a node say to who reads them: which are answers, what became of what was asked,
-//! and their text as JSON.
+//! What the lines of a node say to who reads them: which are answers, what became of what was
+//! asked, and their text as JSON.
 #![tactic(auto)]
 
 mod objects;

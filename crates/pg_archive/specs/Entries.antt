@@ -12,7 +12,8 @@ use Rattle.pg_archive.specs.Verdicts.{verdict_text}
 
 -- the name of a life, and whether its links are hidden ones
 unfoldable pub who_text : List ℕ → Bool → List ℕ
-who_text name hidden = codes "{\"life\":" ++ quoted name ++ codes ",\"hidden\":" ++ truth_text hidden
+who_text name hidden = codes "{\"life\":" ++ quoted name ++ codes ",\"hidden\":"
+    ++ truth_text hidden
 
 -- its creation, and the most entries of its audit
 unfoldable pub counts_text : ℕ → ℕ → List ℕ

@@ -44,7 +44,8 @@ arguments_text (event.StopScope s) = scope_field s
 arguments_text event.Spawn = []
 arguments_text (event.Exit p) = codes ",\"pid\":" ++ pid_text p
 arguments_text (event.Join s g ps) = place_fields s g ++ codes ",\"pids\":" ++ list_text pid_text ps
-arguments_text (event.Leave s g ps) = place_fields s g ++ codes ",\"pids\":" ++ list_text pid_text ps
+arguments_text (event.Leave s g ps) = place_fields s g ++ codes ",\"pids\":"
+    ++ list_text pid_text ps
 arguments_text (event.Members s g) = place_fields s g
 arguments_text (event.LocalMembers s g) = place_fields s g
 arguments_text (event.Groups s) = scope_field s
@@ -72,7 +73,8 @@ asked_text (asked.Event e) = event_text e
 
 -- the fields before the verdict: the number, the seat, and the event
 unfoldable pub head_text : ℕ → ℕ → List ℕ → List ℕ
-head_text number seat event = codes "{\"entry\":" ++ decimal number ++ codes ",\"seat\":" ++ decimal seat
+head_text number seat event = codes "{\"entry\":" ++ decimal number ++ codes ",\"seat\":"
+    ++ decimal seat
     ++ codes ",\"event\":" ++ event ++ codes ",\"verdict\":"
 
 abbrev pub told_head : Told → List ℕ

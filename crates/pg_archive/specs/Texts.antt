@@ -41,7 +41,8 @@ pid_text p =
     ++ codes "\""
 
 abbrev pub group_text : GroupPids → List ℕ
-group_text g = codes "{\"group\":" ++ quoted g.group ++ codes ",\"pids\":" ++ list_text pid_text g.pids
+group_text g = codes "{\"group\":" ++ quoted g.group ++ codes ",\"pids\":"
+    ++ list_text pid_text g.pids
     ++ codes "}"
 
 abbrev pub update_text : Update → List ℕ

@@ -13,20 +13,23 @@ abbrev pub reply_fields : Reply → List ℕ
 reply_fields reply.Done = codes "{\"ok\":true"
 reply_fields (reply.Pid p) = codes "{\"pid\":" ++ pid_text p
 reply_fields (reply.Link number) = codes "{\"link\":" ++ decimal number
-reply_fields (reply.Up peer creation visible) = codes "{\"up\":" ++ quoted peer ++ codes ",\"creation\":"
+reply_fields (reply.Up peer creation visible) = codes "{\"up\":" ++ quoted peer
+    ++ codes ",\"creation\":"
     ++ decimal creation ++ codes ",\"visible\":" ++ truth_text visible
 reply_fields (reply.Pids pids) = codes "{\"pids\":" ++ list_text pid_text pids
 reply_fields (reply.Groups groups) = codes "{\"groups\":" ++ list_text quoted groups
 reply_fields (reply.Ref number pids) = codes "{\"ref\":" ++ decimal number ++ codes ",\"pids\":"
     ++ list_text pid_text pids
-reply_fields (reply.ScopeRef number groups) = codes "{\"ref\":" ++ decimal number ++ codes ",\"groups\":"
+reply_fields (reply.ScopeRef number groups) = codes "{\"ref\":" ++ decimal number
+    ++ codes ",\"groups\":"
     ++ list_text group_text groups
 reply_fields (reply.Updates updates) = codes "{\"updates\":" ++ list_text update_text updates
 reply_fields (reply.Out frames) = codes "{\"out\":" ++ list_text frame_text frames
 
 -- the rule by its number and its name
 abbrev pub rule_fields : Rule → List ℕ
-rule_fields rule = codes "\"refused\",\"rule\":" ++ decimal (rule_line rule).0 ++ codes ",\"name\":\""
+rule_fields rule = codes "\"refused\",\"rule\":" ++ decimal (rule_line rule).0
+    ++ codes ",\"name\":\""
     ++ (rule_line rule).1 ++ codes "\""
 
 abbrev pub accepted_fields : Reply → List ℕ

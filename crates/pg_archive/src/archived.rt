@@ -198,7 +198,8 @@ fn put_commas<T: Archived>(alloc: Global, items: &[T], out: &mut Vec<u8>) -> Res
 
 /// Adds a comma before each value.
 fn put_others<T: Archived>(alloc: Global, items: &[T], out: &mut Vec<u8>) -> Result<(), OutOfMemory>
-    ensures { OnOk result (out.new.items ≡ out.old.items ++ flat_map (λ y. codes "," ++ T.text y) items.now) }
+    ensures { OnOk result (out.new.items ≡ out.old.items
+        ++ flat_map (λ y. codes "," ++ T.text y) items.now) }
 {
     for item in items {
         put_field(alloc, ",", item, out)?;

@@ -31,7 +31,8 @@ pub fn put_head(
     event: &Event,
     out: &mut Vec<u8>,
 ) -> Result<(), OutOfMemory>
-    ensures { OnOk result (out.new.items ≡ out.old.items ++ head_text number seat (event_text event.now)) }
+    ensures { OnOk result (out.new.items ≡ out.old.items
+        ++ head_text number seat (event_text event.now)) }
 {
     put_number("{\"entry\":", u64::from(number), out)?;
     put_number(",\"seat\":", u64::from(seat), out)?;
@@ -146,7 +147,9 @@ fn put_named(
     pids: &Pids,
     out: &mut Vec<u8>,
 ) -> Result<(), OutOfMemory>
-    ensures { OnOk result (out.new.items ≡ out.old.items ++ (place_fields scope.now group.now ++ codes ",\"pids\":" ++ list_text pid_text pids.now)) }
+    ensures { OnOk result (out.new.items ≡ out.old.items
+        ++ (place_fields scope.now group.now ++ codes ",\"pids\":"
+        ++ list_text pid_text pids.now)) }
 {
     put_place(alloc, scope, group, out)?;
     put_field(alloc, ",\"pids\":", pids, out)

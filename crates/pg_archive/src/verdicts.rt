@@ -78,7 +78,8 @@ fn put_up(
     visible: bool,
     out: &mut Vec<u8>,
 ) -> Result<(), OutOfMemory>
-    ensures { OnOk result (out.new.items ≡ out.old.items ++ reply_fields (Reply.Up peer.now creation visible)) }
+    ensures { OnOk result (out.new.items ≡ out.old.items
+        ++ reply_fields (Reply.Up peer.now creation visible)) }
 {
     put_field(alloc, "{\"up\":", peer, out)?;
     put_field(alloc, ",\"creation\":", &creation, out)?;
@@ -87,7 +88,8 @@ fn put_up(
 
 /// Adds the number of a monitor of a group, and the members that it sees at first.
 fn put_ref(alloc: Global, number: u32, pids: &Members, out: &mut Vec<u8>) -> Result<(), OutOfMemory>
-    ensures { OnOk result (out.new.items ≡ out.old.items ++ reply_fields (Reply.Ref number pids.now)) }
+    ensures { OnOk result (out.new.items ≡ out.old.items
+        ++ reply_fields (Reply.Ref number pids.now)) }
 {
     put_field(alloc, "{\"ref\":", &number, out)?;
     put_field(alloc, ",\"pids\":", pids, out)
@@ -100,7 +102,8 @@ fn put_scope_ref(
     groups: &Contents,
     out: &mut Vec<u8>,
 ) -> Result<(), OutOfMemory>
-    ensures { OnOk result (out.new.items ≡ out.old.items ++ reply_fields (Reply.ScopeRef number groups.now)) }
+    ensures { OnOk result (out.new.items ≡ out.old.items
+        ++ reply_fields (Reply.ScopeRef number groups.now)) }
 {
     put_field(alloc, "{\"ref\":", &number, out)?;
     put_field(alloc, ",\"groups\":", groups, out)

@@ -57,11 +57,13 @@ impl Hold {
         unreachable!()
     }
 
-    /// Spawns a process that joins, and shows it, which is then the last line; or shows why it can't.
+    /// Spawns a process that joins, and shows it, which is then the last line; or shows why it
+    /// can't.
     fn join<R: Print>(&self, talk: &mut Talk<'_, R>) -> Result<Said, Fault> {
         let mut said = self.try_join(talk)?;
         for _ in 0..TRIES {
-            // In between the node may begin anew, of which the process is none then, and the scope stop.
+            // In between the node may begin anew, of which the process is none then, and the scope
+            // stop.
             if talk.line.as_slice() != b"fault not yours".as_slice()
                 && !talk.line.ends_with(b" NoScope")
             {

@@ -69,7 +69,8 @@ impl Clients {
         }
     }
 
-    /// Ends the connection of a seat, whatever its own threads wait for: whether there is a stream of it.
+    /// Ends the connection of a seat, whatever its own threads wait for: whether there is a stream
+    /// of it.
     pub fn end<R: Wait>(&self, rt: &R, seat: usize) -> bool {
         let streams = self.streams.lock(rt);
         let mut is_found = false;

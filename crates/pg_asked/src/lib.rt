@@ -1,4 +1,5 @@
-//! A node at work, as its connections see it: what they ask it, and the streams of those of its control sockets.
+//! A node at work, as its connections see it: what they ask it, and the streams of those of its
+//! control sockets.
 #![tactic(auto)]
 
 mod asked;

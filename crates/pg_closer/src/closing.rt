@@ -14,7 +14,8 @@ use std::mem::replace;
 use std::sync::{Condvar, CondvarTimeouts, Mutex, Wait};
 use std::time::{Clock, Duration};
 
-/// The milliseconds before a write that has failed is tried again, and between two looks whether the file is to be opened anew.
+/// The milliseconds before a write that has failed is tried again, and between two looks whether
+/// the file is to be opened anew.
 const REST: u64 = 1_000;
 
 /// How many pages may wait in any case: as many as are handed out at once.
@@ -110,8 +111,9 @@ impl Drop for Closer<'_> {
 }
 
 impl<'a> Closer<'a> {
-    /// With this archive, if there is one, which has taken the line of the life with this creation. As many entries wait for it at most
-    /// as a node keeps, and 64 pages in any case. Memory is kept for the turns.
+    /// With this archive, if there is one, which has taken the line of the life with this creation.
+    /// As many entries wait for it at most as a node keeps, and 64 pages in any case. Memory is
+    /// kept for the turns.
     pub fn new<R: Wait>(
         rt: &R,
         alloc: Global,
@@ -147,8 +149,9 @@ impl<'a> Closer<'a> {
         }
     }
 
-    /// Takes pages out of the node, which are written next; without an archive they are let go: whether there were any. The lock is
-    /// held meanwhile, so that no life is put in before its pages.
+    /// Takes pages out of the node, which are written next; without an archive they are let go:
+    /// whether there were any. The lock is held meanwhile, so that no life is put in before its
+    /// pages.
     pub fn take_pages<R: Wait + Clock, N: Archived>(&self, rt: &R, node: &N) -> bool {
         let mut pages = Vec::new(self.alloc);
         let mut state = self.state.lock(rt);
@@ -165,7 +168,8 @@ impl<'a> Closer<'a> {
         true
     }
 
-    /// Whether as many pages as are handed out at once find room. Where the file takes none the oldest make room.
+    /// Whether as many pages as are handed out at once find room. Where the file takes none the
+    /// oldest make room.
     pub fn has_room<R: Wait>(&self, rt: &R) -> bool {
         if self.archive.is_none() {
             return true;
@@ -240,7 +244,8 @@ impl<'a> Closer<'a> {
         replace(&mut state.lost, 0)
     }
 
-    /// Opens the archive's file anew if that is asked for, and writes what waits there: whether it takes more.
+    /// Opens the archive's file anew if that is asked for, and writes what waits there: whether it
+    /// takes more.
     fn look<R: Wait + Clock, N: Archived>(&self, rt: &R, node: &N) -> bool {
         let Some(archive) = &self.archive else {
             return true;
@@ -314,7 +319,8 @@ impl<'a> Closer<'a> {
         self.state.lock(rt).is_left = true;
     }
 
-    /// Writes what such a life kept, behind its pages. An error where entries aren't in the archive.
+    /// Writes what such a life kept, behind its pages. An error where entries aren't in the
+    /// archive.
     pub fn write_left<R: Wait + Clock>(
         &self,
         rt: &R,
@@ -338,7 +344,8 @@ impl<'a> Closer<'a> {
         }
     }
 
-    /// Writes the pages that wait still of the life that is written. Those that can't be written now are lost.
+    /// Writes the pages that wait still of the life that is written. Those that can't be written
+    /// now are lost.
     fn write_pages<R: Wait + Clock>(
         &self,
         rt: &R,

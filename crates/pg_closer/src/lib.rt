@@ -1,5 +1,5 @@
-//! What is done behind a node at work, by one thread and so in order: entries that it keeps no more go to its archive, and lives that
-//! have ended are closed.
+//! What is done behind a node at work, by one thread and so in order: entries that it keeps no more
+//! go to its archive, and lives that have ended are closed.
 #![tactic(auto)]
 
 mod archived;

@@ -41,8 +41,8 @@ impl PageQueue {
         self.pages.len()
     }
 
-    /// Puts a page behind those that wait. Where as many wait as may, the oldest comes back, and waits
-    /// no more. Without memory the page comes back itself.
+    /// Puts a page behind those that wait. Where as many wait as may, the oldest comes back, and
+    /// waits no more. Without memory the page comes back itself.
     pub fn add(&mut self, page: Page) -> Result<Option<Page>, Page>
         ensures order { IfOk result (λ oldest.
             self.old.pages ++ page ∷ [] ≡ option_to_list oldest ++ self.new.pages) }

@@ -39,8 +39,9 @@ impl Drop for Recorder<'_> {
 }
 
 impl<'a> Recorder<'a> {
-    /// The archive at this path, with files of so many bytes at most, if there is a most. It is made where it isn't there. An error
-    /// where it can't be opened. A torn last line, as of a node that was killed, is cut off, which is said.
+    /// The archive at this path, with files of so many bytes at most, if there is a most. It is
+    /// made where it isn't there. An error where it can't be opened. A torn last line, as of a node
+    /// that was killed, is cut off, which is said.
     pub fn open<R: Wait + Clock>(
         rt: &R,
         files: &'a HostRuntime,
@@ -67,7 +68,8 @@ impl<'a> Recorder<'a> {
         self.archive.begin(life)
     }
 
-    /// Opens the file anew, if that was asked for so often and isn't done: whether nothing is left of that.
+    /// Opens the file anew, if that was asked for so often and isn't done: whether nothing is left
+    /// of that.
     pub fn reopen<R: Wait + Clock>(
         &mut self,
         rt: &R,
@@ -90,7 +92,8 @@ impl<'a> Recorder<'a> {
         }
     }
 
-    /// Writes what waits: whether nothing waits any more. A fault is said, once until a write succeeds.
+    /// Writes what waits: whether nothing waits any more. A fault is said, once until a write
+    /// succeeds.
     pub fn flush<R: Wait + Clock>(&mut self, rt: &R, alloc: Global, log: &Log) -> bool {
         match self.archive.flush() {
             Ok(()) => {
@@ -137,7 +140,8 @@ impl<'a> Recorder<'a> {
         self.archive.count_lost(entries);
     }
 
-    /// Writes the entries that the audit of an ended life keeps. Those that can't be written now are lost.
+    /// Writes the entries that the audit of an ended life keeps. Those that can't be written now
+    /// are lost.
     pub fn end<R: Wait + Clock>(&mut self, rt: &R, alloc: Global, audit: &Audit, log: &Log) {
         let mut gathered = 0usize;
         let mut is_written = self.flush(rt, alloc, log);

@@ -2,7 +2,8 @@
 use std::alloc::Global;
 use std::sync::{Mutex, Wait};
 
-/// How many bytes. So large a block the system gives and takes back at once; nothing is written there.
+/// How many bytes. So large a block the system gives and takes back at once; nothing is written
+/// there.
 const BYTES: usize = 41_943_040;
 
 /// A block of memory that nobody uses until it is let go.

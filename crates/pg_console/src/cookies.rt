@@ -129,8 +129,8 @@ impl Cookies {
         Ok(given.cookie.try_clone(alloc)?)
     }
 
-    /// Where the first cookie for a peer stands that wasn't taken, or else the last one; behind all,
-    /// where there is none.
+    /// Where the first cookie for a peer stands that wasn't taken, or else the last one; behind
+    /// all, where there is none.
     fn place_of(&self, peer: &NodeName) -> usize {
         let mut place = self.given.len();
         for (i, given) in self.given.iter().enumerate() {

@@ -32,7 +32,8 @@ use std::time::Clock;
 use world::{Stop, play_world};
 use world_script::why_unread;
 
-/// Status 0 at the end of a script, 1 at a fault of the script, of a stream or of memory, 2 at one of the command line.
+/// Status 0 at the end of a script, 1 at a fault of the script, of a stream or of memory, 2 at one
+/// of the command line.
 fn main(rt: HostRuntime) -> ExitCode {
     let _streams = held_streams(&rt);
     let words = match words(&rt) {
@@ -125,7 +126,8 @@ fn play_lines<R: AllocGlobal + Input + Print>(
     }
 }
 
-/// Plays standard input on a node that hands out its old entries, never one of the `keep` newest, into the archive of this path.
+/// Plays standard input on a node that hands out its old entries, never one of the `keep` newest,
+/// into the archive of this path.
 fn play_kept<R: AllocGlobal + Input + Print + Eprint + Files<File = File>>(
     rt: &R,
     opening: Opening,

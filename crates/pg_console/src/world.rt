@@ -19,8 +19,8 @@ impl From<RunFault> for Stop {
     }
 }
 
-/// Plays a script of world steps: one answer line for each line, up to the first that can't be read, which is left in `line`. Each
-/// answer is written and flushed before the next line is read.
+/// Plays a script of world steps: one answer line for each line, up to the first that can't be
+/// read, which is left in `line`. Each answer is written and flushed before the next line is read.
 pub fn play_world<R: BufRead, W: Write>(
     alloc: Global,
     reader: &mut R,

@@ -12,7 +12,8 @@ use std::time::Clock;
 /// Behind how many lines in a row a connection lets others go first.
 const IN_A_ROW: u32 = 16;
 
-/// How many bytes of room a connection keeps for its next line and its next answer: others need the memory, too.
+/// How many bytes of room a connection keeps for its next line and its next answer: others need the
+/// memory, too.
 const KEPT: usize = 65_536;
 
 /// The line that ends the program at once.
@@ -24,7 +25,8 @@ pub struct Desk<'a, N> {
     pub node: &'a N,
     pub seat: usize,
     rights: Rights,
-    /// Held for a whole answer, or for all that there is to tell, so that neither stands inside the other.
+    /// Held for a whole answer, or for all that there is to tell, so that neither stands inside the
+    /// other.
     printing: Mutex<()>,
     has_ended: AtomicBool,
 }
@@ -90,7 +92,8 @@ impl<'a, N: Asked> Desk<'a, N> {
         unreachable!()
     }
 
-    /// Hears a line while the node drains, when none is answered: `quit` ends it at once, as a signal does.
+    /// Hears a line while the node drains, when none is answered: `quit` ends it at once, as a
+    /// signal does.
     fn hear<R: Wait>(&self, rt: &R, line: Option<&[u8]>) {
         let is_quit = matches!(line, Some(line) if line == QUIT.as_bytes());
         if is_quit && matches!(self.rights, Rights::All) {
@@ -123,7 +126,8 @@ impl<'a, N: Asked> Desk<'a, N> {
         sent
     }
 
-    /// Adds the answer to a line. Without memory for it that is the answer, and then the call may have been made.
+    /// Adds the answer to a line. Without memory for it that is the answer, and then the call may
+    /// have been made.
     fn answer<R: Wait + Clock>(
         &self,
         rt: &R,

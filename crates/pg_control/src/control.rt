@@ -17,7 +17,8 @@ use std::time::{Clock, Duration};
 /// The milliseconds that a write may stand still, because the connection isn't read from.
 const PATIENCE: u64 = 10_000;
 
-/// Starts the thread that takes connections, where there is a door for them: whether it could be made.
+/// Starts the thread that takes connections, where there is a door for them: whether it could be
+/// made.
 pub fn start_control<'s, E: 's, R: Threads + Wait + Clock + Sync + 's, N: Asked + Sync + 's>(
     scope: &'s Scope<'s, E>,
     rt: &'s R,
@@ -101,7 +102,8 @@ fn is_served<'s, E: 's, R: Threads + Wait + Clock + Sync + 's, N: Asked + Sync +
     is_started
 }
 
-/// Starts the thread of a connection, if whoever ends the program can have its stream: whether it could be made.
+/// Starts the thread of a connection, if whoever ends the program can have its stream: whether it
+/// could be made.
 fn start_serving<'s, E: 's, R: Threads + Wait + Clock + Sync + 's, N: Asked + Sync + 's>(
     scope: &'s Scope<'s, E>,
     rt: &'s R,

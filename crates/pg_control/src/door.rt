@@ -24,7 +24,8 @@ const REST: u64 = 20;
 /// The most bytes of a path: those of a socket, less `.new`, which stands behind it at first.
 const LONGEST: usize = 103;
 
-/// Where a control socket is to be, with which mode, what may be asked there, and how many free seats its connections leave to others.
+/// Where a control socket is to be, with which mode, what may be asked there, and how many free
+/// seats its connections leave to others.
 #[derive(Clone, Copy, Drop)]
 pub struct DoorPlace<'a> {
     pub path: &'a str,
@@ -52,7 +53,8 @@ impl DoorPlace<'_> {
 #[derive(Drop)]
 pub struct Door<'a> {
     pub listener: UnixListener,
-    /// The same socket, as what can be shut. It is made at once, since later there may be no descriptor for it.
+    /// The same socket, as what can be shut. It is made at once, since later there may be no
+    /// descriptor for it.
     handle: UnixStream,
     path: &'a str,
     file: FileNumber,
@@ -79,8 +81,9 @@ impl FileNumber {
 }
 
 impl<'a> Door<'a> {
-    /// Makes the socket of this path, in the place of one that no program answers at. Programs that begin there at the same moment
-    /// do so one after another, and all but the first find that another one answers.
+    /// Makes the socket of this path, in the place of one that no program answers at. Programs that
+    /// begin there at the same moment do so one after another, and all but the first find that
+    /// another one answers.
     pub fn open<R: Files<File = File> + Net + Clock>(
         rt: &R,
         alloc: Global,
@@ -187,7 +190,8 @@ fn file_at<R: Files>(rt: &R, path: &str) -> Option<FileNumber> {
     Some(FileNumber::of(&found))
 }
 
-/// The right to change what stands at a path: a locked file beside it, whose lock the system takes from a program that ends.
+/// The right to change what stands at a path: a locked file beside it, whose lock the system takes
+/// from a program that ends.
 #[derive(Drop)]
 struct Turn {
     name: String,
@@ -216,7 +220,8 @@ fn take_turn<R: Files<File = File> + Clock>(rt: &R, alloc: Global, path: &str) -
     bail!("another program begins there")
 }
 
-/// The file of this name, if it could be locked, and still stands there: whoever had it takes it away.
+/// The file of this name, if it could be locked, and still stands there: whoever had it takes it
+/// away.
 fn try_lock<R: Files<File = File>>(rt: &R, name: &str) -> io::Result<Option<File>> {
     let file = open_to_lock(rt, name)?;
     match file.try_lock() {

@@ -68,7 +68,8 @@ impl<'a, N: Asked> Operator<'a, N> {
         lines.end(rt);
     }
 
-    /// Waits for a fault of standard output, which is told, or ends the program that is nothing without it.
+    /// Waits for a fault of standard output, which is told, or ends the program that is nothing
+    /// without it.
     fn watch<R: Wait + Clock>(&self, rt: &R) {
         let node = self.desk.node;
         let output = self.streams.output;

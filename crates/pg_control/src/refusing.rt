@@ -8,8 +8,8 @@ use std::sync::{Arc, Wait};
 use std::thread::{Scope, Threads};
 use std::time::Clock;
 
-/// Tells a client that there is no room, and hears it out on a thread, so that it can write its line before it reads. Where there
-/// are too many such threads it can't.
+/// Tells a client that there is no room, and hears it out on a thread, so that it can write its
+/// line before it reads. Where there are too many such threads it can't.
 pub fn refuse<'s, E: 's, R: Threads + Wait + Clock + Sync + 's>(
     scope: &'s Scope<'s, E>,
     rt: &'s R,
@@ -61,8 +61,8 @@ fn hear<R: Clock>(rt: &R, hearers: &Hearers, stream: &UnixStream) {
     hearers.remove();
 }
 
-/// Ends a connection. What the client has written is read, since a socket that is closed with unread bytes takes the last line from
-/// its client; nothing more can come behind the end.
+/// Ends a connection. What the client has written is read, since a socket that is closed with
+/// unread bytes takes the last line from its client; nothing more can come behind the end.
 fn end(stream: &UnixStream) {
     stream.shutdown(Shutdown::Both).ok();
     if stream.set_nonblocking(true).is_err() {

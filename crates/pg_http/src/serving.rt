@@ -20,8 +20,8 @@ const PATIENCE: u64 = 10_000;
 /// The bytes of the longest body of a request: none is looked at.
 const BODY: usize = 1_024;
 
-/// Starts the thread that takes connections of who looks on the node, where there is an entrance for
-/// them: whether it could be made.
+/// Starts the thread that takes connections of who looks on the node, where there is an entrance
+/// for them: whether it could be made.
 pub fn start_pages<'s, E: 's, R: Threads + Wait + Clock + Sync + 's, N: Shown + Sync + 's>(
     scope: &'s Scope<'s, E>,
     rt: &'s R,

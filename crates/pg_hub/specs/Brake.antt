@@ -24,8 +24,8 @@ announces name = bytes_eq name (codes "start") || bytes_eq name (codes "stop")
 abbrev pub named_in : List ℕ → ℕ
 named_in line = count_by (λ b. b == 32) line - 2
 
--- How many frames an exit may owe to a link, where the processes of its connection have so many rows
--- at most: one for each of 64 scopes, and one more for as many rows as a frame has at most.
+-- How many frames an exit may owe to a link, where the processes of its connection have so many
+-- rows at most: one for each of 64 scopes, and one more for as many rows as a frame has at most.
 abbrev pub frames_of_an_exit : ℕ → ℕ
 frames_of_an_exit rows = 64 + rows / max_rows
 

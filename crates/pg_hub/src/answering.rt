@@ -174,7 +174,8 @@ impl Hub {
         Tried::Lost
     }
 
-    /// Whether nothing is to be told at a seat that has seen so much, by who has monitors or has none.
+    /// Whether nothing is to be told at a seat that has seen so much, by who has monitors or has
+    /// none.
     pub(crate) fn may_rest(&self, seat: usize, watches: bool, seen: Seen, shared: &Shared) -> bool {
         let is_told = if watches {
             !seen.is_behind(shared)
@@ -196,8 +197,8 @@ impl Hub {
     }
 }
 
-/// Whether the next life has to make the call of a line, be there memory to read it or not. By what a
-/// client only reads or watches it ends no life.
+/// Whether the next life has to make the call of a line, be there memory to read it or not. By what
+/// a client only reads or watches it ends no life.
 fn has_to_be_made(seat: usize, line: &[u8]) -> bool {
     let (word, _) = first_word(line);
     seat == OPERATOR || CHANGES.iter().any(|command| command.as_bytes() == word)

@@ -1,6 +1,6 @@
 //! Calls that may tell peers wait while frames gather faster than they are written, so that a burst
-//! ends no link of a peer that reads. What is let through counts as if it waited until the next look
-//! at the links, so that all that find room have it, and few calls need a look.
+//! ends no link of a peer that reads. What is let through counts as if it waited until the next
+//! look at the links, so that all that find room have it, and few calls need a look.
 ghost use Rattle.std.specs.Prelude.{◌≡◌, ◌/◌, ℕ};
 ghost use Rattle.std.specs.Str.{bytes_eq};
 ghost use Rattle.dist_types.specs.Listing.{max_rows};

@@ -149,7 +149,8 @@ fn surplus(words: &[u8]) -> Unchanged<'_> {
     Reason::OneTooMany.about(word)
 }
 
-/// Adds the answer to a line whose change isn't made. A word with a byte that a terminal shouldn't be given isn't repeated.
+/// Adds the answer to a line whose change isn't made. A word with a byte that a terminal shouldn't
+/// be given isn't repeated.
 pub(crate) fn put_fault(
     alloc: Global,
     fault: &Unchanged<'_>,

@@ -27,8 +27,8 @@ impl Hub {
         }
     }
 
-    /// Lets them follow, and takes out of the node the pages that it needs no more, behind these: the
-    /// creation of the life that they are of.
+    /// Lets them follow, and takes out of the node the pages that it needs no more, behind these:
+    /// the creation of the life that they are of.
     pub(crate) fn hand_out<R: Wait + Clock>(&self, rt: &R, pages: &mut Vec<Page>) -> u32 {
         let (creation, found) = self.follow_all(rt, Some(pages));
         if let Some(name) = found {
@@ -37,8 +37,9 @@ impl Hub {
         creation
     }
 
-    /// Lets all follow that look at the audit, and takes pages out of it that they have looked at, if
-    /// they are asked for: the creation of the life, and a name that two nodes have, if one is found.
+    /// Lets all follow that look at the audit, and takes pages out of it that they have looked at,
+    /// if they are asked for: the creation of the life, and a name that two nodes have, if one is
+    /// found.
     fn follow_all<R: Wait + Clock>(
         &self,
         rt: &R,

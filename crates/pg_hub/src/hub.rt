@@ -52,8 +52,8 @@ pub struct HubSettings {
     pub begun: Option<Instant>,
 }
 
-/// What all threads share. Whoever takes several locks takes the house first, for its own seat or for all, then a seat, then the
-/// roster, then the twins, then the ledger, then the node.
+/// What all threads share. Whoever takes several locks takes the house first, for its own seat or
+/// for all, then a seat, then the roster, then the twins, then the ledger, then the node.
 #[derive(Drop)]
 pub struct Hub {
     pub alloc: Global,

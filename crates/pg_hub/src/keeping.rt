@@ -1,6 +1,6 @@
-//! What a node lets go of its audit: the oldest pages, while it keeps more entries than it is to, and
-//! no connection has still to be told of one. And what becomes of connections that don't read, which
-//! would keep it from that.
+//! What a node lets go of its audit: the oldest pages, while it keeps more entries than it is to,
+//! and no connection has still to be told of one. And what becomes of connections that don't read,
+//! which would keep it from that.
 use crate::hub::Hub;
 use node_core::NodeCore;
 use node_threads::Shared;
@@ -123,16 +123,16 @@ impl Hub {
         kept(shared.core()) <= self.keeping.entries.max(PAGE)
     }
 
-    /// Whether the node may keep still more for a file that is slower than entries come: as many again as
-    /// for a connection that doesn't read.
+    /// Whether the node may keep still more for a file that is slower than entries come: as many
+    /// again as for a connection that doesn't read.
     pub fn may_keep_more<R: Wait>(&self, rt: &R) -> bool {
         let shared = self.node.shared.lock(rt);
         let most = self.keeping.entries.saturating_add(self.keeping.patience());
         kept(shared.core()) <= most
     }
 
-    /// Takes pages out of the node while it keeps more entries than it is to. Who has to look at their
-    /// entries has done so.
+    /// Takes pages out of the node while it keeps more entries than it is to. Who has to look at
+    /// their entries has done so.
     pub(crate) fn take_pages(&self, shared: &mut Shared, pages: &mut Vec<Page>) {
         for _ in 0..AT_ONCE {
             if !self.has_spare(shared.core()) {
@@ -160,9 +160,9 @@ impl Hub {
         kept > self.keeping.entries.max(PAGE) && told >= PAGE
     }
 
-    /// Monitors need the oldest page: those that weren't asked for long are asked, be there news for their
-    /// connections or not. Of so many entries as that makes there are three times as many others before it
-    /// is done again.
+    /// Monitors need the oldest page: those that weren't asked for long are asked, be there news
+    /// for their connections or not. Of so many entries as that makes there are three times as many
+    /// others before it is done again.
     fn ask_monitors(&self, core: &NodeCore) {
         let keeping = &self.keeping;
         let entries = core.audit().len() as u32;
@@ -191,8 +191,8 @@ impl Hub {
         }
     }
 
-    /// Has connections told that have much to be told, and ends those that don't read, at three quarters
-    /// of what may wait for them, and by force at seven eighths.
+    /// Has connections told that have much to be told, and ends those that don't read, at three
+    /// quarters of what may wait for them, and by force at seven eighths.
     pub fn look_after_readers<R: Wait + Clock>(&self, rt: &R) {
         let entries = self.node.shared.lock(rt).core().audit().len() as u32;
         if self.readers.most_lag(entries) > self.keeping.rest() {
@@ -215,8 +215,8 @@ impl Hub {
         }
     }
 
-    /// Ends a connection that is in the midst of a write which nobody reads. Standard output can't be
-    /// ended: its monitors are.
+    /// Ends a connection that is in the midst of a write which nobody reads. Standard output can't
+    /// be ended: its monitors are.
     fn end_behind<R: Wait>(&self, rt: &R, seat: usize) {
         self.readers.leave(seat);
         if !self.clients.end(rt, seat) {

@@ -1,4 +1,5 @@
-//! What all threads of a node share: the node behind its lock, the seats of its connections, and who is told what of both.
+//! What all threads of a node share: the node behind its lock, the seats of its connections, and
+//! who is told what of both.
 #![tactic(auto)]
 
 mod answering;

@@ -1,5 +1,5 @@
-//! What concerns every connection: that a peer came or went, or a scope stopped. One without monitors
-//! is woken for that alone, and not at each change of rows.
+//! What concerns every connection: that a peer came or went, or a scope stopped. One without
+//! monitors is woken for that alone, and not at each change of rows.
 use pg_session::{Roster, Seen};
 use std::sync::Condvar;
 use std::sync::atomic::{AtomicUsize, Ordering};

@@ -1,5 +1,5 @@
-//! How far each connection has been told what happens, so that no entry is let go that one has still
-//! to be told of.
+//! How far each connection has been told what happens, so that no entry is let go that one has
+//! still to be told of.
 use dist_types::OutOfMemory;
 use std::alloc::Global;
 use std::sync::atomic::{AtomicBool, AtomicU32, Ordering};

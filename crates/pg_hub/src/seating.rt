@@ -36,7 +36,8 @@ impl Hub {
         Some(Promise::of_an_end(&session))
     }
 
-    /// Ends one thing that a connection had. The lock is free behind each, so that others are answered meanwhile.
+    /// Ends one thing that a connection had. The lock is free behind each, so that others are
+    /// answered meanwhile.
     pub(crate) fn leave_one<R: Wait>(&self, rt: &R, seat: usize) -> bool {
         let house = self.house.read(rt);
         let Some(session) = house.sessions.get(seat) else {

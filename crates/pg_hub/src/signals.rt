@@ -1,5 +1,5 @@
-//! What the threads of a program say to each other without a lock: that it is to end, or this life of
-//! its node. And what they count.
+//! What the threads of a program say to each other without a lock: that it is to end, or this life
+//! of its node. And what they count.
 use node_threads::Shared;
 use std::sync::atomic::{AtomicBool, AtomicU32, AtomicU64, Ordering};
 

@@ -1,4 +1,5 @@
-//! What the audit of a life has said so far that operators are shown: links, scopes, names, refusals, counts, and names that two nodes have.
+//! What the audit of a life has said so far that operators are shown: links, scopes, names,
+//! refusals, counts, and names that two nodes have.
 #![tactic(auto)]
 
 mod account;

@@ -18,8 +18,8 @@ struct Peer {
 }
 
 impl Peer {
-    /// The peer has come up with this creation: whether that is one from before the last one, for the first time. A node that
-    /// begins anew never has an earlier creation again.
+    /// The peer has come up with this creation: whether that is one from before the last one, for
+    /// the first time. A node that begins anew never has an earlier creation again.
     fn comes_up(&mut self, creation: u32) -> bool {
         if creation == self.last {
             return false;
@@ -51,7 +51,8 @@ impl Twins {
         }
     }
 
-    /// Looks at what is new in the audit: a name that two nodes have, if one is found. Where memory is wanting, none is.
+    /// Looks at what is new in the audit: a name that two nodes have, if one is found. Where memory
+    /// is wanting, none is.
     pub fn follow(&mut self, alloc: Global, core: &NodeCore) -> Option<NodeName> {
         if self.creation != core.creation() {
             self.creation = core.creation();

@@ -1,5 +1,6 @@
-//! The lives of a node: each serves links until its audit has come to the last of its numbers, or memory is wanting; the next one takes
-//! its place behind the same lock, and it is closed behind that.
+//! The lives of a node: each serves links until its audit has come to the last of its numbers, or
+//! memory is wanting; the next one takes its place behind the same lock, and it is closed behind
+//! that.
 #![tactic(auto)]
 
 mod keeper;

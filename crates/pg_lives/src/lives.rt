@@ -11,10 +11,12 @@ use std::alloc::Global;
 use std::sync::{Arc, Wait};
 use std::time::{Clock, Instant};
 
-/// The fewest entries of a life that ends for want of memory, if another one is to follow: less than they take would be won by it.
+/// The fewest entries of a life that ends for want of memory, if another one is to follow: less
+/// than they take would be won by it.
 const FEWEST: usize = 1_000;
 
-/// Lives until the program is to end, if all threads beside the links are made. The lanes of the last life come back.
+/// Lives until the program is to end, if all threads beside the links are made. The lanes of the
+/// last life come back.
 pub fn live_on<R: Host>(
     rt: &R,
     site: Site<'_>,
@@ -91,7 +93,8 @@ fn seconds_since<R: Clock>(rt: &R, begun: Option<Instant>) -> u64 {
     }
 }
 
-/// Whether the life ends for want of memory, which is told. An error where another life would have no more.
+/// Whether the life ends for want of memory, which is told. An error where another life would have
+/// no more.
 fn check_memory<R: Wait + Clock>(rt: &R, hub: &Hub, closer: &Closer<'_>) -> Result<bool> {
     let shared_memory = closer.wait_until_idle(rt);
     let shared = hub.node.shared.lock(rt);
@@ -108,8 +111,9 @@ fn check_memory<R: Wait + Clock>(rt: &R, hub: &Hub, closer: &Closer<'_>) -> Resu
     Ok(wants_memory)
 }
 
-/// Closes the last life, whose lanes have come back. An error where that or the life before has failed,
-/// or entries aren't in the archive. A life that has failed isn't closed: what it kept is written.
+/// Closes the last life, whose lanes have come back. An error where that or the life before has
+/// failed, or entries aren't in the archive. A life that has failed isn't closed: what it kept is
+/// written.
 pub fn finish<R: Wait + Clock>(
     rt: &R,
     hub: Hub,

@@ -19,7 +19,8 @@ use std::sync::{Mutex, Wait};
 use std::time::Clock;
 use std::vec;
 
-/// The passes of a node with this many seats of connections: that of the keeper, one for each seat, and two for each lane.
+/// The passes of a node with this many seats of connections: that of the keeper, one for each seat,
+/// and two for each lane.
 fn passes_for(seats: u32) -> u32 {
     seats.saturating_add(1 + 2 * LANES as u32)
 }
@@ -135,8 +136,8 @@ impl LifeMaker {
         Ok((node, house, lanes))
     }
 
-    /// Ends a life, whose lanes have come back, and begins the next one with the next creation: the lanes of that, and the life
-    /// that has ended.
+    /// Ends a life, whose lanes have come back, and begins the next one with the next creation: the
+    /// lanes of that, and the life that has ended.
     pub fn turn<R: Wait>(
         &mut self,
         rt: &R,
@@ -216,9 +217,9 @@ fn new_sessions(
     Ok(sessions)
 }
 
-/// Puts the life of a new node into the hub, and the old one, whose cookie was this at its beginning, into this node, while nobody
-/// has a seat of the house. The new life is told first what held at the end of the old one, so that nobody is let in where that
-/// leaves no room.
+/// Puts the life of a new node into the hub, and the old one, whose cookie was this at its
+/// beginning, into this node, while nobody has a seat of the house. The new life is told first what
+/// held at the end of the old one, so that nobody is let in where that leaves no room.
 fn exchange<R: Wait>(
     rt: &R,
     hub: &Hub,

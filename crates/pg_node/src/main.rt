@@ -1,4 +1,5 @@
-//! A node of process groups, linked with others over TCP, that plays commands from standard input and from a control socket.
+//! A node of process groups, linked with others over TCP, that plays commands from standard input
+//! and from a control socket.
 #![tactic(auto)]
 
 mod run;
@@ -20,7 +21,8 @@ use std::thread;
 use std::thread::Threads;
 use std::time::Clock;
 
-/// The options, a generator that nobody can foresee, and the queues, for the run and for the threads beside it.
+/// The options, a generator that nobody can foresee, and the queues, for the run and for the
+/// threads beside it.
 #[derive(Drop)]
 struct Start<'a> {
     options: Options<'a>,
@@ -38,8 +40,8 @@ struct Ready<'a> {
     queues: Queues,
 }
 
-/// Status 0 at the end of standard input or at `quit`, 1 at a fault of a file, a socket or standard output, or for want of memory,
-/// 2 at one of the command line.
+/// Status 0 at the end of standard input or at `quit`, 1 at a fault of a file, a socket or standard
+/// output, or for want of memory, 2 at one of the command line.
 fn main(rt: HostRuntime) -> ExitCode {
     let _streams = held_streams(&rt);
     let alloc = rt.alloc();
@@ -66,7 +68,8 @@ fn main(rt: HostRuntime) -> ExitCode {
         output,
         warnings,
     } = theirs;
-    // Nothing can end a read or a write of a standard stream, so these threads may outlive the run, and aren't joined.
+    // Nothing can end a read or a write of a standard stream, so these threads may outlive the run,
+    // and aren't joined.
     let (reader, writer, warner) = (rt, rt, rt);
     let is_read = thread::spawn(&rt, move || read_input(&reader, alloc, &lines)).is_ok();
     let is_written = thread::spawn(&rt, move || write_output(&writer, alloc, &output)).is_ok();
@@ -80,8 +83,9 @@ fn main(rt: HostRuntime) -> ExitCode {
     serve(rt, &rt, ready, is_read && is_written && is_warned)
 }
 
-/// Runs a node with these options, if the standard streams are served. (Its bounds are spelled out: `Host` would have to be shown of
-/// the system's own handle in `main`, which names none of the types that this takes.)
+/// Runs a node with these options, if the standard streams are served. (Its bounds are spelled out:
+/// `Host` would have to be shown of the system's own handle in `main`, which names none of the
+/// types that this takes.)
 fn serve<R>(rt: R, files: &HostRuntime, ready: Ready<'_>, are_served: bool) -> ExitCode
 where
     R: Net<Listener = TcpListener, Stream = TcpStream>

@@ -294,7 +294,8 @@ fn start_all<'s, E: 's, R: Host + 's>(
     are_logged && are_served && are_let_in && are_kept && is_found
 }
 
-/// Starts the threads that take out of the node what it keeps no more, and that write it and close lives: whether both could be made.
+/// Starts the threads that take out of the node what it keeps no more, and that write it and close
+/// lives: whether both could be made.
 fn start_keeping<'s, E: 's, R: Threads + Wait + Clock + Sync + 's>(
     scope: &'s Scope<'s, E>,
     rt: &'s R,
@@ -305,7 +306,8 @@ fn start_keeping<'s, E: 's, R: Threads + Wait + Clock + Sync + 's>(
     scope.spawn(move || closer.work(rt, hub)).is_ok() && is_taken
 }
 
-/// Starts the thread that takes connections of peers, where there is an address for them: whether it could be made.
+/// Starts the thread that takes connections of peers, where there is an address for them: whether
+/// it could be made.
 fn start_arrivals<'s, E: 's, R: Threads + Wait + Clock + Sync + 's>(
     scope: &'s Scope<'s, E>,
     rt: &'s R,

@@ -1,4 +1,5 @@
-//! What the command line of a node says: its name and secret, its peers, where it is reached, and what limits it.
+//! What the command line of a node says: its name and secret, its peers, where it is reached, and
+//! what limits it.
 #![tactic(auto)]
 
 mod arguments;

@@ -16,7 +16,8 @@ use std::fs::Files;
 use std::sync::Arc;
 use std::time::Duration;
 
-/// The fewest numbers of entries: room for what a new life of the node says first, and for its last sixteenth.
+/// The fewest numbers of entries: room for what a new life of the node says first, and for its last
+/// sixteenth.
 const FEWEST: u32 = 64;
 
 /// The most names that may be allowed.

@@ -90,7 +90,8 @@ impl Sheet {
     /// Adds a text of others between the quotes of a label of a metric: it has no end of a line.
     #[tactic(auto, using(crate::proofs::Escaped::one_line))]
     pub fn label(&mut self, text: &[u8])
-        ensures added { self.new.whole ≡ true → self.new.bytes ≡ self.old.bytes ++ labelled text.now }
+        ensures added { self.new.whole ≡ true → self.new.bytes ≡ self.old.bytes
+            ++ labelled text.now }
         ensures line { All (λ b. b ≢ 10) (labelled text.now) }
         ensures whole { self.new.whole ≡ true → self.old.whole ≡ true }
     {

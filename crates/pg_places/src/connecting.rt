@@ -1,4 +1,5 @@
-//! The threads that connect to peers. Nothing can end a look-up of a name or a connect, so these may outlive the run, and aren't joined.
+//! The threads that connect to peers. Nothing can end a look-up of a name or a connect, so these
+//! may outlive the run, and aren't joined.
 use dial_targets::Targets;
 use std::net::{Net, TcpListener, TcpStream};
 use std::sync::{Arc, Wait};

@@ -1,4 +1,5 @@
-//! Where a node is reached, and where it goes: its addresses, its control sockets, its name at EPMD, and the threads that connect to peers.
+//! Where a node is reached, and where it goes: its addresses, its control sockets, its name at
+//! EPMD, and the threads that connect to peers.
 #![tactic(auto)]
 
 mod connecting;

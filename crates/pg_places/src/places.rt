@@ -155,7 +155,8 @@ fn control_place(faces: Faces<'_>) -> Option<DoorPlace<'_>> {
     })
 }
 
-/// Where all may be read. Who may do no more there doesn't keep out who may do more at the other socket, if there is one.
+/// Where all may be read. Who may do no more there doesn't keep out who may do more at the other
+/// socket, if there is one.
 fn reading_place(faces: Faces<'_>) -> Option<DoorPlace<'_>> {
     let SocketFile { path, mode } = faces.control_read?;
     let seats_left = match faces.control {

@@ -42,7 +42,8 @@ impl Queues {
         }
     }
 
-    /// The status of a run that has ended so, once what it told is written, or nobody has read it for some time.
+    /// The status of a run that has ended so, once what it told is written, or nobody has read it
+    /// for some time.
     pub fn finish<R: Wait + Clock>(&self, rt: &R, alloc: Global, ended: Result<()>) -> ExitCode {
         let written = self.output.finish(rt);
         let status = match ended.and(written) {

@@ -23,7 +23,8 @@ pub record Begins {M : Type 0} (text : List M → List ℕ) (old new : Option (L
   pub appended : Appends old new written
 
 -- how a run of a script ends whose text is this
-abbrev pub Ends : {M U : Type 0} → (List M → List ℕ) → List ℕ → Option (List ℕ) → Option (List ℕ) → Result U RunFault → Type 0
+abbrev pub Ends : {M U : Type 0} → (List M → List ℕ) → List ℕ → Option (List ℕ) → Option (List ℕ)
+    → Result U RunFault → Type 0
 Ends text script old new (Ok u) = (fault_in script ≡ None) × Writes text old new
 Ends text script old new (Err (faults.Script k)) = (fault_in script ≡ Some k) × Writes text old new
 Ends text script old new (Err faults.BadOpening) = ⊥
@@ -32,12 +33,18 @@ Ends text script old new (Err faults.Memory) = Begins text old new
 Ends text script old new (Err faults.Write) = Begins text old new
 
 -- how a run of a script ends, for some lack of memory in steps
-abbrev pub RunsAs : {U : Type 0} → Opening → List ℕ → Option (List ℕ) → Option (List ℕ) → Result U RunFault → Type 0
-RunsAs o script old new result = Ends (λ (lacking : List Bool). text lacking o script) script old new result
+abbrev pub RunsAs : {U : Type 0} → Opening → List ℕ → Option (List ℕ) → Option (List ℕ)
+    → Result U RunFault → Type 0
+RunsAs o script old new result = Ends (λ (lacking : List Bool). text lacking o script) script old
+    new result
 
--- the same on a node that forgets, for some entries that were handed out: never one of the newest, as
--- many as are to be kept
-abbrev pub KeepsAs : {U : Type 0} → ℕ → Opening → List ℕ → Option (List ℕ) → Option (List ℕ) → Result U KeepFault → Type 0
-KeepsAs keep o script old new (Ok u) = Ends (λ (met : List Met). kept_text keep met o script) script old new (Ok u)
-KeepsAs {U} keep o script old new (Err (keep_faults.Run fault)) = Ends {U = U} (λ (met : List Met). kept_text keep met o script) script old new (Err fault)
-KeepsAs keep o script old new (Err keep_faults.Archive) = Begins (λ (met : List Met). kept_text keep met o script) old new
+-- the same on a node that forgets, for some entries that were handed out: never one of the newest,
+-- as many as are to be kept
+abbrev pub KeepsAs : {U : Type 0} → ℕ → Opening → List ℕ → Option (List ℕ) → Option (List ℕ)
+    → Result U KeepFault → Type 0
+KeepsAs keep o script old new (Ok u) = Ends (λ (met : List Met). kept_text keep met o script) script
+    old new (Ok u)
+KeepsAs {U} keep o script old new (Err (keep_faults.Run fault)) =
+    Ends {U = U} (λ (met : List Met). kept_text keep met o script) script old new (Err fault)
+KeepsAs keep o script old new (Err keep_faults.Archive) =
+    Begins (λ (met : List Met). kept_text keep met o script) old new

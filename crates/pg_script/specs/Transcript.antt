@@ -17,14 +17,19 @@ finds_none lacks h = lacks && not (is_full h)
 
 -- the line for a command. Where memory lacks in a step, it says so.
 abbrev pub answer_to : Bool → Playing → Command → List ℕ
-answer_to lacks p (command.Step event) = cond (finds_none lacks p.history) memory_line (verdict_line (verdict p.history p.seat event))
+answer_to lacks p (command.Step event) = cond (finds_none lacks p.history) memory_line
+    (verdict_line (verdict p.history p.seat event))
 answer_to lacks p (command.Seat seat) = seat_line
 answer_to lacks p command.Size = size_line (entered p.history.entries)
 answer_to lacks p (command.Audit number) = found_line p.forgotten (audited p.history.entries) number
 
 -- what a command leaves. A step where memory lacks leaves all as it was.
 abbrev pub left_by : Bool → Playing → Command → Playing
-left_by lacks p (command.Step event) = record p { history = cond (finds_none lacks p.history) p.history (after p.history p.seat event) }
+left_by lacks p (command.Step event) =
+    record p {
+      history = cond (finds_none lacks p.history) p.history
+          (after p.history p.seat event);
+    }
 left_by lacks p (command.Seat seat) = record p { seat = seat }
 left_by lacks p command.Size = p
 left_by lacks p (command.Audit number) = p
@@ -78,7 +83,8 @@ fault_from k (line ∷ lines) = cond (is_fault line) (Some k) (fault_from (k + 1
 
 -- the text of a whole script, where memory lacks in the steps of these lines
 abbrev pub text : List Bool → Opening → List ℕ → List ℕ
-text lacking o script = text_by false line_text line_left lacking (opened_with o) 1 (lines_of script)
+text lacking o script = text_by false line_text line_left lacking (opened_with o) 1
+    (lines_of script)
 
 -- the number of a script's first line with a fault
 abbrev pub fault_in : List ℕ → Option ℕ

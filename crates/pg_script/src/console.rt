@@ -68,7 +68,8 @@ impl Console {
         command: Command,
         out: &mut Vec<u8>,
     ) -> Result<(), OutOfMemory>
-        ensures { OnOk result ((lacks : Bool) × (out.new.items ≡ out.old.items ++ answer_to lacks self.old command)
+        ensures { OnOk result ((lacks : Bool)
+            × (out.new.items ≡ out.old.items ++ answer_to lacks self.old command)
             × (self.new ≡ left_by lacks self.old command)) }
     {
         match command {
@@ -84,7 +85,8 @@ impl Console {
 
     /// Adds the answer to an event.
     fn step(&mut self, alloc: Global, event: Event, out: &mut Vec<u8>) -> Result<(), OutOfMemory>
-        ensures { OnOk result ((lacks : Bool) × (out.new.items ≡ out.old.items ++ answer_to lacks self.old (Command.Step event))
+        ensures { OnOk result ((lacks : Bool)
+            × (out.new.items ≡ out.old.items ++ answer_to lacks self.old (Command.Step event))
             × (self.new ≡ left_by lacks self.old (Command.Step event))) }
     {
         let stepped = self.core.step(self.seat, event);
@@ -93,8 +95,9 @@ impl Console {
         added
     }
 
-    /// Hands out the oldest page of entries, where `keep` newer ones stay, and no monitor has still to be told of one in it. That
-    /// is tried twice for each page of new ones, so that many are gone soon once no monitor waits for them.
+    /// Hands out the oldest page of entries, where `keep` newer ones stay, and no monitor has still
+    /// to be told of one in it. That is tried twice for each page of new ones, so that many are
+    /// gone soon once no monitor waits for them.
     pub fn forget(&mut self, keep: u32) -> Option<Page>
         ensures left { (handed : ℕ) × (self.new ≡ forgotten_to keep handed self.old) }
         ensures page { IfSome result (λ page.

@@ -56,9 +56,9 @@ pub trait Keeper {
     fn keep(&mut self, alloc: Global, entry: &Entry) -> Result<(), Unkept>;
 }
 
-/// Plays a script as `play` does, on a node that hands out its old entries: never one of the `keep` newest, nor one that a
-/// monitor has still to be told of. The keeper takes the entries that are handed out, and at the end those that are left: each once,
-/// in their order.
+/// Plays a script as `play` does, on a node that hands out its old entries: never one of the `keep`
+/// newest, nor one that a monitor has still to be told of. The keeper takes the entries that are
+/// handed out, and at the end those that are left: each once, in their order.
 pub fn play_keeping<R: BufRead, W: Write, K: Keeper>(
     alloc: Global,
     opening: Opening,
@@ -69,7 +69,8 @@ pub fn play_keeping<R: BufRead, W: Write, K: Keeper>(
     keeper: &mut K,
 ) -> Result<(), KeepFault>
     ensures bad { (result ≡ Err (keep_faults.Run faults.BadOpening)) ↔ IsBadOpening opening }
-    ensures untouched { result ≡ Err (keep_faults.Run faults.BadOpening) → (reader.new ≡ reader.old) × (writer.new ≡ writer.old) × (keeper.new ≡ keeper.old) }
+    ensures untouched { result ≡ Err (keep_faults.Run faults.BadOpening) → (reader.new ≡ reader.old)
+        × (writer.new ≡ writer.old) × (keeper.new ≡ keeper.old) }
     ensures text { MayOpen opening → IfSome (R.remaining reader.old) (λ script.
         KeepsAs keep opening script (W.contents writer.old) (W.contents writer.new) result) }
 {
@@ -91,7 +92,8 @@ fn keep_all<R: BufRead, W: Write, K: Keeper>(
     keeper: &mut K,
 ) -> Result<(), KeepFault>
     ensures good { IfErr result (λ fault. fault ≢ keep_faults.Run faults.BadOpening) }
-    ensures text { (o : Opening) → console.old ≡ opened_with o → IfSome (R.remaining reader.old) (λ script.
+    ensures text { (o : Opening) → console.old ≡ opened_with o
+        → IfSome (R.remaining reader.old) (λ script.
         KeepsAs keep o script (W.contents writer.old) (W.contents writer.new) result) }
 {
     let played = keep_lines(alloc, console, keep, reader, line, writer, keeper);
@@ -112,7 +114,8 @@ fn keep_lines<R: BufRead, W: Write, K: Keeper>(
     keeper: &mut K,
 ) -> Result<(), KeepFault>
     ensures good { IfErr result (λ fault. fault ≢ keep_faults.Run faults.BadOpening) }
-    ensures text { (o : Opening) → console.old ≡ opened_with o → IfSome (R.remaining reader.old) (λ script.
+    ensures text { (o : Opening) → console.old ≡ opened_with o
+        → IfSome (R.remaining reader.old) (λ script.
         KeepsAs keep o script (W.contents writer.old) (W.contents writer.new) result) }
 {
     let mut out = Vec::new(alloc);

@@ -37,8 +37,8 @@ pub enum RunFault {
 /// The most lines that are read, and the most writes of one answer.
 pub const TURNS: u64 = 1 << 32;
 
-/// Plays a script on a new node: one answer line for each command, up to the first line that can't be read. Each answer
-/// is written and flushed before the next line is read.
+/// Plays a script on a new node: one answer line for each command, up to the first line that can't
+/// be read. Each answer is written and flushed before the next line is read.
 pub fn run<A: AllocGlobal, R: BufRead, W: Write>(
     rt: &A,
     opening: Opening,
@@ -46,7 +46,8 @@ pub fn run<A: AllocGlobal, R: BufRead, W: Write>(
     writer: &mut W,
 ) -> Result<(), RunFault>
     ensures bad { (result ≡ Err faults.BadOpening) ↔ IsBadOpening opening }
-    ensures untouched { result ≡ Err faults.BadOpening → (reader.new ≡ reader.old) × (writer.new ≡ writer.old) }
+    ensures untouched { result ≡ Err faults.BadOpening → (reader.new ≡ reader.old)
+        × (writer.new ≡ writer.old) }
     ensures text { MayOpen opening → IfSome (R.remaining reader.old) (λ script.
         RunsAs opening script (W.contents writer.old) (W.contents writer.new) result) }
 {
@@ -54,7 +55,8 @@ pub fn run<A: AllocGlobal, R: BufRead, W: Write>(
     play(rt.alloc(), opening, reader, &mut line, writer)
 }
 
-/// The same, and leaves in `line` the line that was read last: at a fault of the script, the line that can't be read.
+/// The same, and leaves in `line` the line that was read last: at a fault of the script, the line
+/// that can't be read.
 pub fn play<R: BufRead, W: Write>(
     alloc: Global,
     opening: Opening,
@@ -63,7 +65,8 @@ pub fn play<R: BufRead, W: Write>(
     writer: &mut W,
 ) -> Result<(), RunFault>
     ensures bad { (result ≡ Err faults.BadOpening) ↔ IsBadOpening opening }
-    ensures untouched { result ≡ Err faults.BadOpening → (reader.new ≡ reader.old) × (writer.new ≡ writer.old) }
+    ensures untouched { result ≡ Err faults.BadOpening → (reader.new ≡ reader.old)
+        × (writer.new ≡ writer.old) }
     ensures text { MayOpen opening → IfSome (R.remaining reader.old) (λ script.
         RunsAs opening script (W.contents writer.old) (W.contents writer.new) result) }
     ensures last { (k : ℕ) → result ≡ Err (faults.Script k)
@@ -85,7 +88,8 @@ fn play_lines<R: BufRead, W: Write>(
     writer: &mut W,
 ) -> Result<(), RunFault>
     ensures good { IfErr result (λ fault. fault ≢ faults.BadOpening) }
-    ensures text { (o : Opening) → console.old ≡ opened_with o → IfSome (R.remaining reader.old) (λ script.
+    ensures text { (o : Opening) → console.old ≡ opened_with o
+        → IfSome (R.remaining reader.old) (λ script.
         RunsAs o script (W.contents writer.old) (W.contents writer.new) result) }
     ensures last { (k : ℕ) → result ≡ Err (faults.Script k)
         → is_fault (strip_last 10 line.new.items) ≡ true }
@@ -104,7 +108,8 @@ fn play_lines<R: BufRead, W: Write>(
 /// Reads the next line, with its line feed, over the last. At the end of the script there is none.
 pub fn read_line<R: BufRead>(line: &mut Vec<u8>, reader: &mut R) -> Result<bool, RunFault>
     ensures read { OnOk result (IfSome (R.remaining reader.old) (λ rest.
-        (line.new.items ≡ take_through 10 rest) × (R.remaining reader.new ≡ Some (drop_through 10 rest)))) }
+        (line.new.items ≡ take_through 10 rest)
+        × (R.remaining reader.new ≡ Some (drop_through 10 rest)))) }
     ensures found { IfOk result (λ found. found ≡ true → 0 < length line.new.items) }
     ensures ended { IfOk result (λ found. found ≡ false → IsAtEnd (R.remaining reader.old)) }
     ensures fault { IfErr result (λ fault. (fault ≡ faults.Read) ⊎ (fault ≡ faults.Memory)) }
@@ -126,14 +131,17 @@ pub(crate) fn answer_line<W: Write>(
     writer: &mut W,
 ) -> Result<(), RunFault>
     ensures ok { OnOk result ((lacks : Bool) × (is_fault line.now ≡ false)
-        × Appends (W.contents writer.old) (W.contents writer.new) (line_text lacks console.old line.now)
+        × Appends (W.contents writer.old) (W.contents writer.new)
+        (line_text lacks console.old line.now)
         × (console.new ≡ line_left lacks console.old line.now)) }
-    ensures fault { IfErr result (λ fault. (fault ≡ faults.Script number) ⊎ (fault ≡ faults.Memory) ⊎ (fault ≡ faults.Write)) }
+    ensures fault { IfErr result (λ fault. (fault ≡ faults.Script number) ⊎ (fault ≡ faults.Memory)
+        ⊎ (fault ≡ faults.Write)) }
     ensures told { result ≡ Err (faults.Script number) → (is_fault line.now ≡ true)
         × Appends (W.contents writer.old) (W.contents writer.new) (fault_line number) }
     ensures untold { result ≡ Err faults.Memory → writer.new ≡ writer.old }
     ensures begun { result ≡ Err faults.Write → (lacks : Bool) × (n : ℕ)
-        × Appends (W.contents writer.old) (W.contents writer.new) (take n (owed_line lacks console.old number line.now)) }
+        × Appends (W.contents writer.old) (W.contents writer.new)
+        (take n (owed_line lacks console.old number line.now)) }
 {
     out.clear();
     match console.answer(alloc, line, out) {
@@ -145,8 +153,10 @@ pub(crate) fn answer_line<W: Write>(
 
 /// Writes the last line of a script that can't be read further, and says what the run ends with.
 pub fn tell_fault<W: Write>(line: u64, out: &mut Vec<u8>, writer: &mut W) -> RunFault
-    ensures ended { (result ≡ faults.Script line) ⊎ (result ≡ faults.Memory) ⊎ (result ≡ faults.Write) }
-    ensures told { result ≡ faults.Script line → Appends (W.contents writer.old) (W.contents writer.new) (fault_line line) }
+    ensures ended { (result ≡ faults.Script line) ⊎ (result ≡ faults.Memory)
+        ⊎ (result ≡ faults.Write) }
+    ensures told { result ≡ faults.Script line
+        → Appends (W.contents writer.old) (W.contents writer.new) (fault_line line) }
     ensures untold { result ≡ faults.Memory → writer.new ≡ writer.old }
     ensures begun { result ≡ faults.Write → (n : ℕ)
         × Appends (W.contents writer.old) (W.contents writer.new) (take n (fault_line line)) }
@@ -177,7 +187,8 @@ fn read_fault(error: Error) -> RunFault
 pub fn send<W: Write>(bytes: &[u8], writer: &mut W) -> Result<(), RunFault>
     ensures ok { OnOk result (Appends (W.contents writer.old) (W.contents writer.new) bytes.now) }
     ensures err { IfErr result (λ fault. fault ≡ faults.Write) }
-    ensures begun { OnErr result ((n : ℕ) × Appends (W.contents writer.old) (W.contents writer.new) (take n bytes.now)) }
+    ensures begun { OnErr result ((n : ℕ) × Appends (W.contents writer.old) (W.contents writer.new)
+        (take n bytes.now)) }
 {
     let mut sent = 0;
     for _ in 0..TURNS {
@@ -192,7 +203,8 @@ pub fn send<W: Write>(bytes: &[u8], writer: &mut W) -> Result<(), RunFault>
 /// Writes some of these bytes, and says how many: none where the write was interrupted.
 fn write_some<W: Write>(rest: &[u8], writer: &mut W) -> Result<usize, RunFault>
     ensures within { IfOk result (λ count. count ≤ length rest.now) }
-    ensures ok { IfOk result (λ count. Appends (W.contents writer.old) (W.contents writer.new) (take count rest.now)) }
+    ensures ok { IfOk result (λ count. Appends (W.contents writer.old) (W.contents writer.new)
+        (take count rest.now)) }
     ensures err { IfErr result (λ fault. fault ≡ faults.Write) }
     ensures none { OnErr result (Keeps (W.contents writer.old) (W.contents writer.new)) }
 {

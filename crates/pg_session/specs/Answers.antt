@@ -43,7 +43,8 @@ Reads r room line = Unit {0}
 -- the line as a node has it whose audit has as many entries of the seat as this pass has calls;
 -- where the node doesn't know the pass, as for a call with it
 abbrev pub IsRead : Request → Record → List ℕ → Type 0
-IsRead r pass line = ((room : Room) × IsSound room × Fits room pass × Reads r room line) ⊎ ((room : Room) × (Fits room pass → ⊥) × (line ≡ stranger_line))
+IsRead r pass line = ((room : Room) × IsSound room × Fits room pass × Reads r room line)
+    ⊎ ((room : Room) × (Fits room pass → ⊥) × (line ≡ stranger_line))
 
 -- such a line was added to these bytes
 abbrev pub AnswersRead : Request → Record → List ℕ → List ℕ → Type 0

@@ -18,7 +18,8 @@ use Rattle.pg_session.specs.declared.answered.Next.{Next}
 use Rattle.pg_session.specs.declared.answered.Next.TheVariants as next
 use Rattle.pg_text.specs.Lines.{is_quiet, words_of}
 
--- a connection may make this call by a line: it speaks for no link, ends no life of the node, and isn't asked unasked or without an entry
+-- a connection may make this call by a line: it speaks for no link, ends no life of the node, and
+-- isn't asked unasked or without an entry
 abbrev pub is_call : Event → Bool
 is_call (event.SetCookie c) = true
 is_call (event.SetCookieFor n c) = true
@@ -64,7 +65,8 @@ abbrev pub is_made : Event → Bool
 is_made e = is_fetch e || is_call e
 
 abbrev pub asked_of_event : Event → Option Request
-asked_of_event e = cond (is_query e) (Some (request.Query e)) (cond (is_call e) (Some (request.Call e)) None)
+asked_of_event e = cond (is_query e) (Some (request.Query e))
+    (cond (is_call e) (Some (request.Call e)) None)
 
 abbrev pub asked_of : Command → Option Request
 asked_of (command.Step e) = asked_of_event e

@@ -54,7 +54,8 @@ stake_by e = stake.Nothing
 -- the same by its kind
 abbrev pub stake_of : Kind → Stake
 stake_of (kind.Exit p) = stake.Exit p.now
-stake_of (kind.Monitor s g) = stake.Begin (begun 0 s.now (option_map (λ (l : Bor (List ℕ)). l.now) g))
+stake_of (kind.Monitor s g) =
+    stake.Begin (begun 0 s.now (option_map (λ (l : Bor (List ℕ)). l.now) g))
 stake_of (kind.Demonitor k) = stake.End k
 stake_of k = stake.Nothing
 

@@ -14,7 +14,8 @@ pub record HasLooked (seat seat' : Seat) : Type 0 where
   pub room : Room
   pub sound : IsSound room
   pub had : room.forgotten ≤ entered room.history.entries
-  pub watches : seat'.watches ≡ map (noted (unseen seat.seen room.history room.forgotten)) seat.watches
+  pub watches : seat'.watches ≡ map (noted (unseen seat.seen room.history room.forgotten))
+      seat.watches
   pub seen : seat'.seen ≡ seen_of room.history
   -- whoever the connection takes for up then is up
   pub up : list_any (has_gone room.history) seat'.known.peers ≡ false

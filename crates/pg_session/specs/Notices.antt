@@ -20,7 +20,8 @@ use Rattle.pg_text.specs.DownReasons.{reason_word}
 use Rattle.pg_session.specs.declared.notice.Peer.{Peer}
 use Rattle.pg_session.specs.Asked.{is_fetch}
 
--- a line that comes unasked: an update of a monitor, or its end; a peer that has come or gone; a scope that has stopped; the creation of a new life
+-- a line that comes unasked: an update of a monitor, or its end; a peer that has come or gone; a
+-- scope that has stopped; the creation of a new life
 pub data Notice : Type 0 where
   change : ℕ → Update → Notice
   ended : ℕ → Notice
@@ -32,8 +33,10 @@ pub data Notice : Type 0 where
 abbrev pub notice_line : Notice → List ℕ
 notice_line (change monitor u) = codes "! " ++ told_text monitor u ++ codes "\n"
 notice_line (ended monitor) = codes "! ended " ++ decimal monitor ++ codes "\n"
-notice_line (up peer creation visible) = codes "! up " ++ peer ++ codes " " ++ decimal creation ++ (if visible then codes " visible\n" else codes " hidden\n")
-notice_line (down peer creation reason) = codes "! down " ++ peer ++ codes " " ++ decimal creation ++ codes " " ++ reason_word reason ++ codes "\n"
+notice_line (up peer creation visible) = codes "! up " ++ peer ++ codes " " ++ decimal creation
+    ++ (if visible then codes " visible\n" else codes " hidden\n")
+notice_line (down peer creation reason) = codes "! down " ++ peer ++ codes " " ++ decimal creation
+    ++ codes " " ++ reason_word reason ++ codes "\n"
 notice_line (stopped scope) = codes "! stopped " ++ scope ++ codes "\n"
 notice_line (restarted creation) = codes "! restarted " ++ decimal creation ++ codes "\n"
 
@@ -75,11 +78,16 @@ is_named n p = same p.name n
 abbrev pub has_gone : History → Peer → Bool
 has_gone h p = not (is_up p.link h.entries)
 
--- what a notice makes of that: a peer comes up that wasn't, one goes that was, and a new life is told once nobody is up
+-- what a notice makes of that: a peer comes up that wasn't, one goes that was, and a new life is
+-- told once nobody is up
 abbrev pub Becomes : Known → Notice → Known → Type 0
-Becomes k (up n creation visible) k' = (p : Peer) × (list_any (is_named n) k.peers ≡ false) × (p.name ≡ n) × (p.creation ≡ creation) × (k' ≡ record k { peers = k.peers ++ p ∷ [] })
-Becomes k (down n creation reason) k' = (p : Peer) × (before : List Peer) × (after : List Peer) × (p.name ≡ n) × (p.creation ≡ creation) × (k.peers ≡ before ++ p ∷ after) × (k' ≡ record k { peers = before ++ after })
-Becomes k (restarted creation) k' = (k ≡ record { peers = []; anew = Some creation }) × (k' ≡ record { peers = []; anew = None })
+Becomes k (up n creation visible) k' = (p : Peer) × (list_any (is_named n) k.peers ≡ false)
+    × (p.name ≡ n) × (p.creation ≡ creation) × (k' ≡ record k { peers = k.peers ++ p ∷ [] })
+Becomes k (down n creation reason) k' = (p : Peer) × (before : List Peer) × (after : List Peer)
+    × (p.name ≡ n) × (p.creation ≡ creation) × (k.peers ≡ before ++ p ∷ after)
+    × (k' ≡ record k { peers = before ++ after })
+Becomes k (restarted creation) k' = (k ≡ record { peers = []; anew = Some creation })
+    × (k' ≡ record { peers = []; anew = None })
 Becomes k notice k' = k' ≡ k
 
 -- what all of these make of it, one after another
@@ -93,8 +101,11 @@ gone reason p = down p.name p.creation reason
 
 -- ---- what is told
 
--- the pass has only asked what its monitors have not told yet; of the lines that were added those of updates tell just what it was answered, in order; and they make this of what the connection knows
-pub record Tells (pass : Record) (known : Known) (out : List ℕ) (pass' : Record) (known' : Known) (out' : List ℕ) : Type 0 where
+-- the pass has only asked what its monitors have not told yet; of the lines that were added those
+-- of updates tell just what it was answered, in order; and they make this of what the connection
+-- knows
+pub record Tells (pass : Record) (known : Known) (out : List ℕ) (pass' : Record) (known' : Known)
+    (out' : List ℕ) : Type 0 where
   pub more : List Call
   pub notices : List Notice
   pub gains : Gains pass more pass'

@@ -49,7 +49,8 @@ CameFrom pids o = Unit {0}
 
 -- what a connection has once a call, by which this process was to exit, came to this
 abbrev pub Kept : Outcome → Option Pid → List Pid → List Pid → Type 0
-Kept (outcome.Process p) exits own own' = (q : Pid) → has own' q ≡ cond (same_pid p q) true (has own q)
+Kept (outcome.Process p) exits own own' = (q : Pid)
+    → has own' q ≡ cond (same_pid p q) true (has own q)
 Kept (outcome.Refused lack) exits own own' = own' ≡ own
 Kept o (Some p) own own' = (q : Pid) → has own' q ≡ cond (same_pid p q) false (has own q)
 Kept o None own own' = own' ≡ own

@@ -35,8 +35,10 @@ exited_by e = None
 abbrev pub moves_only : List Pid → Event → Bool
 moves_only own e = list_all (has own) (moved_pids e)
 
--- what a connection has once a call, by which this process was to exit, was answered so: one that was spawned is its own, and one that exited isn't any more
+-- what a connection has once a call, by which this process was to exit, was answered so: one that
+-- was spawned is its own, and one that exited isn't any more
 abbrev pub OwnAfter : Result Reply CallFault → Option Pid → List Pid → List Pid → Type 0
-OwnAfter (Ok (reply.Pid p)) exits own own' = (q : Pid) → has own' q ≡ cond (same_pid p q) true (has own q)
+OwnAfter (Ok (reply.Pid p)) exits own own' = (q : Pid)
+    → has own' q ≡ cond (same_pid p q) true (has own q)
 OwnAfter (Ok r) (Some p) own own' = (q : Pid) → has own' q ≡ cond (same_pid p q) false (has own q)
 OwnAfter answer exits own own' = own' ≡ own

@@ -24,8 +24,8 @@ use std::sync::Wait;
 /// So many calls a pass keeps at least, before it lets them go.
 const KEPT: usize = 256;
 
-/// A pass that makes the calls of one connection: none that speaks for a link or ends a life of the node, and none that makes
-/// processes exit, join or leave but those that it has spawned.
+/// A pass that makes the calls of one connection: none that speaks for a link or ends a life of the
+/// node, and none that makes processes exit, join or leave but those that it has spawned.
 pub struct Caller {
     pass: Pass,
 }
@@ -136,7 +136,8 @@ impl Caller {
         shared.knows(&self.pass)
     }
 
-    /// Makes a call, and adds the line of its answer. The outcome is told also where there is no memory for the line.
+    /// Makes a call, and adds the line of its answer. The outcome is told also where there is no
+    /// memory for the line.
     pub fn call<R: Wait>(
         &mut self,
         rt: &R,
@@ -148,9 +149,11 @@ impl Caller {
     ) -> Result<(), OutOfMemory>
         requires { may_call (spawned self.old.calls) event ≡ true }
         ensures called { IsCalled self.old event self.new }
-        ensures ok { OnOk result ((answer : Result Reply CallFault) × Called self.old event answer self.new
+        ensures ok { OnOk result ((answer : Result Reply CallFault)
+            × Called self.old event answer self.new
             × IsOutcome answer outcome.new × (out.new.items ≡ out.old.items ++ call_line answer)) }
-        ensures own { CameFrom (spawned self.old.calls) outcome.old → CameFrom (spawned self.new.calls) outcome.new }
+        ensures own { CameFrom (spawned self.old.calls) outcome.old
+            → CameFrom (spawned self.new.calls) outcome.new }
     {
         let answer = self.pass.call(node, rt, event);
         put_answer(alloc, answer, outcome, out)
@@ -166,7 +169,8 @@ impl Caller {
         out: &mut Vec<u8>,
     ) -> Result<Fetched, OutOfMemory>
         ensures called { IsCalled self.old (Updates number) self.new }
-        ensures told { OnOk result ((known : Known) → Tells self.old known out.old.items self.new known out.new.items) }
+        ensures told { OnOk result ((known : Known)
+            → Tells self.old known out.old.items self.new known out.new.items) }
         ensures fetched { IfOk result (λ fetched. (answer : Result Reply CallFault)
             × Called self.old (Updates number) answer self.new × (fetched ≡ fetched_by answer)) }
     {
@@ -265,7 +269,8 @@ fn put_fetched(
     answer: Result<&Reply, CallFault>,
     out: &mut Vec<u8>,
 ) -> Result<Fetched, OutOfMemory>
-    ensures lines { OnOk result (out.new.items ≡ out.old.items ++ flat_map notice_line (fetched number (answer_now answer.entry))) }
+    ensures lines { OnOk result (out.new.items ≡ out.old.items
+        ++ flat_map notice_line (fetched number (answer_now answer.entry))) }
     ensures fetched { IfOk result (λ fetched. fetched ≡ fetched_by (answer_now answer.entry)) }
 {
     match answer {
@@ -296,7 +301,8 @@ fn put_updates(
     updates: &[Update],
     out: &mut Vec<u8>,
 ) -> Result<(), OutOfMemory>
-    ensures { OnOk result (out.new.items ≡ out.old.items ++ flat_map notice_line (map (change number) updates.now)) }
+    ensures { OnOk result (out.new.items ≡ out.old.items
+        ++ flat_map notice_line (map (change number) updates.now)) }
 {
     for update in updates {
         put_word("! ", out)?;

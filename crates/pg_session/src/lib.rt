@@ -1,4 +1,5 @@
-//! The seat of a connection to a node: what its lines ask for and are answered, what it has of the node, and what it is told unasked.
+//! The seat of a connection to a node: what its lines ask for and are answered, what it has of the
+//! node, and what it is told unasked.
 #![tactic(auto)]
 
 mod answered;

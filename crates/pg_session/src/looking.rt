@@ -17,8 +17,9 @@ use std::alloc::Global;
 use std::sync::Wait;
 
 impl Session {
-    /// Adds what has happened since the last time, as lines that come unasked. Monitors that weren't asked
-    /// since there were so many entries are asked, too: the node keeps what they need.
+    /// Adds what has happened since the last time, as lines that come unasked. Monitors that
+    /// weren't asked since there were so many entries are asked, too: the node keeps what they
+    /// need.
     pub fn tell<R: Wait, E: LostLinks>(
         &mut self,
         rt: &R,
@@ -28,7 +29,8 @@ impl Session {
         stale: usize,
         out: &mut Vec<u8>,
     ) -> Result<Seen, OutOfMemory>
-        ensures told { OnOk result (Tells self.old.pass self.old.known out.old.items self.new.pass self.new.known out.new.items) }
+        ensures told { OnOk result (Tells self.old.pass self.old.known out.old.items self.new.pass
+            self.new.known out.new.items) }
         ensures done { OnOk result (self.new.known.anew ≡ None) }
         ensures asks { GoesOnBy is_fetch self.old.pass self.new.pass }
         ensures own { self.new.own ≡ self.old.own }
@@ -52,7 +54,8 @@ impl Session {
         Ok(self.seen)
     }
 
-    /// Adds which peers came and went and which scopes stopped, and notes which monitors have something to tell.
+    /// Adds which peers came and went and which scopes stopped, and notes which monitors have
+    /// something to tell.
     fn look<R: Wait, E: LostLinks>(
         &mut self,
         rt: &R,
@@ -66,7 +69,8 @@ impl Session {
           watches = self.new.watches;
           seen = self.new.seen;
         } }
-        ensures told { OnOk result (TellsNews self.old.known out.old.items self.new.known out.new.items) }
+        ensures told { OnOk result (TellsNews self.old.known out.old.items self.new.known
+            out.new.items) }
         ensures looked { OnOk result (HasLooked self.old self.new) }
         ensures monitors { map as_begun self.new.watches ≡ map as_begun self.old.watches }
         ensures memory { OnErr result (self.new.seen ≡ self.old.seen) }

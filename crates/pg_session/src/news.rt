@@ -97,7 +97,8 @@ impl Seen {
         shared.core().creation() == self.creation
     }
 
-    /// Whether there is news since, which a connection with monitors may have to be told: in another life there always is.
+    /// Whether there is news since, which a connection with monitors may have to be told: in
+    /// another life there always is.
     pub fn is_behind(&self, shared: &Shared) -> bool
         ensures { (creation shared.now.history == self.now.creation) ≡ false → result ≡ true }
     {
@@ -144,7 +145,10 @@ impl News {
 
     /// The node has begun anew, which is to be told.
     pub fn begin_anew(&mut self, core: &NodeCore)
-        ensures { self.new ≡ record { peers = self.old.peers; anew = Some (creation core.now.history) } }
+        ensures { self.new ≡ record {
+          peers = self.old.peers;
+          anew = Some (creation core.now.history);
+        } }
     {
         self.restarted = Some(core.creation());
     }
@@ -164,8 +168,8 @@ impl News {
         Ok(())
     }
 
-    /// Adds which peers came and went with these entries, the last of the node. Whoever it takes for
-    /// up then is up.
+    /// Adds which peers came and went with these entries, the last of the node. Whoever it takes
+    /// for up then is up.
     pub fn put_peers<E: LostLinks>(
         &mut self,
         alloc: Global,
@@ -239,7 +243,8 @@ impl News {
         }
     }
 
-    /// Adds that a peer has come up over this link, if the reply says so. A link of it that was up before is gone.
+    /// Adds that a peer has come up over this link, if the reply says so. A link of it that was up
+    /// before is gone.
     fn put_coming(
         &mut self,
         alloc: Global,

@@ -27,7 +27,8 @@ impl TryClone for Peer {
 }
 
 pub fn put_up(peer: &Peer, visible: bool, out: &mut Vec<u8>) -> Result<(), OutOfMemory>
-    ensures { OnOk result (out.new.items ≡ out.old.items ++ notice_line (up peer.now.name peer.now.creation visible)) }
+    ensures { OnOk result (out.new.items ≡ out.old.items
+        ++ notice_line (up peer.now.name peer.now.creation visible)) }
 {
     let ending = if visible { " visible\n" } else { " hidden\n" };
     put_word("! up ", out)?;
@@ -53,7 +54,8 @@ pub fn put_all_down(
     reason: DownReason,
     out: &mut Vec<u8>,
 ) -> Result<(), OutOfMemory>
-    ensures { OnOk result (out.new.items ≡ out.old.items ++ flat_map notice_line (map (gone reason) peers.now)) }
+    ensures { OnOk result (out.new.items ≡ out.old.items
+        ++ flat_map notice_line (map (gone reason) peers.now)) }
 {
     for peer in peers {
         put_down(peer, reason, out)?;
@@ -71,7 +73,8 @@ pub fn put_stopped(scope: &Scope, out: &mut Vec<u8>) -> Result<(), OutOfMemory>
 
 /// Adds that a new life has begun, behind the end of each of these peers.
 pub fn put_life(peers: &[Peer], creation: u32, out: &mut Vec<u8>) -> Result<(), OutOfMemory>
-    ensures { OnOk result (TellsNews (record { peers = peers.now; anew = Some creation }) out.old.items
+    ensures { OnOk result (TellsNews (record { peers = peers.now; anew = Some creation })
+        out.old.items
         (record { peers = []; anew = None }) out.new.items) }
 {
     put_all_down(peers, DownReason::Restarted, out)?;

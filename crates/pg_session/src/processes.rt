@@ -74,7 +74,8 @@ impl Processes {
     }
 
     pub fn add(&mut self, pid: Pid) -> Result<(), OutOfMemory>
-        ensures ok { OnOk result ((q : Pid) → has self.new q ≡ cond (same_pid pid q) true (has self.old q)) }
+        ensures ok { OnOk result ((q : Pid) → has self.new q
+            ≡ cond (same_pid pid q) true (has self.old q)) }
         ensures same { OnErr result (self.new ≡ self.old) }
     {
         self.live.insert(pid)?;

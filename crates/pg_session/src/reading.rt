@@ -1,4 +1,5 @@
-//! Requests for which the node is only read. A node that doesn't know the pass of a connection tells it nothing else.
+//! Requests for which the node is only read. A node that doesn't know the pass of a connection
+//! tells it nothing else.
 ghost use Rattle.std.specs.Prelude.{◌≡◌, ◌++◌, OnOk};
 ghost use Rattle.node_core.specs.Reading.{IsAnswer};
 ghost use Rattle.pg_text.specs.Answers.{spaced};
@@ -30,7 +31,8 @@ pub fn put_query<R: Wait>(
     event: Event,
     out: &mut Vec<u8>,
 ) -> Result<(), OutOfMemory>
-    ensures { OnOk result (AnswersRead (requests.Query event) caller.now out.old.items out.new.items) }
+    ensures { OnOk result (AnswersRead (requests.Query event) caller.now out.old.items
+        out.new.items) }
 {
     let shared = node.shared.lock(rt);
     if !caller.is_known_to(&shared) {
@@ -81,7 +83,8 @@ pub fn put_found<R: Wait>(
     number: u32,
     out: &mut Vec<u8>,
 ) -> Result<(), OutOfMemory>
-    ensures { OnOk result (AnswersRead (requests.Audit number) caller.now out.old.items out.new.items) }
+    ensures { OnOk result (AnswersRead (requests.Audit number) caller.now out.old.items
+        out.new.items) }
 {
     let shared = node.shared.lock(rt);
     if !caller.is_known_to(&shared) {

@@ -74,9 +74,11 @@ pub fn read_request(alloc: Global, line: &[u8]) -> Result<Request, LineFault>
 
 /// What a line asks for that may be a change, or a command of the console.
 fn read_other(alloc: Global, line: &[u8]) -> Result<Request, LineFault>
-    ensures ok { IfOk result (λ request. asked_changing (change_of (words_of line.now)) line.now ≡ Some request) }
+    ensures ok { IfOk result (λ request. asked_changing (change_of (words_of line.now)) line.now
+        ≡ Some request) }
     ensures call { IfOk result IsAsked }
-    ensures fault { IfErr result (λ fault. IsUnread fault (asked_changing (change_of (words_of line.now)) line.now)) }
+    ensures fault { IfErr result (λ fault.
+        IsUnread fault (asked_changing (change_of (words_of line.now)) line.now)) }
 {
     match Change::of(line) {
         Some(change) => Ok(Request::Change(change)),
@@ -86,9 +88,11 @@ fn read_other(alloc: Global, line: &[u8]) -> Result<Request, LineFault>
 
 /// What a line asks for that may be a command of the console.
 fn read_command(alloc: Global, line: &[u8]) -> Result<Request, LineFault>
-    ensures ok { IfOk result (λ request. option_and_then asked_of (said_by line.now) ≡ Some request) }
+    ensures ok { IfOk result (λ request. option_and_then asked_of (said_by line.now)
+        ≡ Some request) }
     ensures call { IfOk result IsAsked }
-    ensures fault { IfErr result (λ fault. IsUnread fault (option_and_then asked_of (said_by line.now))) }
+    ensures fault { IfErr result (λ fault.
+        IsUnread fault (option_and_then asked_of (said_by line.now))) }
 {
     match parse(alloc, line)? {
         Command::Step(event) => request_of(event),
@@ -115,7 +119,8 @@ fn request_of(event: Event) -> Result<Request, LineFault>
 
 /// Adds the line for a line that asks for nothing: why it doesn't.
 pub fn put_fault(alloc: Global, line: &[u8], out: &mut Vec<u8>) -> Result<(), OutOfMemory>
-    ensures { OnOk result ((reason : List ℕ) × (out.new.items ≡ out.old.items ++ codes "fault " ++ reason)) }
+    ensures { OnOk result ((reason : List ℕ)
+        × (out.new.items ≡ out.old.items ++ codes "fault " ++ reason)) }
 {
     let reason = reason(alloc, line)?;
     put_word("fault ", out)?;

@@ -55,11 +55,12 @@ impl Roster {
         self.last_notice
     }
 
-    /// Follows the node up to now, in a new life from its beginning. Where memory is wanting it does so
-    /// later.
+    /// Follows the node up to now, in a new life from its beginning. Where memory is wanting it
+    /// does so later.
     pub fn follow(&mut self, alloc: Global, core: &NodeCore) -> Result<(), OutOfMemory>
         ensures seen { OnOk result (self.new.seen ≡ seen_of core.now.history) }
-        ensures up { OnOk result (list_any (has_gone core.now.history) self.new.news.peers ≡ false) }
+        ensures up { OnOk result (list_any (has_gone core.now.history) self.new.news.peers
+            ≡ false) }
     {
         if self.seen.creation() != core.creation() {
             self.news = News::new(alloc);

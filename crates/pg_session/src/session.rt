@@ -149,7 +149,10 @@ impl Session {
 
     /// Lets the calls go that its pass keeps, where the node doesn't keep all entries either.
     pub fn let_go(&mut self)
-        ensures { self.new ≡ record self.old { pass = record self.old.pass { gone = length self.old.pass.calls } } }
+        ensures { self.new ≡ record self.old {
+          pass =
+              record self.old.pass { gone = length self.old.pass.calls };
+        } }
     {
         self.caller.let_go();
     }
@@ -161,10 +164,15 @@ impl Session {
         core: &NodeCore,
         roster: &mut Roster,
     ) -> Result<Seen, OutOfMemory>
-        ensures ok { OnOk result (self.new ≡ record self.old { taken = true; known = self.new.known; seen = self.new.seen }) }
+        ensures ok { OnOk result (self.new ≡ record self.old {
+          taken = true;
+          known = self.new.known;
+          seen = self.new.seen;
+        }) }
         ensures done { OnOk result (self.new.known.anew ≡ None) }
         ensures known { OnOk result (self.new.known.peers ≡ roster.new.news.peers) }
-        ensures up { OnOk result (list_any (has_gone core.now.history) self.new.known.peers ≡ false) }
+        ensures up { OnOk result (list_any (has_gone core.now.history) self.new.known.peers
+            ≡ false) }
         ensures looked { OnOk result (self.new.seen ≡ seen_of core.now.history) }
         ensures seen { IfOk result (λ seen. seen ≡ self.new.seen) }
         ensures same { OnErr result (self.new ≡ self.old) }
@@ -211,10 +219,12 @@ impl Session {
         caller
     }
 
-    /// Adds that the node has begun anew, if the connection hasn't been told, behind the end of each peer that it takes for up.
+    /// Adds that the node has begun anew, if the connection hasn't been told, behind the end of
+    /// each peer that it takes for up.
     pub fn put_restart(&mut self, out: &mut Vec<u8>) -> Result<(), OutOfMemory>
         ensures rest { self.new ≡ record self.old { known = self.new.known } }
-        ensures told { OnOk result (TellsNews self.old.known out.old.items self.new.known out.new.items) }
+        ensures told { OnOk result (TellsNews self.old.known out.old.items self.new.known
+            out.new.items) }
         ensures done { OnOk result (self.new.known.anew ≡ None) }
         ensures same { OnErr result (self.new ≡ self.old) }
     {
@@ -235,7 +245,8 @@ impl Session {
         ensures quiet { is_quiet line.now ≡ true → (self.new ≡ self.old) × (out.new ≡ out.old)
             × IfOk result (λ answered. answered.lack ≡ None) }
         ensures ok { IfOk result (λ answered. is_quiet line.now ≡ false
-            → Answers (asked_by line.now) answered.lack self.old out.old.items self.new out.new.items) }
+            → Answers (asked_by line.now) answered.lack self.old out.old.items self.new
+            out.new.items) }
         ensures next { IfOk result (λ answered. answered.next ≡ next_behind line.now) }
         ensures once { Makes (asked_by line.now) self.old self.new }
         ensures taken { self.new.taken ≡ self.old.taken }
@@ -265,7 +276,8 @@ impl Session {
         out: &mut Vec<u8>,
     ) -> Result<Answered, OutOfMemory>
         requires { IsAsked request }
-        ensures ok { IfOk result (λ answered. Answers (Some request) answered.lack self.old out.old.items self.new out.new.items) }
+        ensures ok { IfOk result (λ answered.
+            Answers (Some request) answered.lack self.old out.old.items self.new out.new.items) }
         ensures next { IfOk result (λ answered. answered.next ≡ next_after (Some request)) }
         ensures once { Makes (Some request) self.old self.new }
         ensures taken { self.new.taken ≡ self.old.taken }
@@ -297,7 +309,8 @@ impl Session {
         Ok(Answered::LINE)
     }
 
-    /// Answers a call for own processes, if for any, and keeps what comes of it. Tells what it lacked.
+    /// Answers a call for own processes, if for any, and keeps what comes of it. Tells what it
+    /// lacked.
     fn call<R: Wait>(
         &mut self,
         rt: &R,
@@ -307,7 +320,8 @@ impl Session {
         out: &mut Vec<u8>,
     ) -> Result<Option<Lack>, OutOfMemory>
         requires { is_call event ≡ true }
-        ensures ok { IfOk result (λ lack. Answers (Some (requests.Call event)) lack self.old out.old.items self.new out.new.items) }
+        ensures ok { IfOk result (λ lack. Answers (Some (requests.Call event)) lack self.old
+            out.old.items self.new out.new.items) }
         ensures once { Makes (Some (requests.Call event)) self.old self.new }
         ensures taken { self.new.taken ≡ self.old.taken }
         ensures known { self.new.known ≡ self.old.known }
@@ -337,7 +351,10 @@ impl Session {
     /// Ends the last monitor of the connection: whether there was one.
     pub fn leave_monitor<R: Wait>(&mut self, rt: &R, node: &Node) -> bool
         ensures one { LeavesMonitor result self.old self.new }
-        ensures rest { self.new ≡ record self.old { pass = self.new.pass; watches = self.new.watches } }
+        ensures rest { self.new ≡ record self.old {
+          pass = self.new.pass;
+          watches = self.new.watches;
+        } }
     {
         let Some(watch) = self.watches.pop() else {
             return false;
@@ -346,7 +363,8 @@ impl Session {
         true
     }
 
-    /// Ends one thing that the connection has, a process or a monitor: whether there was one. If not, the seat is free.
+    /// Ends one thing that the connection has, a process or a monitor: whether there was one. If
+    /// not, the seat is free.
     pub fn leave_one<R: Wait>(&mut self, rt: &R, alloc: Global, node: &Node) -> bool
         ensures goes { GoesOnBy is_end self.old.pass self.new.pass }
         ensures fewer { (p : Pid) → has self.new.own p ≡ true → has self.old.own p ≡ true }

@@ -154,8 +154,10 @@ impl Watch {
         entries: usize,
         out: &mut Vec<u8>,
     ) -> Result<(), OutOfMemory>
-        ensures called { IsCalled caller.old (Updates self.old.number) caller.new ⊎ (caller.new ≡ caller.old) }
-        ensures told { OnOk result ((known : Known) → Tells caller.old known out.old.items caller.new known out.new.items) }
+        ensures called { IsCalled caller.old (Updates self.old.number) caller.new
+            ⊎ (caller.new ≡ caller.old) }
+        ensures told { OnOk result ((known : Known)
+            → Tells caller.old known out.old.items caller.new known out.new.items) }
         ensures asked { is_asked self.old ≡ true
             → IsCalled caller.old (Updates self.old.number) caller.new }
         ensures quiet { is_asked self.old ≡ false
@@ -248,11 +250,13 @@ pub fn tell_all<R: Wait>(
     out: &mut Vec<u8>,
 ) -> Result<(), OutOfMemory>
     ensures goes { GoesOnBy is_fetch caller.old caller.new }
-    ensures told { OnOk result ((known : Known) → Tells caller.old known out.old.items caller.new known out.new.items) }
+    ensures told { OnOk result ((known : Known)
+        → Tells caller.old known out.old.items caller.new known out.new.items) }
     ensures asked { OnOk result ((all : List Watch)
         × AllAsked caller.old watches.old.items entries caller.new all
         × (watches.new.items ≡ filter (λ w. not w.is_over) all)) }
-    ensures memory { OnErr result (map as_begun watches.new.items ≡ map as_begun watches.old.items) }
+    ensures memory { OnErr result (map as_begun watches.new.items
+        ≡ map as_begun watches.old.items) }
 {
     ask_all(watches, caller, rt, alloc, node, entries, out)?;
     watches.retain(|watch| !watch.is_over);
@@ -273,7 +277,8 @@ fn ask_all<R: Wait>(
         → Tells caller.old known out.old.items caller.new known out.new.items) }
     ensures asked { OnOk result
         (AllAsked caller.old watches.old.items entries caller.new watches.new.items) }
-    ensures memory { OnErr result (map as_begun watches.new.items ≡ map as_begun watches.old.items) }
+    ensures memory { OnErr result (map as_begun watches.new.items
+        ≡ map as_begun watches.old.items) }
 {
     for watch in watches.iter_mut() {
         watch.tell(caller, rt, alloc, node, entries, out)?;

@@ -1,5 +1,5 @@
-//! Lines that come in, and what goes out on standard output and standard error, where nothing can end a read or a write: threads
-//! of their own make those, and nobody waits for them for long.
+//! Lines that come in, and what goes out on standard output and standard error, where nothing can
+//! end a read or a write: threads of their own make those, and nobody waits for them for long.
 #![tactic(auto)]
 
 mod hearing;

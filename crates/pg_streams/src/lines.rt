@@ -24,7 +24,8 @@ pub enum Next {
     End,
 }
 
-/// Reads the next line over the last, without its line feed. Of one that is too long the end is left out.
+/// Reads the next line over the last, without its line feed. Of one that is too long the end is
+/// left out.
 pub fn read_line<B: BufRead>(reader: &mut B, line: &mut Vec<u8>) -> io::Result<Next> {
     line.clear();
     let mut is_lost = false;
@@ -52,7 +53,8 @@ pub fn read_line<B: BufRead>(reader: &mut B, line: &mut Vec<u8>) -> io::Result<N
     Ok(Next::End)
 }
 
-/// What these bytes have of a line, and how many of them are used up with its line feed, if that is there.
+/// What these bytes have of a line, and how many of them are used up with its line feed, if that is
+/// there.
 fn part_of_line(bytes: &[u8]) -> (&[u8], usize) {
     for (end, byte) in bytes.iter().enumerate() {
         if *byte == b'\n' {
@@ -62,7 +64,8 @@ fn part_of_line(bytes: &[u8]) -> (&[u8], usize) {
     (bytes, bytes.len())
 }
 
-/// Adds bytes to a line that isn't too long already: whether there was memory for them. Without, the line is let go.
+/// Adds bytes to a line that isn't too long already: whether there was memory for them. Without,
+/// the line is let go.
 fn has_room(line: &mut Vec<u8>, bytes: &[u8]) -> bool {
     if is_too_long(line.as_slice()) || line.extend_from_slice(bytes).is_ok() {
         return true;
@@ -97,7 +100,8 @@ struct Queue {
     has_ended: bool,
 }
 
-/// Lines on the way from the thread that reads standard input, which nothing can end, to the one that answers them.
+/// Lines on the way from the thread that reads standard input, which nothing can end, to the one
+/// that answers them.
 pub struct LineQueue {
     queue: Mutex<Queue>,
     moved: Condvar,

@@ -1,4 +1,5 @@
-//! Standard output. Nothing can end a write to it, so a thread of its own writes, and the run doesn't wait for that for ever.
+//! Standard output. Nothing can end a write to it, so a thread of its own writes, and the run
+//! doesn't wait for that for ever.
 use anyhow::{Error, Result, anyhow};
 use std::alloc::Global;
 use std::io::{self, Write};
@@ -120,7 +121,8 @@ impl OutputQueue {
         fault_of(&state)
     }
 
-    /// Waits until all is written, but not for long unless it is to be patient. An error, where a fault ends the program.
+    /// Waits until all is written, but not for long unless it is to be patient. An error, where a
+    /// fault ends the program.
     pub fn finish<R: Wait + Clock>(&self, rt: &R) -> Result<()> {
         self.end(rt);
         match self.last_fault(rt) {

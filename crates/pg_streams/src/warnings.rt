@@ -1,4 +1,5 @@
-//! What the program says on standard error. Nothing can end a write there, so a thread of its own writes, and nobody waits for it.
+//! What the program says on standard error. Nothing can end a write there, so a thread of its own
+//! writes, and nobody waits for it.
 use std::alloc::{AllocError, Global};
 use std::mem::swap;
 use std::sync::{Condvar, CondvarTimeouts, Mutex, Wait};
@@ -22,7 +23,8 @@ impl State {
     }
 }
 
-/// Lines on the way from who says something to the thread that writes it. To say something takes no memory.
+/// Lines on the way from who says something to the thread that writes it. To say something takes no
+/// memory.
 pub struct Warnings {
     state: Mutex<State>,
     moved: Condvar,

@@ -46,7 +46,8 @@ update_text u = happened_text u.leave ++ u.group ++ counted_text u.pids
 
 -- an update with the number of the monitor that it is told to
 abbrev pub told_text : ℕ → Update → List ℕ
-told_text monitor u = happened_text u.leave ++ decimal monitor ++ codes " " ++ u.group ++ counted_text u.pids
+told_text monitor u = happened_text u.leave ++ decimal monitor ++ codes " " ++ u.group
+    ++ counted_text u.pids
 
 -- a body in hex
 abbrev pub frame_text : OutFrame → List ℕ
@@ -57,17 +58,20 @@ abbrev pub reply_text : Reply → List ℕ
 reply_text reply.Done = codes "ok"
 reply_text (reply.Pid p) = codes "pid " ++ pid_text p
 reply_text (reply.Link number) = codes "link " ++ decimal number
-reply_text (reply.Up peer creation visible) = codes "up " ++ peer ++ codes " " ++ decimal creation ++ (if visible then codes " visible" else codes " hidden")
+reply_text (reply.Up peer creation visible) = codes "up " ++ peer ++ codes " " ++ decimal creation
+    ++ (if visible then codes " visible" else codes " hidden")
 reply_text (reply.Pids pids) = codes "pids" ++ spaced pid_text pids
 reply_text (reply.Groups groups) = codes "groups" ++ spaced (λ g. g) groups
 reply_text (reply.Ref number pids) = codes "ref " ++ decimal number ++ spaced pid_text pids
-reply_text (reply.ScopeRef number groups) = codes "ref " ++ decimal number ++ spaced group_text groups
+reply_text (reply.ScopeRef number groups) = codes "ref " ++ decimal number
+    ++ spaced group_text groups
 reply_text (reply.Updates updates) = codes "updates" ++ spaced update_text updates
 reply_text (reply.Out frames) = codes "out" ++ spaced frame_text frames
 
 -- a rule by its number and its name
 abbrev pub refusal_text : Rule → List ℕ
-refusal_text rule = codes "refused " ++ decimal (rule_line rule).0 ++ codes " " ++ (rule_line rule).1
+refusal_text rule = codes "refused " ++ decimal (rule_line rule).0 ++ codes " "
+    ++ (rule_line rule).1
 
 -- the line for what the policy makes of an event
 abbrev pub verdict_line : Verdict → List ℕ
@@ -99,7 +103,8 @@ judged_text (Refused rule) = refusal_text rule
 
 -- the line for an entry: its number, its seat, the kind of its event, how it was judged
 abbrev pub entry_line : Option Entry → List ℕ
-entry_line (Some e) = decimal e.number ++ codes " " ++ decimal e.seat ++ codes " " ++ kind_text e.event ++ codes " " ++ judged_text e.verdict ++ codes "\n"
+entry_line (Some e) = decimal e.number ++ codes " " ++ decimal e.seat ++ codes " "
+    ++ kind_text e.event ++ codes " " ++ judged_text e.verdict ++ codes "\n"
 entry_line None = codes "none\n"
 
 -- the entry of that number was handed out, where so many are forgotten

@@ -15,14 +15,20 @@ abbrev pub only : {A : Type 0} → (List ℕ → Option A) → List (List ℕ) �
 only read words = option_and_then read (only_of words)
 
 -- what two words say
-abbrev pub both : {A B : Type 0} → (List ℕ → Option A) → (List ℕ → Option B) → List (List ℕ) → Option (A × B)
-both read_first read_second words = option_and_then (λ said. option_map (λ second. (said.0, second)) (only read_second said.1)) (first read_first words)
+abbrev pub both : {A B : Type 0} → (List ℕ → Option A) → (List ℕ → Option B) → List (List ℕ)
+    → Option (A × B)
+both read_first read_second words =
+    option_and_then (λ said. option_map (λ second. (said.0, second)) (only read_second said.1))
+    (first read_first words)
 
 -- what each word says, any number of them
 abbrev pub each : {A : Type 0} → (List ℕ → Option A) → List (List ℕ) → Option (List A)
 each read [] = Some []
-each read (word ∷ words) = option_and_then (λ said. option_map (λ others. said ∷ others) (each read words)) (read word)
+each read (word ∷ words) = option_and_then (λ said.
+    option_map (λ others. said ∷ others) (each read words)) (read word)
 
 -- a scope, a group, and any number of processes
 abbrev pub named : List (List ℕ) → Option (List ℕ × List ℕ × List Pid)
-named words = option_and_then (λ s. option_and_then (λ g. option_map (λ pids. (s.0, g.0, pids)) (each pid_of g.1)) (first text_of s.1)) (first text_of words)
+named words = option_and_then (λ s.
+    option_and_then (λ g. option_map (λ pids. (s.0, g.0, pids)) (each pid_of g.1))
+    (first text_of s.1)) (first text_of words)

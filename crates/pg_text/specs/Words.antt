@@ -11,7 +11,8 @@ use Rattle.dist_types.specs.Text.{is_text, is_node_name}
 
 -- the number below the limit of which the word is the decimal text
 abbrev pub number_below : ℕ → List ℕ → Option ℕ
-number_below limit word = cond (bytes_eq (decimal (digits_value 10 word)) word && nat_lt (digits_value 10 word) limit) (Some (digits_value 10 word)) None
+number_below limit word = cond (bytes_eq (decimal (digits_value 10 word)) word
+    && nat_lt (digits_value 10 word) limit) (Some (digits_value 10 word)) None
 
 -- a number of 32 bits
 abbrev pub number_of : List ℕ → Option ℕ
@@ -42,11 +43,14 @@ cut_of (b ∷ bytes) = cut_at b bytes (cut_of bytes)
 -- the process that these three words say
 abbrev pub process_of : List ℕ → List ℕ → List ℕ → Option Pid
 process_of name creation number =
-    option_and_then (λ n. option_and_then (λ c. option_map (λ node. record { node = node; creation = c; number = n }) (name_of name)) (number_of creation)) (long_number_of number)
+    option_and_then (λ n. option_and_then (λ c.
+    option_map (λ node. record { node = node; creation = c; number = n }) (name_of name))
+    (number_of creation)) (long_number_of number)
 
 -- a process, as `name/creation/number`: the last two slashes part it
 abbrev pub pid_of : List ℕ → Option Pid
-pid_of word = option_and_then (λ outer. option_and_then (λ inner. process_of inner.0 inner.1 outer.1) (cut_of outer.0)) (cut_of word)
+pid_of word = option_and_then (λ outer.
+    option_and_then (λ inner. process_of inner.0 inner.1 outer.1) (cut_of outer.0)) (cut_of word)
 
 -- what was decoded, if it could be
 abbrev pub decoded : Result (List ℕ) FromHexError → Option (List ℕ)

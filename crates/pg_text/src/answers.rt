@@ -46,7 +46,8 @@ pub fn put_unanswered(fault: CoreFault, out: &mut Vec<u8>) -> Result<(), OutOfMe
 
 /// Adds the line for an entry of the audit.
 pub fn put_entry(found: Option<&Entry>, out: &mut Vec<u8>) -> Result<(), OutOfMemory>
-    ensures { OnOk result (out.new.items ≡ out.old.items ++ entry_line (option_copied found.entry)) }
+    ensures { OnOk result (out.new.items ≡ out.old.items
+        ++ entry_line (option_copied found.entry)) }
 {
     let Some(entry) = found else {
         return put_word("none\n", out);
@@ -115,7 +116,8 @@ fn put_up(
     visible: bool,
     out: &mut Vec<u8>,
 ) -> Result<(), OutOfMemory>
-    ensures { OnOk result (out.new.items ≡ out.old.items ++ reply_text (Reply.Up peer.now creation visible)) }
+    ensures { OnOk result (out.new.items ≡ out.old.items
+        ++ reply_text (Reply.Up peer.now creation visible)) }
 {
     let ending = if visible { " visible" } else { " hidden" };
     put_word("up ", out)?;
@@ -144,7 +146,8 @@ fn put_ref<T: Printed>(
     items: &[T],
     out: &mut Vec<u8>,
 ) -> Result<(), OutOfMemory>
-    ensures { OnOk result (out.new.items ≡ out.old.items ++ codes "ref " ++ decimal number ++ spaced T.text items.now) }
+    ensures { OnOk result (out.new.items ≡ out.old.items ++ codes "ref " ++ decimal number
+        ++ spaced T.text items.now) }
 {
     put_number("ref ", u64::from(number), out)?;
     put_each(alloc, items, out)

@@ -15,7 +15,8 @@ pub fn first<A: Argument>(
     alloc: Global,
     words: Option<&[u8]>,
 ) -> Result<(A, Option<&[u8]>), LineFault>
-    ensures ok { IfOk result (λ said. first A.read (words_left words.entry) ≡ Some (said.0, words_left said.1)) }
+    ensures ok { IfOk result (λ said. first A.read (words_left words.entry)
+        ≡ Some (said.0, words_left said.1)) }
     ensures fault { IfErr result (λ fault. IsUnread fault (first A.read (words_left words.entry))) }
 {
     let Some((word, rest)) = next_word(words) else {
@@ -42,7 +43,8 @@ pub fn both<A: Argument + Drop, B: Argument>(
     words: Option<&[u8]>,
 ) -> Result<(A, B), LineFault>
     ensures ok { IfOk result (λ said. both A.read B.read (words_left words.entry) ≡ Some said) }
-    ensures fault { IfErr result (λ fault. IsUnread fault (both A.read B.read (words_left words.entry))) }
+    ensures fault { IfErr result (λ fault.
+        IsUnread fault (both A.read B.read (words_left words.entry))) }
 {
     let (said, rest) = first::<A>(alloc, words)?;
     let second = only::<B>(alloc, rest)?;

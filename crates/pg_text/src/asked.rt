@@ -9,7 +9,8 @@ use node_core::Query;
 use policy_audit::Event;
 use std::slice::from_ref;
 
-/// What an event asks of the rows of a scope, if it is a query: `NodeCore::look` answers it without an entry.
+/// What an event asks of the rows of a scope, if it is a query: `NodeCore::look` answers it without
+/// an entry.
 pub fn query_of(event: &Event) -> Option<(&Scope, Query<'_>)>
     ensures found { IfSome result (λ asked. event.now ≡ event_of asked.0.now asked.1) }
     ensures none { IsNone result → is_query event.now ≡ false }

@@ -1,4 +1,5 @@
-//! What is wrong with a line that says no command, in words for standard error. Standard output has its `fault line K` alone.
+//! What is wrong with a line that says no command, in words for standard error. Standard output has
+//! its `fault line K` alone.
 use dist_types::{NodeName, TextFault};
 use std::alloc::Global;
 
@@ -68,8 +69,8 @@ pub const FORMS: [&str; 27] = [
     "audit ENTRY",
 ];
 
-/// A reason, and the word at fault or, where a word is missing, the words that the command takes. It is empty where the line has a
-/// byte that a terminal shouldn't be given.
+/// A reason, and the word at fault or, where a word is missing, the words that the command takes.
+/// It is empty where the line has a byte that a terminal shouldn't be given.
 pub type Diagnosis<'a> = (Reason, &'a str);
 
 /// What is wrong with a line: nothing, where it says a command or there is no memory.

@@ -12,8 +12,10 @@ use std::alloc::Global;
 
 /// A command on links, or one of the console.
 pub fn link_command(alloc: Global, name: &[u8], words: Option<&[u8]>) -> Result<Command, LineFault>
-    ensures ok { IfOk result (λ command. link_command name.now (words_left words.entry) ≡ Some command) }
-    ensures fault { IfErr result (λ fault. IsUnread fault (link_command name.now (words_left words.entry))) }
+    ensures ok { IfOk result (λ command. link_command name.now (words_left words.entry)
+        ≡ Some command) }
+    ensures fault { IfErr result (λ fault.
+        IsUnread fault (link_command name.now (words_left words.entry))) }
 {
     let event = if is(name, "dial") {
         let (peer, challenge) = both(alloc, words)?;
@@ -41,8 +43,10 @@ pub fn console_command(
     name: &[u8],
     words: Option<&[u8]>,
 ) -> Result<Command, LineFault>
-    ensures ok { IfOk result (λ command. console_command name.now (words_left words.entry) ≡ Some command) }
-    ensures fault { IfErr result (λ fault. IsUnread fault (console_command name.now (words_left words.entry))) }
+    ensures ok { IfOk result (λ command. console_command name.now (words_left words.entry)
+        ≡ Some command) }
+    ensures fault { IfErr result (λ fault.
+        IsUnread fault (console_command name.now (words_left words.entry))) }
 {
     if is(name, "seat") {
         Ok(Command::Seat(only(alloc, words)?))

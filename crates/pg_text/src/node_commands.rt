@@ -13,8 +13,10 @@ use std::alloc::Global;
 
 /// A command on the node, or one on scopes.
 pub fn node_command(alloc: Global, name: &[u8], words: Option<&[u8]>) -> Result<Command, LineFault>
-    ensures ok { IfOk result (λ command. node_command name.now (words_left words.entry) ≡ Some command) }
-    ensures fault { IfErr result (λ fault. IsUnread fault (node_command name.now (words_left words.entry))) }
+    ensures ok { IfOk result (λ command. node_command name.now (words_left words.entry)
+        ≡ Some command) }
+    ensures fault { IfErr result (λ fault.
+        IsUnread fault (node_command name.now (words_left words.entry))) }
 {
     let event = if is(name, "restart") {
         nothing(words)?;
@@ -34,8 +36,10 @@ pub fn node_command(alloc: Global, name: &[u8], words: Option<&[u8]>) -> Result<
 
 /// A command on scopes and processes, or a query.
 pub fn scope_command(alloc: Global, name: &[u8], words: Option<&[u8]>) -> Result<Command, LineFault>
-    ensures ok { IfOk result (λ command. scope_command name.now (words_left words.entry) ≡ Some command) }
-    ensures fault { IfErr result (λ fault. IsUnread fault (scope_command name.now (words_left words.entry))) }
+    ensures ok { IfOk result (λ command. scope_command name.now (words_left words.entry)
+        ≡ Some command) }
+    ensures fault { IfErr result (λ fault.
+        IsUnread fault (scope_command name.now (words_left words.entry))) }
 {
     let event = if is(name, "start") {
         Event::StartScope(only(alloc, words)?)

@@ -61,7 +61,8 @@ impl Printed for OutFrame {
     }
 }
 
-/// Adds an update with the monitor that it is told to, by the number of its entry, as `join 3 g 1 a@h/1/1`.
+/// Adds an update with the monitor that it is told to, by the number of its entry, as `join 3 g 1
+/// a@h/1/1`.
 pub fn put_told(
     alloc: Global,
     monitor: u32,
@@ -114,10 +115,12 @@ fn put_counted(alloc: Global, pids: &Pids, out: &mut Vec<u8>) -> Result<(), OutO
     put_each(alloc, pids, out)
 }
 
-/// Adds the creation and the number of a process, each behind a slash. A list has many, so both are added at once.
+/// Adds the creation and the number of a process, each behind a slash. A list has many, so both are
+/// added at once.
 #[tactic(auto, using(crate::proofs::WordLemmas::decimal_short))]
 fn put_slashed(creation: u32, number: u64, out: &mut Vec<u8>) -> Result<(), OutOfMemory>
-    ensures { OnOk result (out.new.items ≡ out.old.items ++ codes "/" ++ decimal creation ++ codes "/" ++ decimal number) }
+    ensures { OnOk result (out.new.items ≡ out.old.items ++ codes "/" ++ decimal creation
+        ++ codes "/" ++ decimal number) }
 {
     let mut text = [0; SLASHED];
     let middle = write_slashed(number, &mut text, SLASHED);
@@ -147,7 +150,8 @@ pub fn put_number(word: &str, number: u64, out: &mut Vec<u8>) -> Result<(), OutO
 
 /// Adds a line of a word and a number.
 pub fn put_numbered_line(word: &str, number: u64, out: &mut Vec<u8>) -> Result<(), OutOfMemory>
-    ensures { OnOk result (out.new.items ≡ out.old.items ++ word.now ++ decimal number ++ codes "\n") }
+    ensures { OnOk result (out.new.items ≡ out.old.items ++ word.now ++ decimal number
+        ++ codes "\n") }
 {
     put_number(word, number, out)?;
     put_word("\n", out)

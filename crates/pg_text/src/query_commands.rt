@@ -13,8 +13,10 @@ use std::alloc::Global;
 
 /// A query, or a command on monitors.
 pub fn query_command(alloc: Global, name: &[u8], words: Option<&[u8]>) -> Result<Command, LineFault>
-    ensures ok { IfOk result (λ command. query_command name.now (words_left words.entry) ≡ Some command) }
-    ensures fault { IfErr result (λ fault. IsUnread fault (query_command name.now (words_left words.entry))) }
+    ensures ok { IfOk result (λ command. query_command name.now (words_left words.entry)
+        ≡ Some command) }
+    ensures fault { IfErr result (λ fault.
+        IsUnread fault (query_command name.now (words_left words.entry))) }
 {
     let event = if is(name, "members") {
         let (scope, group) = both(alloc, words)?;
@@ -38,8 +40,10 @@ pub fn monitor_command(
     name: &[u8],
     words: Option<&[u8]>,
 ) -> Result<Command, LineFault>
-    ensures ok { IfOk result (λ command. monitor_command name.now (words_left words.entry) ≡ Some command) }
-    ensures fault { IfErr result (λ fault. IsUnread fault (monitor_command name.now (words_left words.entry))) }
+    ensures ok { IfOk result (λ command. monitor_command name.now (words_left words.entry)
+        ≡ Some command) }
+    ensures fault { IfErr result (λ fault.
+        IsUnread fault (monitor_command name.now (words_left words.entry))) }
 {
     let event = if is(name, "monitor") {
         let (scope, group) = both(alloc, words)?;

@@ -20,13 +20,21 @@ use Rattle.pg_world.specs.Views.{Exchanges}
 -- v comes from w by these steps, each with its answer
 abbrev pub Comes : Nodes → List WorldStep → Nodes → Type 0
 Comes w [] v = w ≡ v
-Comes w (t ∷ ts) v = (u : Nodes) × (r : Result WorldReply WorldFault) × IsWorldStep w t u r × Comes u ts v
+Comes w (t ∷ ts) v = (u : Nodes) × (r : Result WorldReply WorldFault) × IsWorldStep w t u r
+    × Comes u ts v
 
 -- ---- the nodes
 
 -- a node that has seen nothing
 abbrev pub fresh : List ℕ → History
-fresh name = past (record { name = name; cookie = codes "password"; hidden = false; creation = 4; entries = 100; links = 1 }) []
+fresh name = past (record {
+  name = name;
+  cookie = codes "password";
+  hidden = false;
+  creation = 4;
+  entries = 100;
+  links = 1;
+}) []
 
 -- `a@h` and `b@h`, without wires
 abbrev pub two_nodes : Nodes
@@ -38,7 +46,8 @@ first_process name = record { node = name; creation = 4; number = 1 }
 
 -- ---- the steps
 
--- each starts the scope, and a process of it joins; then `a@h` dials `b@h`, and frames go and come until none waits
+-- each starts the scope, and a process of it joins; then `a@h` dials `b@h`, and frames go and come
+-- until none waits
 abbrev pub exchange : List WorldStep
 exchange =
     step.Call 0 0 (event.StartScope (codes "pg"))
@@ -55,18 +64,22 @@ exchange =
     ∷ step.Hand 0 side.Dialler 0 ∷ step.Deliver 0 side.Acceptor 0
     -- with a Discover; then the answers to both Discovers
     ∷ step.Hand 0 side.Acceptor 0 ∷ step.Deliver 0 side.Dialler 0 ∷ step.Deliver 0 side.Dialler 0
-    ∷ step.Hand 0 side.Dialler 0 ∷ step.Deliver 0 side.Acceptor 0 ∷ step.Deliver 0 side.Acceptor 0 ∷ step.Deliver 0 side.Acceptor 0
-    ∷ step.Hand 0 side.Acceptor 0 ∷ step.Deliver 0 side.Dialler 0 ∷ step.Deliver 0 side.Dialler 0 ∷ step.Deliver 0 side.Dialler 0
+    ∷ step.Hand 0 side.Dialler 0 ∷ step.Deliver 0 side.Acceptor 0 ∷ step.Deliver 0 side.Acceptor 0
+    ∷ step.Deliver 0 side.Acceptor 0
+    ∷ step.Hand 0 side.Acceptor 0 ∷ step.Deliver 0 side.Dialler 0 ∷ step.Deliver 0 side.Dialler 0
+    ∷ step.Deliver 0 side.Dialler 0
     ∷ step.Hand 0 side.Dialler 0 ∷ step.Deliver 0 side.Acceptor 0
     ∷ []
 
 -- and then the process of `a@h` joins once more
 abbrev pub join_again : List WorldStep
-join_again = step.Call 0 0 (event.Join (codes "pg") (codes "g") (first_process (codes "a@h") ∷ [])) ∷ []
+join_again = step.Call 0 0 (event.Join (codes "pg") (codes "g") (first_process (codes "a@h") ∷ []))
+    ∷ []
 
 -- ---- the worlds
 
--- both ends of the first wire exchange the scope, nothing is under way there, and each node lists the process of the other
+-- both ends of the first wire exchange the scope, nothing is under way there, and each node lists
+-- the process of the other
 pub record IsExchanged (w : Nodes) : Type 0 where
   pub a : History
   pub b : History

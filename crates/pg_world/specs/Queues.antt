@@ -16,7 +16,8 @@ use Rattle.pg_world.specs.declared.fault.WorldFault.{WorldFault}
 use Rattle.pg_world.specs.declared.fault.WorldFault.TheVariants as fault
 
 -- a node makes one step, and its answer has this effect
-pub record Answers (before : History) (seat : ℕ) (e : Event) (after : History) (Effect : Result Reply CoreFault → Type 0) : Type 0 where
+pub record Answers (before : History) (seat : ℕ) (e : Event) (after : History)
+    (Effect : Result Reply CoreFault → Type 0) : Type 0 where
   pub answer : Result Reply CoreFault
   pub stepped : IsStepped before seat e after answer
   pub effect : Effect answer

@@ -39,7 +39,8 @@ FramesAreLate (e ∷ es) = IsLate es e.event × FramesAreLate es
 
 -- ---- one wire
 
--- the ends of a wire are what the steps made them: a dial to the name of the other node, and an opening there
+-- the ends of a wire are what the steps made them: a dial to the name of the other node, and an
+-- opening there
 pub record IsWired (hs : List History) (x : Wire) : Type 0 where
   pub dialler : History
   pub acceptor : History
@@ -47,7 +48,8 @@ pub record IsWired (hs : List History) (x : Wire) : Type 0 where
   pub from_stands : slice_get hs x.from ≡ Some dialler
   pub to_stands : slice_get hs x.to ≡ Some acceptor
   pub dial : opening_of x.dialled dialler.entries ≡ Some (ByDial acceptor.opening.name challenge)
-  pub opening : (l : ℕ) → x.accepted ≡ Some l → (c : ℕ) × (opening_of l acceptor.entries ≡ Some (ByPeer c))
+  pub opening : (l : ℕ) → x.accepted ≡ Some l → (c : ℕ)
+      × (opening_of l acceptor.entries ≡ Some (ByPeer c))
 
 -- the bodies of these frames
 abbrev pub bodies : List OutFrame → List (List ℕ)
@@ -68,11 +70,12 @@ abbrev pub gets_of : Option History → Option ℕ → Bool
 gets_of (Some h) (Some l) = is_open l h.entries
 gets_of h l = true
 
--- what was handed out at the other side is what came at this side, and then what is under way to it, in order: until the link at this
--- side ends. Before it is opened all of it is under way.
+-- what was handed out at the other side is what came at this side, and then what is under way to
+-- it, in order: until the link at this side ends. Before it is opened all of it is under way.
 abbrev pub Carries : List History → Wire → Side → Type 0
 Carries hs x to = IsTrue (gets_of (slice_get hs (node_at to x)) (link_at to x))
-    → came_of (slice_get hs (node_at to x)) (link_at to x) ++ bodies (under_way to x) ≡ handed_of (slice_get hs (node_at (other to) x)) (link_at (other to) x)
+    → came_of (slice_get hs (node_at to x)) (link_at to x) ++ bodies (under_way to x)
+    ≡ handed_of (slice_get hs (node_at (other to) x)) (link_at (other to) x)
 
 -- the version of link messages that two nodes share, where they know these: 2, where both know it
 abbrev pub shared : ℕ → ℕ → ℕ
@@ -99,16 +102,21 @@ pub record HasEnd (xs : List Wire) (i l : ℕ) : Type 0 where
 
 -- ---- the whole
 
--- Each history is a node's, and their names differ. Each wire was dialled from the one node to the name of the other, and opened there;
--- it carries to both sides what was handed out at the other, and its ends speak the version that
--- both nodes share. A link is the end of one wire at most, at one side, and an open link is one.
+-- Each history is a node's, and their names differ. Each wire was dialled from the one node to the
+-- name of the other, and opened there; it carries to both sides what was handed out at the other,
+-- and its ends speak the version that both nodes share. A link is the end of one wire at most, at
+-- one side, and an open link is one.
 pub record IsWorld (w : Nodes) : Type 0 where
   pub nodes : (i : ℕ) (h : History) → slice_get w.nodes i ≡ Some h → IsNode h
   pub late : (i : ℕ) (h : History) → slice_get w.nodes i ≡ Some h → FramesAreLate h.entries
-  pub names : (i j : ℕ) (h k : History) → slice_get w.nodes i ≡ Some h → slice_get w.nodes j ≡ Some k → h.opening.name ≡ k.opening.name → i ≡ j
+  pub names : (i j : ℕ) (h k : History) → slice_get w.nodes i ≡ Some h
+      → slice_get w.nodes j ≡ Some k → h.opening.name ≡ k.opening.name → i ≡ j
   pub wired : (n : ℕ) (x : Wire) → slice_get w.wires n ≡ Some x → IsWired w.nodes x
-  pub carried : (n : ℕ) (x : Wire) → slice_get w.wires n ≡ Some x → (to : Side) → Carries w.nodes x to
+  pub carried : (n : ℕ) (x : Wire) → slice_get w.wires n ≡ Some x → (to : Side)
+      → Carries w.nodes x to
   pub spoken : (n : ℕ) (x : Wire) → slice_get w.wires n ≡ Some x → (at : Side) → SpeaksShared
       w.nodes x at
-  pub once : (m n : ℕ) (x y : Wire) (j k : Side) (i l : ℕ) → slice_get w.wires m ≡ Some x → slice_get w.wires n ≡ Some y → IsEnd x j i l → IsEnd y k i l → (m ≡ n) × (j ≡ k)
-  pub ends : (i : ℕ) (h : History) → slice_get w.nodes i ≡ Some h → (l : ℕ) → IsTrue (is_open l h.entries) → HasEnd w.wires i l
+  pub once : (m n : ℕ) (x y : Wire) (j k : Side) (i l : ℕ) → slice_get w.wires m ≡ Some x
+      → slice_get w.wires n ≡ Some y → IsEnd x j i l → IsEnd y k i l → (m ≡ n) × (j ≡ k)
+  pub ends : (i : ℕ) (h : History) → slice_get w.nodes i ≡ Some h → (l : ℕ)
+      → IsTrue (is_open l h.entries) → HasEnd w.wires i l

@@ -42,11 +42,17 @@ link_end x at None = Err fault.NotAccepted
 
 -- the end of a wire that is there
 abbrev pub wire_end : List History → Side → Wire → Result End WorldFault
-wire_end hs at x = elim (slice_get hs (node_at at x)) [ Some h ↦ link_end x at (link_at at x) | None ↦ Err fault.NoNode ]
+wire_end hs at x = elim (slice_get hs (node_at at x)) [
+  | Some h ↦ link_end x at (link_at at x)
+  | None ↦ Err fault.NoNode
+]
 
 -- the end of a wire at a side
 abbrev pub end_at : Nodes → ℕ → Side → Result End WorldFault
-end_at w n at = elim (slice_get w.wires n) [ Some x ↦ wire_end w.nodes at x | None ↦ Err fault.NoWire ]
+end_at w n at = elim (slice_get w.wires n) [
+  | Some x ↦ wire_end w.nodes at x
+  | None ↦ Err fault.NoWire
+]
 
 -- the node that opens a wire, if it hasn't
 abbrev pub opener : Wire → Option ℕ → Result ℕ WorldFault
@@ -55,11 +61,17 @@ opener x None = Ok x.to
 
 -- that node, if it is there
 abbrev pub wire_opener : List History → Wire → Result ℕ WorldFault
-wire_opener hs x = elim (slice_get hs x.to) [ Some h ↦ opener x x.accepted | None ↦ Err fault.NoNode ]
+wire_opener hs x = elim (slice_get hs x.to) [
+  | Some h ↦ opener x x.accepted
+  | None ↦ Err fault.NoNode
+]
 
 -- the node at which a wire is to be opened
 abbrev pub opener_at : Nodes → ℕ → Result ℕ WorldFault
-opener_at w n = elim (slice_get w.wires n) [ Some x ↦ wire_opener w.nodes x | None ↦ Err fault.NoWire ]
+opener_at w n = elim (slice_get w.wires n) [
+  | Some x ↦ wire_opener w.nodes x
+  | None ↦ Err fault.NoWire
+]
 
 -- the frames under way to a side of a wire
 abbrev pub queue_at : Nodes → ℕ → Side → List OutFrame
@@ -78,7 +90,11 @@ asks hs i seat e = elim (slice_get hs i) [ Some h ↦ Asks i seat e | None ↦ R
 
 -- a node dials another by its name, if both are there
 abbrev pub asks_dial : List History → ℕ → ℕ → ℕ → ℕ → Turn
-asks_dial hs i j seat challenge = elim (slice_get hs j) [ Some h ↦ asks hs i seat (event.Dial h.opening.name challenge) | None ↦ Refuses fault.NoNode ]
+asks_dial hs i j seat challenge =
+    elim (slice_get hs j) [
+      | Some h ↦ asks hs i seat (event.Dial h.opening.name challenge)
+      | None ↦ Refuses fault.NoNode
+    ]
 
 -- the other node of a wire opens it
 abbrev pub asks_opened : Result ℕ WorldFault → ℕ → ℕ → Turn
@@ -92,7 +108,8 @@ asks_frame seat (f ∷ fs) e = Asks e.node seat (event.Frame e.link f.body)
 
 -- what a step comes to
 abbrev pub turn_of : Nodes → WorldStep → Turn
-turn_of w (step.Call i seat e) = cond (is_wrong e) (Refuses fault.WrongEvent) (asks w.nodes i seat e)
+turn_of w (step.Call i seat e) = cond (is_wrong e) (Refuses fault.WrongEvent)
+    (asks w.nodes i seat e)
 turn_of w (step.Dial i j seat challenge) = asks_dial w.nodes i j seat challenge
 turn_of w (step.Accept n seat challenge) = asks_opened (opener_at w n) seat challenge
 turn_of w (step.Hand n at seat) = at_end (end_at w n at) (λ e. Asks e.node seat (event.Take e.link))
@@ -133,7 +150,8 @@ answer_of t a xs = plain a
 -- ---- the whole
 
 -- one step of one node: no other node changes, and of the wires what the answer changes
-pub record IsAsked (old : Nodes) (t : WorldStep) (i seat : ℕ) (e : Event) (new : Nodes) (result : Result WorldReply WorldFault) : Type 0 where
+pub record IsAsked (old : Nodes) (t : WorldStep) (i seat : ℕ) (e : Event) (new : Nodes)
+    (result : Result WorldReply WorldFault) : Type 0 where
   pub before : History
   pub after : History
   pub answer : Result Reply CoreFault

@@ -6,7 +6,8 @@ use Rattle.node_core.specs.Recorded.{Recorded}
 use Rattle.pg_world.specs.declared.side.Side.{Side}
 use Rattle.pg_world.specs.declared.side.Side.TheVariants as side
 
--- a wire: the nodes at its two sides, the link of each there, and the frames under way towards each, the oldest first
+-- a wire: the nodes at its two sides, the link of each there, and the frames under way towards
+-- each, the oldest first
 pub record Wire : Type 0 where
   pub from : ℕ
   pub to : ℕ
@@ -50,27 +51,57 @@ other side.Acceptor = side.Dialler
 
 -- a wire that was dialled and isn't accepted yet
 abbrev pub dialled : ℕ → ℕ → ℕ → Wire
-dialled i j l = record { from = i; to = j; dialled = l; accepted = None; to_dialler = []; to_acceptor = [] }
+dialled i j l = record {
+  from = i;
+  to = j;
+  dialled = l;
+  accepted = None;
+  to_dialler = [];
+  to_acceptor = [];
+}
 
 -- with these frames under way towards that side
 abbrev pub with_queue : Side → List OutFrame → Wire → Wire
-with_queue side.Dialler fs x = record { from = x.from; to = x.to; dialled = x.dialled; accepted = x.accepted; to_dialler = fs; to_acceptor = x.to_acceptor }
-with_queue side.Acceptor fs x = record { from = x.from; to = x.to; dialled = x.dialled; accepted = x.accepted; to_dialler = x.to_dialler; to_acceptor = fs }
+with_queue side.Dialler fs x = record {
+  from = x.from;
+  to = x.to;
+  dialled = x.dialled;
+  accepted = x.accepted;
+  to_dialler = fs;
+  to_acceptor = x.to_acceptor;
+}
+with_queue side.Acceptor fs x = record {
+  from = x.from;
+  to = x.to;
+  dialled = x.dialled;
+  accepted = x.accepted;
+  to_dialler = x.to_dialler;
+  to_acceptor = fs;
+}
 
 -- with this link at the acceptor's side, if there is one
 abbrev pub with_link : Option ℕ → Wire → Wire
-with_link (Some l) x = record { from = x.from; to = x.to; dialled = x.dialled; accepted = Some l; to_dialler = x.to_dialler; to_acceptor = x.to_acceptor }
+with_link (Some l) x = record {
+  from = x.from;
+  to = x.to;
+  dialled = x.dialled;
+  accepted = Some l;
+  to_dialler = x.to_dialler;
+  to_acceptor = x.to_acceptor;
+}
 with_link None x = x
 
 -- both nodes of each wire are there
 abbrev pub HaveNodes : Nodes → Type 0
-HaveNodes w = (n : ℕ) (x : Wire) → slice_get w.wires n ≡ Some x → (x.from < length w.nodes) × (x.to < length w.nodes)
+HaveNodes w = (n : ℕ) (x : Wire) → slice_get w.wires n ≡ Some x → (x.from < length w.nodes)
+    × (x.to < length w.nodes)
 
 -- ---- names
 
 -- no two nodes have one name
 abbrev pub DifferInName : List History → Type 0
-DifferInName hs = (i j : ℕ) (h k : History) → i < j → slice_get hs i ≡ Some h → slice_get hs j ≡ Some k → h.opening.name ≢ k.opening.name
+DifferInName hs = (i j : ℕ) (h k : History) → i < j → slice_get hs i ≡ Some h
+    → slice_get hs j ≡ Some k → h.opening.name ≢ k.opening.name
 
 -- two nodes have one name
 pub record ShareAName (hs : List History) : Type 0 where

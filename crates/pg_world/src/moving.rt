@@ -1,4 +1,5 @@
-//! The steps of a world, over its nodes and its wires. Each finds its first fault, or has one node make one step.
+//! The steps of a world, over its nodes and its wires. Each finds its first fault, or has one node
+//! make one step.
 ghost use Rattle.std.specs.Prelude.{◌≡◌, ◌<◌, ◌++◌, List, IfOk, OnOk, length, vec_len, vec_capacity};
 ghost use Rattle.pg_world.specs.declared.world_step.WorldStep.TheVariants as step;
 ghost use Rattle.pg_world.specs.World.{Wire, world};
@@ -23,7 +24,8 @@ pub(crate) fn make_step(
     wires: &mut Vec<Wire>,
     step: WorldStep,
 ) -> Result<WorldReply, WorldFault>
-    ensures { IsWorldStep (world nodes.old wires.old.items) step (world nodes.new wires.new.items) result }
+    ensures { IsWorldStep (world nodes.old wires.old.items) step (world nodes.new wires.new.items)
+        result }
 {
     match step {
         WorldStep::Call { node, seat, event } => call(nodes, node, seat, event),
@@ -47,7 +49,8 @@ pub(crate) fn make_step(
 
 /// A node answers a call.
 fn call(nodes: &mut [Node], node: usize, seat: u32, event: Event) -> Result<WorldReply, WorldFault>
-    ensures { (xs : List Wire) → IsWorldStep (world nodes.old xs) (step.Call node seat event) (world nodes.new xs) result }
+    ensures { (xs : List Wire) → IsWorldStep (world nodes.old xs) (step.Call node seat event)
+        (world nodes.new xs) result }
 {
     if is_wrong(&event) {
         drop(event);
@@ -58,7 +61,8 @@ fn call(nodes: &mut [Node], node: usize, seat: u32, event: Event) -> Result<Worl
 
 /// A node begins anew.
 fn restart(nodes: &mut [Node], node: usize, seat: u32) -> Result<WorldReply, WorldFault>
-    ensures { (xs : List Wire) → IsWorldStep (world nodes.old xs) (step.Restart node seat) (world nodes.new xs) result }
+    ensures { (xs : List Wire) → IsWorldStep (world nodes.old xs) (step.Restart node seat)
+        (world nodes.new xs) result }
 {
     ask(nodes, node, seat, Event::Restart)
 }
@@ -73,7 +77,8 @@ fn dial(
     seat: u32,
     challenge: u32,
 ) -> Result<WorldReply, WorldFault>
-    ensures { IsWorldStep (world nodes.old wires.old.items) (step.Dial from to seat challenge) (world nodes.new wires.new.items) result }
+    ensures { IsWorldStep (world nodes.old wires.old.items) (step.Dial from to seat challenge)
+        (world nodes.new wires.new.items) result }
 {
     if from >= nodes.len() || to >= nodes.len() {
         return Err(WorldFault::NoNode);
@@ -98,7 +103,8 @@ fn accept(
     seat: u32,
     challenge: u32,
 ) -> Result<WorldReply, WorldFault>
-    ensures { IsWorldStep (world nodes.old wires.old) (step.Accept wire seat challenge) (world nodes.new wires.new) result }
+    ensures { IsWorldStep (world nodes.old wires.old) (step.Accept wire seat challenge)
+        (world nodes.new wires.new) result }
 {
     let node = opener(nodes, wires, wire)?;
     let core = &mut nodes[node];
@@ -114,7 +120,8 @@ fn hand(
     side: Side,
     seat: u32,
 ) -> Result<WorldReply, WorldFault>
-    ensures { IsWorldStep (world nodes.old wires.old) (step.Hand wire side seat) (world nodes.new wires.new) result }
+    ensures { IsWorldStep (world nodes.old wires.old) (step.Hand wire side seat)
+        (world nodes.new wires.new) result }
 {
     let end = end_of(nodes, wires, wire, side)?;
     let core = &mut nodes[end.node];
@@ -131,7 +138,8 @@ fn deliver(
     side: Side,
     seat: u32,
 ) -> Result<WorldReply, WorldFault>
-    ensures { IsWorldStep (world nodes.old wires.old) (step.Deliver wire side seat) (world nodes.new wires.new) result }
+    ensures { IsWorldStep (world nodes.old wires.old) (step.Deliver wire side seat)
+        (world nodes.new wires.new) result }
 {
     let end = end_of(nodes, wires, wire, side)?;
     let core = &mut nodes[end.node];
@@ -150,7 +158,8 @@ fn cut(
     side: Side,
     seat: u32,
 ) -> Result<WorldReply, WorldFault>
-    ensures { IsWorldStep (world nodes.old wires.old) (step.Cut wire side seat) (world nodes.new wires.new) result }
+    ensures { IsWorldStep (world nodes.old wires.old) (step.Cut wire side seat)
+        (world nodes.new wires.new) result }
 {
     let end = end_of(nodes, wires, wire, side)?;
     let core = &mut nodes[end.node];
@@ -160,7 +169,8 @@ fn cut(
 
 /// A node answers an event, if it is there.
 fn ask(nodes: &mut [Node], node: usize, seat: u32, event: Event) -> Result<WorldReply, WorldFault>
-    ensures { (xs : List Wire) → Turns (world nodes.old xs) (step.Call node seat event) (asks nodes.old node seat event) (world nodes.new xs) result }
+    ensures { (xs : List Wire) → Turns (world nodes.old xs) (step.Call node seat event)
+        (asks nodes.old node seat event) (world nodes.new xs) result }
 {
     if node >= nodes.len() {
         drop(event);
@@ -173,7 +183,8 @@ fn ask(nodes: &mut [Node], node: usize, seat: u32, event: Event) -> Result<World
 /// The link at a side of a wire, and the node there.
 fn end_of(nodes: &[Node], wires: &[Wire], wire: usize, side: Side) -> Result<End, WorldFault>
     ensures exact { result ≡ end_at (world nodes.now wires.now) wire side }
-    ensures within { IfOk result (λ end. (end.node < length nodes.now) × (wire < length wires.now)) }
+    ensures within { IfOk result (λ end. (end.node < length nodes.now)
+        × (wire < length wires.now)) }
 {
     if wire >= wires.len() {
         return Err(WorldFault::NoWire);

@@ -12,7 +12,8 @@ use node_core::{CoreFault, NodeCore, Query};
 use policy_audit::{Event, Page, Reply};
 use std::marker::Model;
 
-/// A node of a world. Its value is its history alone: a world stays what it is when a node hands out old entries.
+/// A node of a world. Its value is its history alone: a world stays what it is when a node hands
+/// out old entries.
 pub struct Node {
     core: NodeCore,
 }

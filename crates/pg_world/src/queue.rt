@@ -1,4 +1,5 @@
-//! What a node's answer makes of the frames under way to it, or from it. What grows has grown before the node's step.
+//! What a node's answer makes of the frames under way to it, or from it. What grows has grown
+//! before the node's step.
 ghost use Rattle.std.specs.Prelude.{◌≡◌, ◌+◌, ◌<◌, ◌≤◌, ◌++◌, IsTrue, IfOk, OnOk, OnErr, length, vec_len, vec_capacity};
 ghost use Rattle.policy_audit.specs.Owed.{waiting, is_kept};
 ghost use Rattle.policy_audit.specs.Policy.{is_full};
@@ -24,7 +25,8 @@ pub(crate) fn hand_over(
     link: u32,
     queue: &mut Vec<OutFrame>,
 ) -> Result<WorldReply, WorldFault>
-    ensures { Answers core.old seat (Event.Take link) core.new (λ a. (queue.new.items ≡ joined_by a queue.old.items) × (result ≡ count_handed a)) }
+    ensures { Answers core.old seat (Event.Take link) core.new (λ a.
+        (queue.new.items ≡ joined_by a queue.old.items) × (result ≡ count_handed a)) }
 {
     if core.is_full() {
         return Err(ENTRIES_FULL);
@@ -40,7 +42,8 @@ pub(crate) fn hand_over(
 
 /// Makes room in a queue for the frames that wait for a link.
 fn make_room(core: &Node, link: u32, queue: &mut Vec<OutFrame>) -> Result<(), OutOfMemory>
-    ensures room { OnOk result (IsTrue (is_kept core.now link) → vec_len queue.new + length (waiting core.now link) ≤ vec_capacity queue.new) }
+    ensures room { OnOk result (IsTrue (is_kept core.now link)
+        → vec_len queue.new + length (waiting core.now link) ≤ vec_capacity queue.new) }
     ensures same { queue.new.items ≡ queue.old.items }
 {
     let Some(waiting) = core.waiting(link) else {
@@ -74,7 +77,8 @@ pub(crate) fn deliver_oldest(
     queue: &mut Vec<OutFrame>,
 ) -> Result<WorldReply, WorldFault>
     requires { 0 < vec_len queue.old }
-    ensures { Answers core.old seat (Event.Frame link (oldest queue.old.items)) core.new (λ a. (queue.new.items ≡ left_by a queue.old.items) × (result ≡ plain a)) }
+    ensures { Answers core.old seat (Event.Frame link (oldest queue.old.items)) core.new (λ a.
+        (queue.new.items ≡ left_by a queue.old.items) × (result ≡ plain a)) }
 {
     if core.is_full() {
         return Err(ENTRIES_FULL);
@@ -105,7 +109,8 @@ pub(crate) fn cut_off(
     link: u32,
     queue: &mut Vec<OutFrame>,
 ) -> Result<WorldReply, WorldFault>
-    ensures { Answers core.old seat (Event.Lost link) core.new (λ a. (queue.new.items ≡ cut_by a queue.old.items) × (result ≡ plain a)) }
+    ensures { Answers core.old seat (Event.Lost link) core.new (λ a.
+        (queue.new.items ≡ cut_by a queue.old.items) × (result ≡ plain a)) }
 {
     let answer = core.step(seat, Event::Lost(link));
     if is_gone(&answer) {

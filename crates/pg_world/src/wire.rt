@@ -94,7 +94,8 @@ impl Wire {
         seat: u32,
         challenge: u32,
     ) -> Result<WorldReply, WorldFault>
-        ensures { Answers core.old seat (Event.Opened challenge) core.new (λ a. (self.new ≡ with_link (link_opened a) self.old) × (result ≡ plain a)) }
+        ensures { Answers core.old seat (Event.Opened challenge) core.new (λ a.
+            (self.new ≡ with_link (link_opened a) self.old) × (result ≡ plain a)) }
     {
         let answer = core.step(seat, Event::Opened(challenge));
         if let Some(link) = link_opened(&answer) {
@@ -111,7 +112,9 @@ impl Wire {
         seat: u32,
         link: u32,
     ) -> Result<WorldReply, WorldFault>
-        ensures { Answers core.old seat (Event.Take link) core.new (λ a. (self.new ≡ changed_queue (other side) (joined_by a) self.old) × (result ≡ count_handed a)) }
+        ensures { Answers core.old seat (Event.Take link) core.new (λ a.
+            (self.new ≡ changed_queue (other side) (joined_by a) self.old)
+            × (result ≡ count_handed a)) }
     {
         match side {
             Side::Dialler => hand_over(core, seat, link, &mut self.to_acceptor),
@@ -129,7 +132,9 @@ impl Wire {
         link: u32,
     ) -> Result<WorldReply, WorldFault>
         requires { under_way side self.old ≢ [] }
-        ensures { Answers core.old seat (Event.Frame link (oldest (under_way side self.old))) core.new (λ a. (self.new ≡ changed_queue side (left_by a) self.old) × (result ≡ plain a)) }
+        ensures { Answers core.old seat (Event.Frame link (oldest (under_way side self.old)))
+            core.new (λ a. (self.new ≡ changed_queue side (left_by a) self.old)
+            × (result ≡ plain a)) }
     {
         match side {
             Side::Dialler => deliver_oldest(alloc, core, seat, link, &mut self.to_dialler),
@@ -145,7 +150,8 @@ impl Wire {
         seat: u32,
         link: u32,
     ) -> Result<WorldReply, WorldFault>
-        ensures { Answers core.old seat (Event.Lost link) core.new (λ a. (self.new ≡ changed_queue side (cut_by a) self.old) × (result ≡ plain a)) }
+        ensures { Answers core.old seat (Event.Lost link) core.new (λ a.
+            (self.new ≡ changed_queue side (cut_by a) self.old) × (result ≡ plain a)) }
     {
         match side {
             Side::Dialler => cut_off(core, seat, link, &mut self.to_dialler),

@@ -78,8 +78,9 @@ impl World {
         })
     }
 
-    /// The node at a place, counted from 0 in the order in which nodes were handed in. What it lists of another is that one's own rows of
-    /// one moment, and where nothing is left to do, of now.
+    /// The node at a place, counted from 0 in the order in which nodes were handed in. What it
+    /// lists of another is that one's own rows of one moment, and where nothing is left to do, of
+    /// now.
     pub fn node(&self, place: usize) -> Option<&Node>
         ensures found { option_copied result ≡ slice_get self.now.nodes place }
         ensures sound { IsWorld self.now }
@@ -89,7 +90,8 @@ impl World {
         self.nodes.get(place)
     }
 
-    /// Hands out the oldest page of entries of the node at a place, if that can do without it. The world stays what it is.
+    /// Hands out the oldest page of entries of the node at a place, if that can do without it. The
+    /// world stays what it is.
     pub fn forget(&mut self, place: usize) -> Option<Page>
         ensures same { self.new ≡ self.old }
         ensures page { IfSome result (λ page. IsPageOf place self.old page) }

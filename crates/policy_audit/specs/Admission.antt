@@ -1,4 +1,5 @@
--- The cookie in force (Erlang manual, `erlang:set_cookie`) and who may connect (Kernel manual, `net_kernel:allow/1`).
+-- The cookie in force (Erlang manual, `erlang:set_cookie`) and who may connect (Kernel manual,
+-- `net_kernel:allow/1`).
 use Rattle.std.specs.Prelude.{ℕ, Bool, cond, ◌||◌, List, [], ◌∷◌, Option, Some, None, length}
 use Rattle.std.specs.List.{flat_map}
 use Rattle.std.specs.Option.{unwrap_or}
@@ -22,11 +23,13 @@ cookie_set_for name e = None
 
 -- the own cookie: that of the last SetCookie or SetCookieFor the own name, else the opening's
 abbrev pub own_cookie : History → List ℕ
-own_cookie h = unwrap_or (first_of (own_cookie_set h.opening.name) (events h.entries)) h.opening.cookie
+own_cookie h = unwrap_or (first_of (own_cookie_set h.opening.name) (events h.entries))
+    h.opening.cookie
 
 -- the cookie for a name: that of the last SetCookieFor it, else the own cookie
 abbrev pub cookie : History → List ℕ → List ℕ
-cookie h name = cond (same name h.opening.name) (own_cookie h) (unwrap_or (first_of (cookie_set_for name) (events h.entries)) (own_cookie h))
+cookie h name = cond (same name h.opening.name) (own_cookie h)
+    (unwrap_or (first_of (cookie_set_for name) (events h.entries)) (own_cookie h))
 
 -- the peers that an event gives a cookie of their own; the own name is none
 abbrev pub cookie_peer : List ℕ → Event → List (List ℕ)

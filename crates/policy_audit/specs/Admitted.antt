@@ -1,4 +1,5 @@
--- Admitted: what the handshake of a link was (Distribution Protocol, Distribution Handshake). No recorded answer is read.
+-- Admitted: what the handshake of a link was (Distribution Protocol, Distribution Handshake). No
+-- recorded answer is read.
 use Rattle.std.specs.Prelude.{◌≡◌, ℕ, Bool, true, false, List, [], ◌∷◌, ◌++◌, Some, IsTrue, MatchBool}
 use Rattle.handshake_frames.specs.Frame.{Name, Challenge}
 use Rattle.handshake_frames.specs.declared.frame.StatusWord.{StatusWord}
@@ -48,10 +49,10 @@ pub record IsLetIn (h : History) (l challenge : ℕ) : Type 0 where
   pub is_digest : replied.digest ≡ digest_of (cookie (at h reply.before) peer.name) challenge
   pub is_allowed : IsTrue (allowed (at h name.before) peer.name)
 
--- Link l was dialled to this peer, with this challenge. Its accepted frames begin with a Status `ok`,
--- `ok_simultaneous` or `alive`; then a Challenge with the name dialled; then an Ack.
--- The Ack's digest is that of the cookie for the peer, at the Ack, and the challenge.
--- The peer was allowed at the Dial.
+-- Link l was dialled to this peer, with this challenge. Its accepted frames begin with a Status
+-- `ok`, `ok_simultaneous` or `alive`; then a Challenge with the name dialled; then an Ack. The
+-- Ack's digest is that of the cookie for the peer, at the Ack, and the challenge. The peer was
+-- allowed at the Dial.
 pub record IsReached (h : History) (l : ℕ) (peer : List ℕ) (challenge : ℕ) : Type 0 where
   pub status : Taken
   pub asked : Taken

@@ -16,7 +16,8 @@ use Rattle.policy_audit.specs.Contents.{groups_named, pids_named}
 abbrev pub groups_in : List ℕ → List Change → List GroupChange
 groups_in s changes = flat_map (λ c. cond (same c.scope s) c.groups []) changes
 
--- the scopes ascend, each with changed groups, and these are the whole difference of what the two histories list
+-- the scopes ascend, each with changed groups, and these are the whole difference of what the two
+-- histories list
 pub record IsChange (h k : History) (changes : List Change) : Type 0 where
   pub scopes : Rises text_cmp (map (λ c. c.scope) changes)
   pub some : AllByRecursion (λ c. is_empty c.groups ≡ false) changes
@@ -32,11 +33,13 @@ events_of h k = events h.entries ++ events k.entries
 abbrev pub group_change : History → History → List ℕ → List ℕ → List GroupChange
 group_change h k s g =
     let named = pids_named s g (events_of h k) in
-    change_unless_empty g (listing pid_cmp (λ p. listed h s g p - listed k s g p) named) (listing pid_cmp (λ p. listed k s g p - listed h s g p) named)
+    change_unless_empty g (listing pid_cmp (λ p. listed h s g p - listed k s g p) named)
+    (listing pid_cmp (λ p. listed k s g p - listed h s g p) named)
 
 -- the groups of s that changed between h and k, ascending
 abbrev pub scope_change : History → History → List ℕ → List GroupChange
-scope_change h k s = flat_map (group_change h k s) (ascending text_cmp (groups_named s (events_of h k)))
+scope_change h k s = flat_map (group_change h k s)
+    (ascending text_cmp (groups_named s (events_of h k)))
 
 -- the change of a scope, where a group changed
 abbrev pub if_some : List ℕ → List GroupChange → List Change
@@ -45,4 +48,5 @@ if_some s (g ∷ gs) = record { scope = s; groups = g ∷ gs } ∷ []
 
 -- the difference of what the two histories list
 abbrev pub change : History → History → List Change
-change h k = flat_map (λ s. if_some s (scope_change h k s)) (ascending text_cmp (flat_map scopes_started (events_of h k)))
+change h k = flat_map (λ s. if_some s (scope_change h k s))
+    (ascending text_cmp (flat_map scopes_started (events_of h k)))

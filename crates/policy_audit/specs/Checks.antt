@@ -65,7 +65,8 @@ kept_links h = how_many (is_kept h) (links h.entries)
 
 -- how many rows of the peer of link l are listed in s
 abbrev pub peer_rows : History → ℕ → List ℕ → ℕ
-peer_rows h l s = length (filter (λ p. is_peer p.node l h.entries) (flat_map (members h s) (groups h s)))
+peer_rows h l s = length (filter (λ p. is_peer p.node l h.entries)
+    (flat_map (members h s) (groups h s)))
 
 -- fewer than 64 links are kept
 abbrev pub has_link_room : History → Check
@@ -73,9 +74,11 @@ has_link_room h = unless (nat_lt (kept_links h) 64) rule.LinksFull
 
 -- ---- frames of the handshake
 
--- no link of n is up, an own dial to it is unfinished, and the own name is the greater: then the own dial goes on
+-- no link of n is up, an own dial to it is unfinished, and the own name is the greater: then the
+-- own dial goes on
 abbrev pub is_simultaneous : History → List ℕ → Bool
-is_simultaneous h n = not (is_name_up n h.entries) && is_dialling n h.entries && is_gt (text_cmp h.opening.name n)
+is_simultaneous h n = not (is_name_up n h.entries) && is_dialling n h.entries
+    && is_gt (text_cmp h.opening.name n)
 
 -- a Name that came on a link
 abbrev pub name_checks : History → Name → List Check
@@ -109,7 +112,8 @@ challenge_checks h l f =
 
 -- the digest is that of the cookie for the peer and the own challenge
 abbrev pub digest_checks : History → ℕ → List ℕ → List Check
-digest_checks h l digest = unless (bytes_eq digest (digest_for h l (own_challenge l h.entries))) rule.BadDigest ∷ []
+digest_checks h l digest = unless (bytes_eq digest (digest_for h l (own_challenge l h.entries)))
+    rule.BadDigest ∷ []
 
 -- ---- messages
 
@@ -137,7 +141,9 @@ hears_in h l s = unless (heard h.opening l s h.entries) rule.NotHeard
 
 -- no row is named more often than it is listed
 abbrev pub are_listed : History → List ℕ → List Row → Check
-are_listed h s rows = unless (list_all (λ r. nat_le (rows_of r.group r.pid rows) (listed h s r.group r.pid)) rows) rule.NotListed
+are_listed h s rows =
+    unless (list_all (λ r. nat_le (rows_of r.group r.pid rows) (listed h s r.group r.pid)) rows)
+    rule.NotListed
 
 -- the link is visible
 abbrev pub is_shown : History → ℕ → Check
@@ -215,12 +221,18 @@ is_peer_up h l = option_map_or (λ n. is_name_up n h.entries) (peer_of l h.entri
 
 -- a frame is what its link awaits, and meets these rules
 abbrev pub frame_checks : History → ℕ → List ℕ → Awaited → List Check
-frame_checks h l body AwaitName = option_map_or (name_checks h) (name_frame body) (always rule.BadFrame)
-frame_checks h l body AwaitAnswer = option_map_or answer_checks (status_of body) (always rule.BadFrame)
-frame_checks h l body AwaitReply = option_map_or (λ f. digest_checks h l f.digest) (reply_frame body) (always rule.BadFrame)
-frame_checks h l body AwaitStatus = option_map_or (status_checks (is_peer_up h l)) (status_of body) (always rule.BadFrame)
-frame_checks h l body AwaitChallenge = option_map_or (challenge_checks h l) (challenge_frame body) (always rule.BadFrame)
-frame_checks h l body AwaitAck = option_map_or (λ f. digest_checks h l f.digest) (ack_frame body) (always rule.BadFrame)
+frame_checks h l body AwaitName = option_map_or (name_checks h) (name_frame body)
+    (always rule.BadFrame)
+frame_checks h l body AwaitAnswer = option_map_or answer_checks (status_of body)
+    (always rule.BadFrame)
+frame_checks h l body AwaitReply = option_map_or (λ f. digest_checks h l f.digest)
+    (reply_frame body) (always rule.BadFrame)
+frame_checks h l body AwaitStatus = option_map_or (status_checks (is_peer_up h l)) (status_of body)
+    (always rule.BadFrame)
+frame_checks h l body AwaitChallenge = option_map_or (challenge_checks h l) (challenge_frame body)
+    (always rule.BadFrame)
+frame_checks h l body AwaitAck = option_map_or (λ f. digest_checks h l f.digest) (ack_frame body)
+    (always rule.BadFrame)
 frame_checks h l body AwaitMessage =
     option_map_or (message_checks h l) (frame_taken h.opening l h.entries body)
     (always rule.BadFrame)
@@ -256,12 +268,17 @@ leave_checks h s g ps =
 abbrev pub checks : History → ℕ → Event → List Check
 checks h seat event.Restart = unless (not (creation h == 4294967295)) rule.CreationSpent ∷ []
 checks h seat (event.SetCookie c) = []
-checks h seat (event.SetCookieFor n c) = unless (same n h.opening.name || nat_le (different (n ∷ cookie_peers h)) 1024) rule.CookiesFull ∷ []
-checks h seat (event.Allow ns) = unless (nat_le (different (ns ++ allow_list h)) 1024) rule.AllowFull ∷ []
-checks h seat (event.StartScope s) = unless (not (is_running h s)) rule.ScopeRunning ∷ unless (nat_lt (length (running_scopes h)) 64) rule.ScopesFull ∷ []
+checks h seat (event.SetCookieFor n c) =
+    unless (same n h.opening.name || nat_le (different (n ∷ cookie_peers h)) 1024) rule.CookiesFull
+    ∷ []
+checks h seat (event.Allow ns) = unless (nat_le (different (ns ++ allow_list h)) 1024)
+    rule.AllowFull ∷ []
+checks h seat (event.StartScope s) = unless (not (is_running h s)) rule.ScopeRunning
+    ∷ unless (nat_lt (length (running_scopes h)) 64) rule.ScopesFull ∷ []
 checks h seat (event.StopScope s) = runs h s ∷ []
 checks h seat event.Spawn = unless (nat_lt (living h) 65536) rule.PidsFull ∷ []
-checks h seat (event.Exit p) = unless (is_local h p) rule.NotLocal ∷ unless (lives h p) rule.NoProcess ∷ []
+checks h seat (event.Exit p) = unless (is_local h p) rule.NotLocal
+    ∷ unless (lives h p) rule.NoProcess ∷ []
 checks h seat (event.Join s g ps) = join_checks h s g ps
 checks h seat (event.Leave s g ps) = leave_checks h s g ps
 checks h seat (event.Members s g) = runs h s ∷ []
@@ -278,4 +295,5 @@ checks h seat (event.Opened c) = has_link_room h ∷ []
 checks h seat (event.Lost l) = unless (is_kept h l) rule.NoSuchLink ∷ []
 checks h seat (event.Take l) = unless (is_kept h l) rule.NoSuchLink ∷ []
 checks h seat (event.Disconnect n) = unless (is_name_up n h.entries) rule.NoLinkTo ∷ []
-checks h seat (event.Frame l body) = cond (is_open l h.entries) (frame_checks h l body (awaits l h.entries)) (always rule.NoSuchLink)
+checks h seat (event.Frame l body) =
+    cond (is_open l h.entries) (frame_checks h l body (awaits l h.entries)) (always rule.NoSuchLink)

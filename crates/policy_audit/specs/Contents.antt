@@ -50,11 +50,13 @@ local_members h s g = listing pid_cmp (own h s g) (pids_named s g (events h.entr
 
 -- the groups with members, ascending
 abbrev pub groups : History → List ℕ → List (List ℕ)
-groups h s = filter (λ g. not (is_empty (members h s g))) (ascending text_cmp (groups_named s (events h.entries)))
+groups h s = filter (λ g. not (is_empty (members h s g)))
+    (ascending text_cmp (groups_named s (events h.entries)))
 
 -- the groups with own members, ascending
 abbrev pub local_groups : History → List ℕ → List (List ℕ)
-local_groups h s = filter (λ g. not (is_empty (local_members h s g))) (ascending text_cmp (groups_named s (events h.entries)))
+local_groups h s = filter (λ g. not (is_empty (local_members h s g)))
+    (ascending text_cmp (groups_named s (events h.entries)))
 
 -- all own rows of s, ascending
 abbrev pub local_rows : History → List ℕ → List Row

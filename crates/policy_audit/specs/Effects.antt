@@ -43,7 +43,8 @@ leaves_rows e = not (is_accepted e.verdict) || is_quiet e.event
 
 -- the present link of n ended, or gave way to another
 abbrev pub is_replaced : List ℕ → List Entry → List Entry → Bool
-is_replaced n old new = option_map_or (λ l. not (option_map_or (λ k. k == l) (present_link n new) false)) (present_link n old) false
+is_replaced n old new = option_map_or (λ l.
+    not (option_map_or (λ k. k == l) (present_link n new) false)) (present_link n old) false
 
 -- the message in the body of a frame may change rows of s
 abbrev pub is_about_rows : List ℕ → Option Message → Bool
@@ -54,8 +55,9 @@ is_about_rows s (Some (said.Join t rows)) = same t s
 is_about_rows s (Some (said.Leave t rows)) = same t s
 is_about_rows s (Some (said.Down t)) = same t s
 
--- an accepted event may change how often p is listed in g of s: a Join and a Leave for those named, an Exit for that process, a
--- stop for the scope, a restart for all, and a message for the processes of the link's peer, in its scope
+-- an accepted event may change how often p is listed in g of s: a Join and a Leave for those named,
+-- an Exit for that process, a stop for the scope, a restart for all, and a message for the
+-- processes of the link's peer, in its scope
 abbrev pub concerns : Opening → List Entry → List ℕ → List ℕ → Pid → Event → Bool
 concerns o es s g p event.Restart = true
 concerns o es s g p (event.StopScope t) = same t s
@@ -66,7 +68,8 @@ concerns o es s g p (event.Frame k body) =
     is_whole k es && is_peer p.node k es && is_about_rows s (said_at o k es body)
 concerns o es s g p e = false
 
--- an entry may change how often p is listed in g of s: its event concerns that, or the present link of p's node is replaced
+-- an entry may change how often p is listed in g of s: its event concerns that, or the present link
+-- of p's node is replaced
 abbrev pub may_change : Opening → List Entry → Entry → List ℕ → List ℕ → Pid → Bool
 may_change o es e s g p =
     (is_accepted e.verdict && concerns o es s g p e.event) || is_replaced p.node es (e ∷ es)

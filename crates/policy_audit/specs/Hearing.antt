@@ -1,4 +1,5 @@
--- What the peers of links have said about scopes: who is heard, who is told, and which rows are stated.
+-- What the peers of links have said about scopes: who is heard, who is told, and which rows are
+-- stated.
 use Rattle.std.specs.Prelude.{ℕ, ◌+◌, ◌-◌, Bool, true, false, cond, ◌&&◌, ◌==◌, List, [], ◌∷◌, Option, Some, None}
 use Rattle.std.specs.List.{flat_map}
 use Rattle.std.specs.Option.{unwrap_or, option_map, option_map_or, option_and_then}
@@ -31,8 +32,8 @@ link_version o l es = cond (o.links == 2 && peer_version l es == 2) 2 1
 
 -- ---- what is said on it
 
--- The messages that a link which is up takes: all. (This one word says which frames are taken there.)
--- A message of version 1 is one part.
+-- The messages that a link which is up takes: all. (This one word says which frames are taken
+-- there.) A message of version 1 is one part.
 abbrev pub message_taken : ℕ → List ℕ → Option Message2
 message_taken version body = cond (version == 2) (message2 body) (option_map whole (message body))
 
@@ -115,7 +116,8 @@ tells s (Said (said.Down t)) = cond (same t s) (Some false) None
 tells s (Stopped t) = cond (same t s) (Some false) None
 tells s t = None
 
--- the peer is heard in s: link l is up, and a Sync of s came with no later Down and no later stop of s
+-- the peer is heard in s: link l is up, and a Sync of s came with no later Down and no later stop
+-- of s
 abbrev pub heard : Opening → ℕ → List ℕ → List Entry → Bool
 heard o l s es = is_up l es && unwrap_or (first_of (hears s) (talk o l es)) false
 
@@ -130,9 +132,12 @@ rows_of g p rows = occurrences same_row (record { group = g; pid = p }) rows
 -- how often p was stated in g: in the last Sync of s, and by the Joins and Leaves after it
 abbrev pub stated_in : List ℕ → List ℕ → Pid → List Talk → ℕ
 stated_in s g p [] = 0
-stated_in s g p (Said (said.Sync t rows) ∷ ts) = cond (same t s) (rows_of g p rows) (stated_in s g p ts)
-stated_in s g p (Said (said.Join t rows) ∷ ts) = cond (same t s) (stated_in s g p ts + rows_of g p rows) (stated_in s g p ts)
-stated_in s g p (Said (said.Leave t rows) ∷ ts) = cond (same t s) (stated_in s g p ts - rows_of g p rows) (stated_in s g p ts)
+stated_in s g p (Said (said.Sync t rows) ∷ ts) =
+    cond (same t s) (rows_of g p rows) (stated_in s g p ts)
+stated_in s g p (Said (said.Join t rows) ∷ ts) =
+    cond (same t s) (stated_in s g p ts + rows_of g p rows) (stated_in s g p ts)
+stated_in s g p (Said (said.Leave t rows) ∷ ts) =
+    cond (same t s) (stated_in s g p ts - rows_of g p rows) (stated_in s g p ts)
 stated_in s g p (Said (said.Down t) ∷ ts) = cond (same t s) 0 (stated_in s g p ts)
 stated_in s g p (Stopped t ∷ ts) = cond (same t s) 0 (stated_in s g p ts)
 stated_in s g p (t ∷ ts) = stated_in s g p ts

@@ -76,7 +76,13 @@ pub record Moment : Type 0 where
 -- what was accepted since the last accepted Restart, the newest first
 abbrev pub present : List Entry → List Moment
 present [] = []
-present (e ∷ es) = cond (is_accepted e.verdict) (cond (is_restart e.event) [] (record { number = e.number; seat = e.seat; event = e.event; before = es } ∷ present es)) (present es)
+present (e ∷ es) = cond (is_accepted e.verdict)
+    (cond (is_restart e.event) [] (record {
+      number = e.number;
+      seat = e.seat;
+      event = e.event;
+      before = es;
+    } ∷ present es)) (present es)
 
 -- the events of these moments
 abbrev pub events : List Entry → List Event
@@ -84,7 +90,8 @@ events es = map (λ m. m.event) (present es)
 
 -- the opening creation, and one more for each accepted Restart
 abbrev pub creation : History → ℕ
-creation h = h.opening.creation + how_many (λ e. is_accepted e.verdict && is_restart e.event) h.entries
+creation h = h.opening.creation + how_many (λ e. is_accepted e.verdict && is_restart e.event)
+    h.entries
 
 -- the first value that f gives: looking back, the last thing that was said
 abbrev pub first_of : {A B : Type 0} → (A → Option B) → List A → Option B

@@ -24,7 +24,8 @@ is_dial_to n (ByDial m c) = same m n
 
 -- link l is an own dial to n that is unfinished, or was so to its end
 abbrev pub is_unfinished_dial : List ℕ → ℕ → List Entry → Bool
-is_unfinished_dial n l es = option_map_or (λ o. is_dial_to n o.start) (opened l es) false && not (is_whole l es)
+is_unfinished_dial n l es = option_map_or (λ o. is_dial_to n o.start) (opened l es) false
+    && not (is_whole l es)
 
 -- the links k and l have one peer
 abbrev pub share_peer : ℕ → ℕ → List Entry → Bool
@@ -35,13 +36,17 @@ abbrev pub named_by : Awaited → List ℕ → Option Name
 named_by AwaitName body = name_frame body
 named_by awaited body = None
 
--- a frame accepted on link k gives up the own dial l: it names the node dialled, of which no link is up
+-- a frame accepted on link k gives up the own dial l: it names the node dialled, of which no link
+-- is up
 abbrev pub gives_up : ℕ → List ℕ → ℕ → List Entry → Bool
-gives_up k body l es = option_map_or (λ f. not (is_name_up f.name es) && is_unfinished_dial f.name l es) (named_by (awaits k es) body) false
+gives_up k body l es = option_map_or (λ f. not (is_name_up f.name es)
+    && is_unfinished_dial f.name l es) (named_by (awaits k es) body) false
 
--- a frame accepted on another link k ends link l: the last of a side of the same peer, while l is up, or one that gives up l
+-- a frame accepted on another link k ends link l: the last of a side of the same peer, while l is
+-- up, or one that gives up l
 abbrev pub frame_ends : ℕ → List ℕ → ℕ → List Entry → Bool
-frame_ends k body l es = cond (is_last (awaits k es)) (is_whole l es && share_peer k l es) (gives_up k body l es)
+frame_ends k body l es = cond (is_last (awaits k es)) (is_whole l es && share_peer k l es)
+    (gives_up k body l es)
 
 -- what ends link l, where it is open
 abbrev pub ends : ℕ → List Entry → Verdict → Event → Bool

@@ -10,14 +10,16 @@ use Rattle.policy_audit.specs.Hearing.{stated}
 
 -- p is of the peer of link l, and of the creation that the peer gave there
 abbrev pub is_from : ℕ → List Entry → Pid → Bool
-is_from l es p = is_peer p.node l es && option_map_or (λ f. f.creation == p.creation) (given l es) false
+is_from l es p = is_peer p.node l es && option_map_or (λ f. f.creation == p.creation) (given l es)
+    false
 
 -- how often link l lists p: as often as it has stated it, where l is visible and p is from it
 abbrev pub listed_by : History → List ℕ → List ℕ → Pid → ℕ → ℕ
 listed_by h s g p l =
     cond (is_visible h l && is_from l h.entries p) (stated h.opening l s g p h.entries) 0
 
--- how often p is listed in g of s. An own process: as often as it is joined. Another, where s runs: as often as the
--- present link of its node lists it.
+-- how often p is listed in g of s. An own process: as often as it is joined. Another, where s runs:
+-- as often as the present link of its node lists it.
 abbrev pub listed : History → List ℕ → List ℕ → Pid → ℕ
-listed h s g p = cond (is_local h p) (own h s g p) (cond (is_running h s) (option_map_or (listed_by h s g p) (present_link p.node h.entries) 0) 0)
+listed h s g p = cond (is_local h p) (own h s g p)
+    (cond (is_running h s) (option_map_or (listed_by h s g p) (present_link p.node h.entries) 0) 0)

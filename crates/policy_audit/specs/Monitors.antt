@@ -38,14 +38,16 @@ abbrev pub monitor_in : ℕ → ℕ → List Moment → Option Target
 monitor_in seat k [] = None
 monitor_in seat k (m ∷ ms) = monitor_after seat k m (monitor_in seat k ms)
 
--- the seat's monitor k: entry k is an accepted Monitor or MonitorScope of that seat, with no later Demonitor k of that seat and
--- no later stop of the scope
+-- the seat's monitor k: entry k is an accepted Monitor or MonitorScope of that seat, with no later
+-- Demonitor k of that seat and no later stop of the scope
 abbrev pub monitor : History → ℕ → ℕ → Option Target
 monitor h seat k = monitor_in seat k (present h.entries)
 
 -- the updates of one group: what left, and then what joined
 abbrev pub group_updates : GroupChange → List Update
-group_updates c = cond (is_empty c.left) [] (record { group = c.group; leave = true; pids = c.left } ∷ []) ++ cond (is_empty c.joined) [] (record { group = c.group; leave = false; pids = c.joined } ∷ [])
+group_updates c = cond (is_empty c.left) [] (record { group = c.group; leave = true; pids = c.left }
+    ∷ []) ++ cond (is_empty c.joined) [] (record { group = c.group; leave = false; pids = c.joined }
+    ∷ [])
 
 -- a monitor of this group, or of all groups, watches the change
 abbrev pub is_watched : Option (List ℕ) → GroupChange → Bool
@@ -54,16 +56,19 @@ is_watched (Some g) c = same c.group g
 
 -- the updates of one entry's change
 abbrev pub updates_of : Target → List Change → List Update
-updates_of t changes = flat_map (λ c. cond (is_watched t.group c) (group_updates c) []) (groups_in t.scope changes)
+updates_of t changes = flat_map (λ c. cond (is_watched t.group c) (group_updates c) [])
+    (groups_in t.scope changes)
 
 -- the entry is monitor k of the seat, or an Updates of it
 abbrev pub is_fetch : ℕ → ℕ → Entry → Bool
-is_fetch seat k e = is_accepted e.verdict && (e.number == k || elim e.event [ event.Updates n ↦ n == k && e.seat == seat | _ ↦ false ])
+is_fetch seat k e = is_accepted e.verdict
+    && (e.number == k || elim e.event [ event.Updates n ↦ n == k && e.seat == seat | _ ↦ false ])
 
 -- the updates of these entries since the last fetch, the oldest first
 abbrev pub updates_since : ℕ → ℕ → Target → List Entry → List Update
 updates_since seat k t [] = []
-updates_since seat k t (e ∷ es) = cond (is_fetch seat k e) [] (updates_since seat k t es ++ updates_of t e.change)
+updates_since seat k t (e ∷ es) = cond (is_fetch seat k e) [] (updates_since seat k t es
+    ++ updates_of t e.change)
 
 -- the updates of all entries since the monitor's own, or since its last Updates
 abbrev pub updates : History → ℕ → ℕ → List Update

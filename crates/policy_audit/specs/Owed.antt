@@ -70,17 +70,32 @@ digest_for h l challenge = digest_of (option_map_or (cookie h) (peer_of l h.entr
 
 -- the Name frame of this node
 abbrev pub own_name_frame : History → OutFrame
-own_name_frame h = narrow (name_bytes (record { flags = own_flags h.opening.hidden; creation = creation h; name = h.opening.name; version = h.opening.links }))
+own_name_frame h =
+    narrow (name_bytes (record {
+      flags = own_flags h.opening.hidden;
+      creation = creation h;
+      name = h.opening.name;
+      version = h.opening.links;
+    }))
 
 -- the Challenge frame of this node on link l
 abbrev pub own_challenge_frame : History → ℕ → OutFrame
-own_challenge_frame h l = narrow (challenge_bytes (record { flags = own_flags h.opening.hidden; challenge = own_challenge l h.entries; creation = creation h; name = h.opening.name; version = h.opening.links }))
+own_challenge_frame h l =
+    narrow (challenge_bytes (record {
+      flags = own_flags h.opening.hidden;
+      challenge = own_challenge l h.entries;
+      creation = creation h;
+      name = h.opening.name;
+      version = h.opening.links;
+    }))
 
--- a Name of this peer is owed `alive` where a link of it is up, `ok_simultaneous` where an own dial to it is unfinished, else `ok`
+-- a Name of this peer is owed `alive` where a link of it is up, `ok_simultaneous` where an own dial
+-- to it is unfinished, else `ok`
 abbrev pub welcome : History → ℕ → List ℕ → List OutFrame
 welcome h l n =
     cond (is_name_up n h.entries) (status_frame word.Alive ∷ [])
-    (cond (is_dialling n h.entries) (status_frame word.OkSimultaneous ∷ own_challenge_frame h l ∷ []) (status_frame word.Ok ∷ own_challenge_frame h l ∷ []))
+    (cond (is_dialling n h.entries) (status_frame word.OkSimultaneous ∷ own_challenge_frame h l
+    ∷ []) (status_frame word.Ok ∷ own_challenge_frame h l ∷ []))
 
 -- a visible link that becomes up is owed a Discover for each running scope
 abbrev pub discovers : History → ℕ → List OutFrame
@@ -91,7 +106,8 @@ abbrev pub true_to : StatusWord → List OutFrame
 true_to word.Alive = status_frame word.True ∷ []
 true_to w = []
 
--- a Discover is owed a Sync with all own rows, and then a Discover where the peer isn't heard; other messages are owed nothing
+-- a Discover is owed a Sync with all own rows, and then a Discover where the peer isn't heard;
+-- other messages are owed nothing
 abbrev pub message_owes : History → ℕ → Message2 → List OutFrame
 message_owes h l (frames.Discover s) =
     frames_to h l (said.Sync s (local_rows h s))
@@ -102,9 +118,16 @@ message_owes h l m = []
 abbrev pub frame_owes : History → ℕ → List ℕ → Awaited → List OutFrame
 frame_owes h l body AwaitName = option_map_or (λ f. welcome h l f.name) (name_frame body) []
 frame_owes h l body AwaitAnswer = own_challenge_frame h l ∷ []
-frame_owes h l body AwaitReply = option_map_or (λ f. narrow (ack_bytes (record { digest = digest_for h l f.challenge })) ∷ discovers h l) (reply_frame body) []
+frame_owes h l body AwaitReply =
+    option_map_or (λ f. narrow (ack_bytes (record { digest = digest_for h l f.challenge }))
+    ∷ discovers h l) (reply_frame body) []
 frame_owes h l body AwaitStatus = option_map_or true_to (status_of body) []
-frame_owes h l body AwaitChallenge = option_map_or (λ f. narrow (reply_bytes (record { challenge = own_challenge l h.entries; digest = digest_for h l f.challenge })) ∷ []) (challenge_frame body) []
+frame_owes h l body AwaitChallenge =
+    option_map_or (λ f.
+    narrow (reply_bytes (record {
+      challenge = own_challenge l h.entries;
+      digest = digest_for h l f.challenge;
+    })) ∷ []) (challenge_frame body) []
 frame_owes h l body AwaitAck = discovers h l
 frame_owes h l body AwaitMessage =
     option_map_or (message_owes h l) (frame_taken h.opening l h.entries body) []
@@ -129,11 +152,17 @@ if_visible h l m = cond (is_up l h.entries && is_visible h l) (wide m ∷ []) []
 abbrev pub owed : History → ℕ → ℕ → Event → Verdict → List OutFrame
 owed h l number (event.StartScope s) (Accepted r) = if_visible h l (said.Discover s)
 owed h l number (event.StopScope s) (Accepted r) = if_visible h l (said.Down s)
-owed h l number (event.Exit p) (Accepted r) = flat_map (λ s. if_told h l s (said.Leave s) (filter (λ w. same_pid w.pid p) (local_rows h s))) (running_scopes h)
-owed h l number (event.Join s g ps) (Accepted r) = if_told h l s (said.Join s) (map (row g) (listing pid_cmp (λ p. mentions p ps) ps))
-owed h l number (event.Leave s g ps) (Accepted r) = if_told h l s (said.Leave s) (map (row g) (listing pid_cmp (λ p. min (mentions p ps) (own h s g p)) ps))
+owed h l number (event.Exit p) (Accepted r) =
+    flat_map (λ s. if_told h l s (said.Leave s) (filter (λ w. same_pid w.pid p) (local_rows h s)))
+    (running_scopes h)
+owed h l number (event.Join s g ps) (Accepted r) =
+    if_told h l s (said.Join s) (map (row g) (listing pid_cmp (λ p. mentions p ps) ps))
+owed h l number (event.Leave s g ps) (Accepted r) =
+    if_told h l s (said.Leave s)
+    (map (row g) (listing pid_cmp (λ p. min (mentions p ps) (own h s g p)) ps))
 owed h l number (event.Dial n c) (Accepted r) = cond (number == l) (own_name_frame h ∷ []) []
-owed h l number (event.Frame k body) (Accepted r) = cond (k == l) (frame_owes h l body (awaits l h.entries)) []
+owed h l number (event.Frame k body) (Accepted r) =
+    cond (k == l) (frame_owes h l body (awaits l h.entries)) []
 owed h l number (event.Frame k body) (Refused r) = cond (k == l) (refusal_owes r) []
 owed h l number e v = []
 
@@ -144,14 +173,16 @@ clears l (event.Lost k) = k == l
 clears l event.Restart = true
 clears l e = false
 
--- an accepted event takes away all frames that wait for link l: it clears them, or ends the link while it is open
+-- an accepted event takes away all frames that wait for link l: it clears them, or ends the link
+-- while it is open
 abbrev pub drops : ℕ → List Entry → Verdict → Event → Bool
 drops l es v e = is_accepted v && (clears l e || (ends l es v e && is_open l es))
 
 -- the same, of an opening and entries
 abbrev pub waiting_in : Opening → ℕ → List Entry → List OutFrame
 waiting_in o l [] = []
-waiting_in o l (e ∷ es) = cond (drops l es e.verdict e.event) [] (waiting_in o l es ++ owed (past o es) l e.number e.event e.verdict)
+waiting_in o l (e ∷ es) = cond (drops l es e.verdict e.event) [] (waiting_in o l es
+    ++ owed (past o es) l e.number e.event e.verdict)
 
 -- the frames that wait for link l: those owed since they were last taken away
 abbrev pub waiting : History → ℕ → List OutFrame

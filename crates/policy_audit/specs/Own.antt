@@ -26,7 +26,8 @@ scopes_started e = []
 
 -- the scopes that run, ascending
 abbrev pub running_scopes : History → List (List ℕ)
-running_scopes h = filter (is_running h) (ascending text_cmp (flat_map scopes_started (events h.entries)))
+running_scopes h = filter (is_running h)
+    (ascending text_cmp (flat_map scopes_started (events h.entries)))
 
 -- a new process
 abbrev pub is_spawn : Event → Bool
@@ -57,13 +58,16 @@ is_local h p = same p.node h.opening.name && p.creation == creation h
 
 -- p lives: it was spawned, and did not exit
 abbrev pub lives : History → Pid → Bool
-lives h p = is_local h p && nat_le 1 p.number && nat_le p.number (spawned h) && not (list_any (is_exit_of p) (events h.entries))
+lives h p = is_local h p && nat_le 1 p.number && nat_le p.number (spawned h)
+    && not (list_any (is_exit_of p) (events h.entries))
 
 -- how often p is joined to g in s: read through these events, the newest first
 abbrev pub joined : List ℕ → List ℕ → Pid → List Event → ℕ
 joined s g p [] = 0
-joined s g p (event.Join t f ps ∷ es) = cond (same t s && same f g) (joined s g p es + mentions p ps) (joined s g p es)
-joined s g p (event.Leave t f ps ∷ es) = cond (same t s && same f g) (joined s g p es - mentions p ps) (joined s g p es)
+joined s g p (event.Join t f ps ∷ es) =
+    cond (same t s && same f g) (joined s g p es + mentions p ps) (joined s g p es)
+joined s g p (event.Leave t f ps ∷ es) =
+    cond (same t s && same f g) (joined s g p es - mentions p ps) (joined s g p es)
 joined s g p (event.Exit q ∷ es) = cond (same_pid q p) 0 (joined s g p es)
 joined s g p (event.StartScope t ∷ es) = cond (same t s) 0 (joined s g p es)
 joined s g p (e ∷ es) = joined s g p es

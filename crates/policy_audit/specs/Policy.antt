@@ -27,7 +27,8 @@ next_number h = entered h.entries + 1
 
 -- the peer of link l, the creation that it gave, and whether the link is visible
 abbrev pub up_answer : History → ℕ → Reply
-up_answer h l = option_map_or (λ f. reply.Up (unwrap_or (peer_of l h.entries) []) f.creation (is_visible h l)) (given l h.entries) reply.Done
+up_answer h l = option_map_or (λ f. reply.Up (unwrap_or (peer_of l h.entries) []) f.creation
+    (is_visible h l)) (given l h.entries) reply.Done
 
 -- what an accepted event is answered
 abbrev pub answer : History → ℕ → Event → Reply
@@ -39,7 +40,11 @@ answer h seat (event.Monitor s g) = reply.Ref (next_number h) (members h s g)
 answer h seat (event.MonitorScope s) = reply.ScopeRef (next_number h) (contents h s)
 answer h seat (event.Updates k) = reply.Updates (updates (audit_of h) seat k)
 answer h seat (event.Take l) = reply.Out (waiting h l)
-answer h seat event.Spawn = reply.Pid (record { node = h.opening.name; creation = creation h; number = spawned h + 1 })
+answer h seat event.Spawn = reply.Pid (record {
+  node = h.opening.name;
+  creation = creation h;
+  number = spawned h + 1;
+})
 answer h seat (event.Opened c) = reply.Link (next_number h)
 answer h seat (event.Dial n c) = reply.Link (next_number h)
 answer h seat (event.Frame l body) = cond (is_last (awaits l h.entries)) (up_answer h l) reply.Done
@@ -108,13 +113,25 @@ IsPlayed h = IsPlayedIn h.opening h.entries
 
 -- an entry of this event and verdict, with no change
 abbrev pub bare_entry : History → ℕ → Event → Verdict → Entry
-bare_entry h seat e v = record { number = next_number h; seat = seat; event = e; verdict = v; change = [] }
+bare_entry h seat e v = record {
+  number = next_number h;
+  seat = seat;
+  event = e;
+  verdict = v;
+  change = [];
+}
 
 -- the entry that the policy makes of an event
 abbrev pub entry_of : History → ℕ → Event → Entry
 entry_of h seat e =
     let v = verdict h seat e in
-    record { number = next_number h; seat = seat; event = e; verdict = v; change = change h (with_entry h (bare_entry h seat e v)) }
+    record {
+      number = next_number h;
+      seat = seat;
+      event = e;
+      verdict = v;
+      change = change h (with_entry h (bare_entry h seat e v));
+    }
 
 -- the history after an event: one entry more, unless the audit is full
 abbrev pub after : History → ℕ → Event → History

@@ -1,4 +1,5 @@
--- The frames of a handshake at one end of a link (Distribution Protocol, Distribution Handshake, version 6).
+-- The frames of a handshake at one end of a link (Distribution Protocol, Distribution Handshake,
+-- version 6).
 use Rattle.std.specs.Prelude.{ℕ, Bool, true, false, cond, nat_le, ◌==◌, ◌&&◌, not, List, [], ◌∷◌, ◌++◌, Option, Some, None, is_some, length, get_or}
 use Rattle.std.specs.Option.{option_and_then, option_map_or}
 use Rattle.dist_types.specs.Flags.{has_bit}
@@ -25,12 +26,14 @@ link_made n l r before = before
 abbrev pub link_after : List ℕ → Verdict → Event → Option ℕ → Option ℕ
 link_after n (Refused rule) e before = before
 link_after n (Accepted r) (event.Frame l body) before = link_made n l r before
-link_after n (Accepted r) (event.Lost l) before = cond (option_map_or (λ k. k == l) before false) None before
+link_after n (Accepted r) (event.Lost l) before =
+    cond (option_map_or (λ k. k == l) before false) None before
 link_after n (Accepted r) (event.Disconnect m) before = cond (same m n) None before
 link_after n (Accepted r) event.Restart before = None
 link_after n (Accepted r) e before = before
 
--- the link of n that is up: the last one that was answered Up n, with no later Lost of it, Disconnect n or Restart
+-- the link of n that is up: the last one that was answered Up n, with no later Lost of it,
+-- Disconnect n or Restart
 abbrev pub present_link : List ℕ → List Entry → Option ℕ
 present_link n [] = None
 present_link n (e ∷ es) = link_after n e.verdict e.event (present_link n es)
@@ -56,7 +59,8 @@ start_of e = None
 -- the start, where the test holds
 abbrev pub started_where : Bool → List Entry → Option Start → Option Opened
 started_where holds before None = None
-started_where holds before (Some start) = cond holds (Some (record { start = start; before = before })) None
+started_where holds before (Some start) =
+    cond holds (Some (record { start = start; before = before })) None
 
 -- how link l was opened: its number is that of the entry of an Opened or a Dial
 abbrev pub opened : ℕ → List Entry → Option Opened
@@ -76,7 +80,8 @@ pub record Taken : Type 0 where
 
 -- the frame of link l that an event is
 abbrev pub frame_of : ℕ → List Entry → Event → Option Taken
-frame_of l before (event.Frame k body) = cond (k == l) (Some (record { body = body; before = before })) None
+frame_of l before (event.Frame k body) =
+    cond (k == l) (Some (record { body = body; before = before })) None
 frame_of l before e = None
 
 -- these frames and then that one, if it is one
@@ -93,10 +98,17 @@ taken_in l (m ∷ ms) = and_frame (taken_in l ms) (frame_of l m.before m.event)
 abbrev pub taken : ℕ → List Entry → List Taken
 taken l es = taken_in l (present es)
 
--- flags, creation, name and version of a peer that has sent these frames: an acceptor has them from the Name, a dialler from the Challenge
+-- flags, creation, name and version of a peer that has sent these frames: an acceptor has them from
+-- the Name, a dialler from the Challenge
 abbrev pub given_in : Start → List Taken → Option Name
 given_in (ByPeer c) (name ∷ later) = name_frame name.body
-given_in (ByDial n c) (status ∷ challenge ∷ later) = option_and_then (λ f. Some (record { flags = f.flags; creation = f.creation; name = f.name; version = f.version })) (challenge_frame challenge.body)
+given_in (ByDial n c) (status ∷ challenge ∷ later) =
+    option_and_then (λ f. Some (record {
+      flags = f.flags;
+      creation = f.creation;
+      name = f.name;
+      version = f.version;
+    })) (challenge_frame challenge.body)
 given_in start frames = None
 
 -- flags, creation, name and version that the peer of link l has given
@@ -121,9 +133,11 @@ is_peer n l es = option_map_or (λ m. same m n) (peer_of l es) false
 abbrev pub is_name_up : List ℕ → List Entry → Bool
 is_name_up n es = is_some (present_link n es)
 
--- a link is visible where neither end is hidden: the opening isn't, and bit 0 of the peer's flags is set
+-- a link is visible where neither end is hidden: the opening isn't, and bit 0 of the peer's flags
+-- is set
 abbrev pub is_visible : History → ℕ → Bool
-is_visible h l = not h.opening.hidden && option_map_or (λ f. has_bit 0 f.flags) (given l h.entries) false
+is_visible h l = not h.opening.hidden && option_map_or (λ f. has_bit 0 f.flags) (given l h.entries)
+    false
 
 -- WHOLE SIDES
 
@@ -140,10 +154,11 @@ pub data Awaited : Type 0 where
 -- whether a link of the peer's name was up at the Name frame
 abbrev pub was_up : List Taken → Bool
 was_up [] = false
-was_up (name ∷ later) = option_map_or (λ f. is_name_up f.name name.before) (name_frame name.body) false
+was_up (name ∷ later) = option_map_or (λ f. is_name_up f.name name.before) (name_frame name.body)
+    false
 
--- what a whole side takes: from a dialler its Name, the answer to `alive` where a link of that name was up, and its Reply;
--- from an acceptor its Status, its Challenge and its Ack
+-- what a whole side takes: from a dialler its Name, the answer to `alive` where a link of that name
+-- was up, and its Reply; from an acceptor its Status, its Challenge and its Ack
 abbrev pub whole_side : Start → Bool → List Awaited
 whole_side (ByPeer c) false = AwaitName ∷ AwaitReply ∷ []
 whole_side (ByPeer c) true = AwaitName ∷ AwaitAnswer ∷ AwaitReply ∷ []

@@ -1,4 +1,5 @@
--- A frame as it goes over the wire (Distribution Protocol, Distribution Handshake and Protocol between Connected Nodes).
+-- A frame as it goes over the wire (Distribution Protocol, Distribution Handshake and Protocol
+-- between Connected Nodes).
 use Rattle.std.specs.Prelude.{ℕ, ◌<◌, ◌^◌, List, length, if◌then◌else◌}
 use Rattle.std.specs.Int.{Width, w16, w32, byte_len}
 use Rattle.handshake_frames.specs.Spelling.{counted}

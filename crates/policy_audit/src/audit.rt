@@ -26,8 +26,8 @@ pub enum AuditFault {
     OutOfMemory,
 }
 
-/// All entries of a node, in their order. None is ever changed. The oldest may be handed out, a page
-/// at a time; contracts go on seeing them.
+/// All entries of a node, in their order. None is ever changed. The oldest may be handed out, a
+/// page at a time; contracts go on seeing them.
 pub struct Audit {
     limit: u32,
     /// How many entries there are, with those that were handed out.
@@ -114,8 +114,16 @@ impl Audit {
         verdict: Verdict,
         change: Changes,
     ) -> Result<(), AuditFault>
-        ensures entries { OnOk result (self.new.entries ≡ record { number = length self.old.entries + 1; seat = seat; event = event; verdict = verdict; change = change } ∷ self.old.entries) }
-        ensures limit { OnOk result ((length self.old.entries < self.old.limit) × (self.new.limit ≡ self.old.limit)) }
+        ensures entries { OnOk result (self.new.entries
+            ≡ record {
+              number = length self.old.entries + 1;
+              seat = seat;
+              event = event;
+              verdict = verdict;
+              change = change;
+            } ∷ self.old.entries) }
+        ensures limit { OnOk result ((length self.old.entries < self.old.limit)
+            × (self.new.limit ≡ self.old.limit)) }
         ensures forgotten { OnOk result (self.new.forgotten ≡ self.old.forgotten) }
         ensures refused { IfErr result (λ fault. IsAuditFault fault self.old) }
         ensures same { OnErr result (self.new ≡ self.old) }
@@ -128,7 +136,8 @@ impl Audit {
             change,
         };
         if let Err(fault) = self.make_room() {
-            // By name, so that a check follows the end of an entry once, and not here, variant by variant.
+            // By name, so that a check follows the end of an entry once, and not here, variant by
+            // variant.
             drop(entry);
             return Err(fault);
         }

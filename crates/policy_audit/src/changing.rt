@@ -8,7 +8,8 @@ use crate::entry::Entry;
 use crate::later::Later;
 use std::marker::Model;
 
-/// Entries of an audit in their order, up to its end, as far as they changed rows. Contracts see it as the list of those left.
+/// Entries of an audit in their order, up to its end, as far as they changed rows. Contracts see it
+/// as the list of those left.
 #[derive(Debug, Drop)]
 pub struct Changing<'a> {
     later: Later<'a>,

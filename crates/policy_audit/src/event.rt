@@ -7,12 +7,14 @@ use std::alloc::Global;
 /// Names of nodes, in any order.
 pub type NodeNames = Items<NodeName>;
 
-/// A call of the node, or what comes of a link. A link is named by the number of the entry that opened it.
+/// A call of the node, or what comes of a link. A link is named by the number of the entry that
+/// opened it.
 #[derive(Debug, Drop, PartialEq, Eq)]
 pub enum Event {
     /// The node begins anew, with the next creation.
     Restart,
-    /// The cookie of the node, and for each peer without a cookie of its own (`erlang:set_cookie/1`).
+    /// The cookie of the node, and for each peer without a cookie of its own
+    /// (`erlang:set_cookie/1`).
     SetCookie(Cookie),
     /// The cookie for one peer; for the own name, as `SetCookie` (`erlang:set_cookie/2`).
     SetCookieFor(NodeName, Cookie),
@@ -115,7 +117,8 @@ fn all_three<A: TryClone + Drop, B: TryClone + Drop, C: TryClone + Drop>(
     second: &B,
     third: &C,
 ) -> Result<(A, B, C), OutOfMemory>
-    ensures { IfOk result (λ copies. (copies.0 ≡ first.now) × (copies.1 ≡ second.now) × (copies.2 ≡ third.now)) }
+    ensures { IfOk result (λ copies. (copies.0 ≡ first.now) × (copies.1 ≡ second.now)
+        × (copies.2 ≡ third.now)) }
 {
     let (first, second) = both(alloc, first, second)?;
     Ok((first, second, third.try_clone(alloc)?))

@@ -11,7 +11,8 @@ use crate::page::Page;
 use crate::place::Place;
 use std::marker::Model;
 
-/// Entries of an audit in their order, up to its end. Contracts see it as the list of those that are left.
+/// Entries of an audit in their order, up to its end. Contracts see it as the list of those that
+/// are left.
 #[derive(Debug, Drop)]
 pub struct Later<'a> {
     /// What is left of the page that it has reached.

@@ -43,7 +43,8 @@ use crate::entry::Verdict;
 use crate::event::Event;
 use crate::reply::Reply;
 
-/// In every history that the policy makes, a link that is up was admitted, and an open link that was admitted is up.
+/// In every history that the policy makes, a link that is up was admitted, and an open link that
+/// was admitted is up.
 pub fn admitted()
     ensures up { (h : History) → IsPlayed h → (l : ℕ) → IsTrue (is_up l h.entries)
         → IsAdmitted h l }
@@ -51,7 +52,8 @@ pub fn admitted()
         → IsTrue (is_up l h.entries) ↔ (IsTrue (is_open l h.entries) × IsAdmitted h l) }
 {}
 
-/// The present link of a peer is the one link of that peer that is up, with the flags and the creation that the peer gave on it.
+/// The present link of a peer is the one link of that peer that is up, with the flags and the
+/// creation that the peer gave on it.
 pub fn one_link_up()
     ensures given { (h : History) → IsPlayed h → (l : ℕ) → IsTrue (is_up l h.entries)
         → (f : Name) × (given l h.entries ≡ Some f) × (peer_of l h.entries ≡ Some f.name)
@@ -61,8 +63,9 @@ pub fn one_link_up()
         ↔ (IsTrue (is_up l h.entries) × (peer_of l h.entries ≡ Some n)) }
 {}
 
-/// Which links are open and up follows from the events and whether each was accepted: no recorded answer is needed.
-/// And a link of a name is up there exactly where an open link of that peer was admitted.
+/// Which links are open and up follows from the events and whether each was accepted: no recorded
+/// answer is needed. And a link of a name is up there exactly where an open link of that peer was
+/// admitted.
 pub fn up_by_events()
     ensures up { (h : History) → IsPlayed h → (l : ℕ)
         → is_up_at (stages h.entries) l h.entries ≡ is_up l h.entries }
@@ -74,26 +77,29 @@ pub fn up_by_events()
         × IsAdmitted h l) }
 {}
 
-/// A history stays legal with one more entry exactly where that is what the policy makes of its event,
-/// and where the audit isn't full there is such an entry for each event.
+/// A history stays legal with one more entry exactly where that is what the policy makes of its
+/// event, and where the audit isn't full there is such an entry for each event.
 pub fn goes_on()
     ensures legal { (h : History) (e : Entry) → is_entered e ≡ true
         → IsLegal (with_entry h e) ↔ (IsNext h e × IsLegal h) }
-    ensures next { (h : History) (seat : ℕ) (e : Event) → is_full h ≡ false → IsNext h (entry_of h seat e) }
+    ensures next { (h : History) (seat : ℕ) (e : Event) → is_full h ≡ false
+        → IsNext h (entry_of h seat e) }
     ensures computed { (h k : History) → IsChange h k (change h k) }
 {}
 
 /// The lists in answers ascend, and each process stands in them as often as it is counted.
 pub fn lists_ascend()
     ensures members { (h : History) (s g : List ℕ) → IsPidListing (listed h s g) (members h s g) }
-    ensures local_members { (h : History) (s g : List ℕ) → IsPidListing (own h s g) (local_members h s g) }
+    ensures local_members { (h : History) (s g : List ℕ)
+        → IsPidListing (own h s g) (local_members h s g) }
     ensures groups { (h : History) (s : List ℕ) → IsGroupListing (listed h s) (groups h s) }
-    ensures local_groups { (h : History) (s : List ℕ) → IsGroupListing (own h s) (local_groups h s) }
+    ensures local_groups { (h : History) (s : List ℕ)
+        → IsGroupListing (own h s) (local_groups h s) }
     ensures local_rows { (h : History) (s : List ℕ) → IsRowListing (own h s) (local_rows h s) }
 {}
 
-/// What an entry leaves alone: a refused one and one that concerns no row, all listings; any other, the rows that it may
-/// not change; one of a link's frame, what is said of every other link.
+/// What an entry leaves alone: a refused one and one that concerns no row, all listings; any other,
+/// the rows that it may not change; one of a link's frame, what is said of every other link.
 pub fn left_alone()
     ensures listings { (h : History) (e : Entry) → IsTrue (leaves_rows e) → (s g : List ℕ) (p : Pid)
         → listed (just h e) s g p ≡ listed h s g p }
@@ -102,13 +108,16 @@ pub fn left_alone()
     ensures within { (h : History) (e : Entry) → IsPlayed (just h e) → (s g : List ℕ) (p : Pid)
         → may_change h.opening h.entries e s g p ≡ false
         → listed (just h e) s g p ≡ listed h s g p }
-    ensures links { (es : List Entry) (e : Entry) (k l : ℕ) (body : List ℕ) → e.event ≡ events.Frame k body → (k == l) ≡ false → IsSameLink l es (e ∷ es) }
+    ensures links { (es : List Entry) (e : Entry) (k l : ℕ) (body : List ℕ)
+        → e.event ≡ events.Frame k body → (k == l) ≡ false → IsSameLink l es (e ∷ es) }
 {}
 
-/// A refused entry leaves all as it was: rows, processes, up links, cookies, allow list, scopes and monitors with their places.
-/// And unless it is of a frame of that link, a link is open as before, and the same frames wait for it.
+/// A refused entry leaves all as it was: rows, processes, up links, cookies, allow list, scopes and
+/// monitors with their places. And unless it is of a frame of that link, a link is open as before,
+/// and the same frames wait for it.
 pub fn refusal_leaves()
-    ensures all { (h : History) (e : Entry) → IsNext h e → is_accepted e.verdict ≡ false → IsUntouched h (with_entry h e) }
+    ensures all { (h : History) (e : Entry) → IsNext h e → is_accepted e.verdict ≡ false
+        → IsUntouched h (with_entry h e) }
     ensures links { (h : History) (e : Entry) (l : ℕ) → is_accepted e.verdict ≡ false
         → frame_of l h.entries e.event ≡ None → IsAsOpen l h (just h e) }
 {}
@@ -156,9 +165,10 @@ pub fn slow_links_end()
         → may_change_with h e s g p ≡ false → listed (with_entry h e) s g p ≡ listed h s g p }
 {}
 
-/// What is kept of a message begun on a link. A frame that the link takes carries it on or breaks it
-/// off; a stop breaks off what is of its scope, a restart all, and nothing else does. The rows kept
-/// are of the link's peer and of the creation that it gave. Before its side is whole there are none.
+/// What is kept of a message begun on a link. A frame that the link takes carries it on or breaks
+/// it off; a stop breaks off what is of its scope, a restart all, and nothing else does. The rows
+/// kept are of the link's peer and of the creation that it gave. Before its side is whole there are
+/// none.
 pub fn kept_parts()
     ensures framed { (o : Opening) (es : List Entry) (e : Entry) (l : ℕ) (body : List ℕ)
         → e.event ≡ events.Frame l body → IsTrue (is_accepted e.verdict) → IsTrue (is_whole l es)
@@ -188,15 +198,18 @@ pub fn parts_are_said()
 
 /// How often the own processes are joined after an accepted Join, Leave and Exit.
 pub fn own_counts()
-    ensures joined { (h : History) (e : Entry) (s g : List ℕ) (ps : List Pid) → e.event ≡ events.Join s g ps → IsTrue (is_accepted e.verdict) → IsTrue (is_running h s)
+    ensures joined { (h : History) (e : Entry) (s g : List ℕ) (ps : List Pid)
+        → e.event ≡ events.Join s g ps → IsTrue (is_accepted e.verdict) → IsTrue (is_running h s)
         → (t f : List ℕ) (p : Pid)
         → own (just h e) t f p
         ≡ cond (same s t && same g f) (own h t f p + mentions p ps) (own h t f p) }
-    ensures left { (h : History) (e : Entry) (s g : List ℕ) (ps : List Pid) → e.event ≡ events.Leave s g ps → IsTrue (is_accepted e.verdict)
+    ensures left { (h : History) (e : Entry) (s g : List ℕ) (ps : List Pid)
+        → e.event ≡ events.Leave s g ps → IsTrue (is_accepted e.verdict)
         → (t f : List ℕ) (p : Pid)
         → own (just h e) t f p
         ≡ cond (same s t && same g f) (own h t f p - mentions p ps) (own h t f p) }
-    ensures exited { (h : History) (e : Entry) (q : Pid) → e.event ≡ events.Exit q → IsTrue (is_accepted e.verdict)
+    ensures exited { (h : History) (e : Entry) (q : Pid) → e.event ≡ events.Exit q
+        → IsTrue (is_accepted e.verdict)
         → (t f : List ℕ) (p : Pid) → own (just h e) t f p ≡ cond (same_pid q p) 0 (own h t f p) }
 {}
 
@@ -207,14 +220,17 @@ pub fn few_own()
         → length (local_rows h s) ≤ own_limit h s }
 {}
 
-/// How often a process is listed after an accepted event. A Join adds and a Leave takes away, an Exit, a stop and a restart clear,
-/// and a link that becomes up, is lost or is disconnected clears what its peer had listed.
+/// How often a process is listed after an accepted event. A Join adds and a Leave takes away, an
+/// Exit, a stop and a restart clear, and a link that becomes up, is lost or is disconnected clears
+/// what its peer had listed.
 pub fn rows_after()
-    ensures joined { (h : History) (e : Entry) (s g : List ℕ) (ps : List Pid) → IsAccepted h e (events.Join s g ps)
+    ensures joined { (h : History) (e : Entry) (s g : List ℕ) (ps : List Pid)
+        → IsAccepted h e (events.Join s g ps)
         → (t f : List ℕ) (p : Pid)
         → listed (just h e) t f p
         ≡ cond (same t s) (listed h t f p + cond (same f g) (mentions p ps) 0) (listed h t f p) }
-    ensures left { (h : History) (e : Entry) (s g : List ℕ) (ps : List Pid) → IsAccepted h e (events.Leave s g ps)
+    ensures left { (h : History) (e : Entry) (s g : List ℕ) (ps : List Pid)
+        → IsAccepted h e (events.Leave s g ps)
         → (t f : List ℕ) (p : Pid)
         → listed (just h e) t f p
         ≡ cond (same t s) (listed h t f p - cond (same f g) (mentions p ps) 0) (listed h t f p) }
@@ -229,25 +245,33 @@ pub fn rows_after()
         → (t f : List ℕ) (p : Pid) → listed (just h e) t f p ≡ 0 }
     ensures opened { (h : History) (e : Entry) (c : ℕ) → IsAccepted h e (events.Opened c)
         → (t f : List ℕ) (p : Pid) → listed (just h e) t f p ≡ listed h t f p }
-    ensures dialled { (h : History) (e : Entry) (n : List ℕ) (c : ℕ) → IsAccepted h e (events.Dial n c)
+    ensures dialled { (h : History) (e : Entry) (n : List ℕ) (c : ℕ)
+        → IsAccepted h e (events.Dial n c)
         → (t f : List ℕ) (p : Pid) → listed (just h e) t f p ≡ listed h t f p }
-    ensures unfinished { (h : History) (e : Entry) (l : ℕ) (body : List ℕ) → IsAccepted h e (events.Frame l body) → is_whole l h.entries ≡ false → is_last (awaits l h.entries) ≡ false
+    ensures unfinished { (h : History) (e : Entry) (l : ℕ) (body : List ℕ)
+        → IsAccepted h e (events.Frame l body) → is_whole l h.entries ≡ false
+        → is_last (awaits l h.entries) ≡ false
         → (t f : List ℕ) (p : Pid) → listed (just h e) t f p ≡ listed h t f p }
-    ensures up { (h : History) (e : Entry) (l : ℕ) (body n : List ℕ) → IsAccepted h e (events.Frame l body) → IsTrue (is_last (awaits l h.entries)) → peer_of l h.entries ≡ Some n
+    ensures up { (h : History) (e : Entry) (l : ℕ) (body n : List ℕ)
+        → IsAccepted h e (events.Frame l body) → IsTrue (is_last (awaits l h.entries))
+        → peer_of l h.entries ≡ Some n
         → (t f : List ℕ) (p : Pid)
         → listed (just h e) t f p ≡ cond (same p.node n) 0 (listed h t f p) }
-    ensures lost { (h : History) (e : Entry) (l : ℕ) (n : List ℕ) → IsAccepted h e (events.Lost l) → IsTrue (is_up l h.entries) → peer_of l h.entries ≡ Some n
+    ensures lost { (h : History) (e : Entry) (l : ℕ) (n : List ℕ) → IsAccepted h e (events.Lost l)
+        → IsTrue (is_up l h.entries) → peer_of l h.entries ≡ Some n
         → (t f : List ℕ) (p : Pid)
         → listed (just h e) t f p ≡ cond (same p.node n) 0 (listed h t f p) }
-    ensures lost_unfinished { (h : History) (e : Entry) (l : ℕ) → IsAccepted h e (events.Lost l) → is_up l h.entries ≡ false
+    ensures lost_unfinished { (h : History) (e : Entry) (l : ℕ) → IsAccepted h e (events.Lost l)
+        → is_up l h.entries ≡ false
         → (t f : List ℕ) (p : Pid) → listed (just h e) t f p ≡ listed h t f p }
-    ensures disconnected { (h : History) (e : Entry) (n : List ℕ) → IsAccepted h e (events.Disconnect n)
+    ensures disconnected { (h : History) (e : Entry) (n : List ℕ)
+        → IsAccepted h e (events.Disconnect n)
         → (t f : List ℕ) (p : Pid)
         → listed (just h e) t f p ≡ cond (same p.node n) 0 (listed h t f p) }
 {}
 
-/// How often a process is listed after an accepted message of a peer: a Sync says all rows of the peer in the scope, a Join
-/// adds, a Leave takes away, a Down clears.
+/// How often a process is listed after an accepted message of a peer: a Sync says all rows of the
+/// peer in the scope, a Join adds, a Leave takes away, a Down clears.
 pub fn rows_after_messages()
     ensures synced { (h : History) (e : Entry) (l : ℕ) (n s : List ℕ) (rows : List Row)
         → IsMessage h e l n (said.Sync s rows)

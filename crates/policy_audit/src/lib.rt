@@ -1,4 +1,5 @@
-//! Events and answers of a node, the audit of both, and the written policy that says what each event is answered.
+//! Events and answers of a node, the audit of both, and the written policy that says what each
+//! event is answered.
 #![tactic(auto)]
 
 mod audit;

@@ -9,8 +9,8 @@ use std::marker::Model;
 /// Frames, the first to send first.
 pub type OutFrames = Items<OutFrame>;
 
-/// A frame to send, with the width of its length: 4 bytes where it is wide, as after the handshake, else 2. The length of its
-/// body fits that width.
+/// A frame to send, with the width of its length: 4 bytes where it is wide, as after the handshake,
+/// else 2. The length of its body fits that width.
 #[derive(Debug, PartialEq, Eq)]
 pub struct OutFrame {
     pub wide: bool,

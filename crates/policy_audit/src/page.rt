@@ -11,7 +11,8 @@ use std::marker::Model;
 /// How many entries a page has room for.
 pub const PAGE_SIZE: usize = 256;
 
-/// A part of the entries, in their order. All its room is reserved when it is made, so no entry ever moves.
+/// A part of the entries, in their order. All its room is reserved when it is made, so no entry
+/// ever moves.
 #[derive(Debug, Drop)]
 pub struct Page {
     entries: Vec<Entry>,
@@ -30,7 +31,8 @@ impl Model for Page {
 
     ghost view = { λ page. page.entries.items };
 
-    ghost invariant = { λ page. (page_size ≤ vec_capacity page.entries) × (page.changed ≡ list_any changes_rows page.entries.items) };
+    ghost invariant = { λ page. (page_size ≤ vec_capacity page.entries)
+        × (page.changed ≡ list_any changes_rows page.entries.items) };
 }
 
 impl Page {

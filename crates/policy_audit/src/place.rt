@@ -5,8 +5,8 @@ ghost use Rattle.policy_audit.specs.Pages.{page_size};
 use crate::page::PAGE_SIZE;
 use std::marker::Model;
 
-/// A place behind some entries of an audit: a page, and how many of its entries lie before it. Contracts see it as the number
-/// of all entries before it.
+/// A place behind some entries of an audit: a page, and how many of its entries lie before it.
+/// Contracts see it as the number of all entries before it.
 #[derive(Debug, Drop)]
 pub struct Place {
     page: usize,

@@ -42,7 +42,8 @@ pub enum Rule {
     ForeignPid,
     /// Some process is named more often in a group than it is listed.
     NotListed,
-    /// A node would have more rows in the scope than it may: 4,096, or 65,536 where they go in parts.
+    /// A node would have more rows in the scope than it may: 4,096, or 65,536 where they go in
+    /// parts.
     RowsFull,
     /// Some process is of another node or creation.
     NotLocal,
@@ -72,7 +73,8 @@ pub enum Rule {
     CookiesFull,
     /// The creation is the last one.
     CreationSpent,
-    /// The part isn't the first of its message, and doesn't follow what was accepted last on its link.
+    /// The part isn't the first of its message, and doesn't follow what was accepted last on its
+    /// link.
     PartOrder,
 }
 

@@ -104,7 +104,8 @@ pub fn play_all<R: Print + Eprint + Wait, S: Subject>(
     Ok(())
 }
 
-/// Does it until memory isn't wanting, and tells what was answered, and what the object answers then.
+/// Does it until memory isn't wanting, and tells what was answered, and what the object answers
+/// then.
 pub fn play<R: Print + Eprint + Wait, S: Subject>(
     rt: &R,
     log: &mut Log,

@@ -121,7 +121,8 @@ enum Answer {
     Cut(Vec<Body>),
 }
 
-/// The readers of two streams, the parts that were gathered, what was written, and what was answered last.
+/// The readers of two streams, the parts that were gathered, what was written, and what was
+/// answered last.
 #[derive(Drop)]
 struct Desk {
     alloc: Global,

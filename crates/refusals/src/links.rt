@@ -1,4 +1,5 @@
-//! The workers of a link over a reader and a writer that fail: why each stopped, and what its pass has called.
+//! The workers of a link over a reader and a writer that fail: why each stopped, and what its pass
+//! has called.
 use crate::calls::{Log, insisted};
 use crate::failing::{Giving, Taking};
 use crate::nodes::{close_node, new_node};

@@ -1,5 +1,6 @@
-//! Makes calls of a node, a world, a table, readers and frames, and makes each again that wants memory; and lets the reader and the writer of a
-//! link fail. tests/memory/calls runs it while its allocations are refused, and judges what it prints.
+//! Makes calls of a node, a world, a table, readers and frames, and makes each again that wants
+//! memory; and lets the reader and the writer of a link fail. tests/memory/calls runs it while its
+//! allocations are refused, and judges what it prints.
 #![tactic(auto)]
 
 mod calls;
@@ -40,8 +41,8 @@ fn play<R: AllocGlobal + Env + Input + Print + Eprint + Wait + Sync>(rt: &R) -> 
     }
 }
 
-/// Plays a part that needs a script, which comes on standard input. For the parts of a link its first line names the link, and the
-/// bytes that come or go.
+/// Plays a part that needs a script, which comes on standard input. For the parts of a link its
+/// first line names the link, and the bytes that come or go.
 fn play_text<R: AllocGlobal + Input + Print + Eprint + Wait + Sync>(
     rt: &R,
     log: &mut Log,

@@ -51,7 +51,8 @@ static DEEDS: [Deed; 23] = [
     Deed::JoinRemote("c@h", "w", &[5, 4, 5]),
     Deed::LeaveRemote("c@h", "w", &[5, 5, 5]),
     Deed::LeaveRemote("c@h", "w", &[5]),
-    // Rows beside others, some of them there, in no order and repeated; and the same and others in place of them.
+    // Rows beside others, some of them there, in no order and repeated; and the same and others in
+    // place of them.
     Deed::JoinRemote("c@h", "w", &[9, 1, 5, 8, 2, 2, 7, 3, 6]),
     Deed::Sync("c@h", "w", &[6, 2, 10, 9, 4, 1]),
     Deed::JoinRemote("a@h", "h", &[7]),

@@ -22,7 +22,8 @@ enum Move {
     Restart(usize),
 }
 
-/// A link comes up, rows come and go, the link is cut, and a node begins anew; faults of each kind on the way.
+/// A link comes up, rows come and go, the link is cut, and a node begins anew; faults of each kind
+/// on the way.
 static MOVES: [Move; 49] = [
     Move::Call(0, "start pg"),
     Move::Call(1, "start pg"),
@@ -39,7 +40,8 @@ static MOVES: [Move; 49] = [
     Move::Deliver(Side::Acceptor),
     Move::Accept,
     Move::Accept,
-    // The name, the status and the challenge, the reply, the acknowledgement with the first messages.
+    // The name, the status and the challenge, the reply, the acknowledgement with the first
+    // messages.
     Move::Hand(Side::Dialler),
     Move::Deliver(Side::Acceptor),
     Move::Hand(Side::Acceptor),
@@ -149,7 +151,8 @@ impl Subject for Field {
         }
     }
 
-    /// A world is asked by its steps alone, so that what it has kept shows in what they are answered later.
+    /// A world is asked by its steps alone, so that what it has kept shows in what they are
+    /// answered later.
     fn show<R: Wait>(&self, _rt: &R, _out: &mut Vec<u8>) -> Result<(), OutOfMemory> {
         Ok(())
     }

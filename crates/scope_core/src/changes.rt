@@ -22,7 +22,8 @@ pub fn one_change(
     left: Vec<Pid>,
     joined: Vec<Pid>,
 ) -> Result<Vec<GroupChange>, OutOfMemory>
-    ensures { IfOk result (λ changes. changes.items ≡ change_unless_empty group.now left.items joined.items) }
+    ensures { IfOk result (λ changes. changes.items
+        ≡ change_unless_empty group.now left.items joined.items) }
 {
     if left.is_empty() && joined.is_empty() {
         return Ok(Vec::new(alloc));
@@ -40,7 +41,8 @@ pub fn push_change(
     left: Vec<Pid>,
     joined: Vec<Pid>,
 ) -> Result<(), OutOfMemory>
-    ensures { OnOk result (changes.new.items ≡ changes.old.items ++ change_unless_empty group.now left.items joined.items) }
+    ensures { OnOk result (changes.new.items ≡ changes.old.items
+        ++ change_unless_empty group.now left.items joined.items) }
 {
     if left.is_empty() && joined.is_empty() {
         return Ok(());
@@ -56,7 +58,11 @@ fn change_of(
     left: Vec<Pid>,
     joined: Vec<Pid>,
 ) -> Result<GroupChange, OutOfMemory>
-    ensures { IfOk result (λ change. change ≡ record { group = group.now; left = left.items; joined = joined.items }) }
+    ensures { IfOk result (λ change. change ≡ record {
+      group = group.now;
+      left = left.items;
+      joined = joined.items;
+    }) }
 {
     Ok(GroupChange {
         group: group.try_clone(alloc)?,
@@ -112,9 +118,12 @@ pub fn changes_of(
 fn first_group<'a>(gone: &'a [Counted], joined: &'a [Counted]) -> Option<&'a Group>
     requires gone { Rises counted_cmp gone.now }
     requires joined { Rises counted_cmp joined.now }
-    ensures gone { IfSome result (λ g. AllByRecursion (λ c. is_gt (text_cmp g.now c.row.group) ≡ false) gone.now) }
-    ensures joined { IfSome result (λ g. AllByRecursion (λ c. is_gt (text_cmp g.now c.row.group) ≡ false) joined.now) }
-    ensures some { IfSome result (λ g. (list_any (is_in g.now) gone.now || list_any (is_in g.now) joined.now) ≡ true) }
+    ensures gone { IfSome result (λ g. AllByRecursion (λ c. is_gt (text_cmp g.now c.row.group)
+        ≡ false) gone.now) }
+    ensures joined { IfSome result (λ g. AllByRecursion (λ c. is_gt (text_cmp g.now c.row.group)
+        ≡ false) joined.now) }
+    ensures some { IfSome result (λ g. (list_any (is_in g.now) gone.now
+        || list_any (is_in g.now) joined.now) ≡ true) }
     ensures none { IfNone result ((gone.now ≡ []) × (joined.now ≡ [])) }
 {
     match (gone.first(), joined.first()) {

@@ -21,10 +21,15 @@ pub fn behind_all<'a>(
     group: &Group,
     members: &SmallMap<ProcessKey, u32>,
 ) -> Option<&'a [Row]>
-    ensures begins { IfSome result (λ rest. (node : List ℕ) → AllByRecursion (λ r. r.pid.node ≡ node) rows.now
-        → rows.now ≡ spread (λ e. row_in group.now (pid_of node e.0)) (λ e. e.1) (entries_of members.now) ++ rest.now) }
-    ensures own { IfSome result (λ rest. (node : List ℕ) → AllByRecursion (λ r. r.pid.node ≡ node) rows.now → AllByRecursion (λ r. r.pid.node ≡ node) rest.now) }
-    ensures ordered { IfSome result (λ _. IsStrictlySortedBy key_cmp (keys_of (entries_of members.now))) }
+    ensures begins { IfSome result (λ rest. (node : List ℕ)
+        → AllByRecursion (λ r. r.pid.node ≡ node) rows.now
+        → rows.now ≡ spread (λ e. row_in group.now (pid_of node e.0)) (λ e.
+        e.1) (entries_of members.now) ++ rest.now) }
+    ensures own { IfSome result (λ rest. (node : List ℕ)
+        → AllByRecursion (λ r. r.pid.node ≡ node) rows.now
+        → AllByRecursion (λ r. r.pid.node ≡ node) rest.now) }
+    ensures ordered { IfSome result (λ _.
+        IsStrictlySortedBy key_cmp (keys_of (entries_of members.now))) }
 {
     match members {
         SmallMap::Empty => Some(rows),
@@ -41,9 +46,12 @@ pub fn behind_all<'a>(
 
 /// What follows so many rows of a group and a process, if the list begins with them.
 fn behind<'a>(rows: &'a [Row], group: &Group, key: ProcessKey, count: usize) -> Option<&'a [Row]>
-    ensures begins { IfSome result (λ rest. (node : List ℕ) → AllByRecursion (λ r. r.pid.node ≡ node) rows.now
+    ensures begins { IfSome result (λ rest. (node : List ℕ)
+        → AllByRecursion (λ r. r.pid.node ≡ node) rows.now
         → rows.now ≡ replicate count (row_in group.now (pid_of node key)) ++ rest.now) }
-    ensures own { IfSome result (λ rest. (node : List ℕ) → AllByRecursion (λ r. r.pid.node ≡ node) rows.now → AllByRecursion (λ r. r.pid.node ≡ node) rest.now) }
+    ensures own { IfSome result (λ rest. (node : List ℕ)
+        → AllByRecursion (λ r. r.pid.node ≡ node) rows.now
+        → AllByRecursion (λ r. r.pid.node ≡ node) rest.now) }
 {
     let mut rest = rows;
     for _ in 0..count {
@@ -64,7 +72,8 @@ pub fn push_counted(
     members: &SmallMap<ProcessKey, u32>,
     rows: &mut Vec<Counted>,
 ) -> Result<(), OutOfMemory>
-    ensures rows { OnOk result (rows.new.items ≡ rows.old.items ++ group_rows node.now group.now (entries_of members.now)) }
+    ensures rows { OnOk result (rows.new.items ≡ rows.old.items
+        ++ group_rows node.now group.now (entries_of members.now)) }
     ensures ordered { OnOk result (IsStrictlySortedBy key_cmp (keys_of (entries_of members.now))) }
 {
     match members {
@@ -89,7 +98,8 @@ fn push_row(
     count: u32,
     rows: &mut Vec<Counted>,
 ) -> Result<(), OutOfMemory>
-    ensures { OnOk result (rows.new.items ≡ rows.old.items ++ record { row = row_in group.now (pid_of node.now key); count = count } ∷ []) }
+    ensures { OnOk result (rows.new.items ≡ rows.old.items
+        ++ record { row = row_in group.now (pid_of node.now key); count = count } ∷ []) }
 {
     let group = group.try_clone(alloc)?;
     let pid = key.pid(alloc, node)?;
@@ -107,7 +117,8 @@ pub fn push_pids(
     members: &SmallMap<ProcessKey, u32>,
     pids: &mut Vec<Pid>,
 ) -> Result<(), OutOfMemory>
-    ensures pids { OnOk result (pids.new.items ≡ pids.old.items ++ spread (λ e. pid_of node.now e.0) (λ e. e.1) (entries_of members.now)) }
+    ensures pids { OnOk result (pids.new.items ≡ pids.old.items
+        ++ spread (λ e. pid_of node.now e.0) (λ e. e.1) (entries_of members.now)) }
     ensures ordered { OnOk result (IsStrictlySortedBy key_cmp (keys_of (entries_of members.now))) }
 {
     match members {
@@ -131,7 +142,8 @@ fn push_times(
     times: u32,
     pids: &mut Vec<Pid>,
 ) -> Result<(), OutOfMemory>
-    ensures { OnOk result (pids.new.items ≡ pids.old.items ++ replicate times (pid_of node.now key)) }
+    ensures { OnOk result (pids.new.items ≡ pids.old.items
+        ++ replicate times (pid_of node.now key)) }
 {
     for _ in 0..times {
         push_one(pids, key.pid(alloc, node)?)?;

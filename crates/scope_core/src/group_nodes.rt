@@ -43,7 +43,8 @@ impl GroupNodes {
 
     /// The nodes of a group.
     pub fn of(&self, group: &Group) -> &[NodeName]
-        ensures nodes { (n : List ℕ) → how_many (λ m. same m n) result.now ≡ times_named self.now group.now n }
+        ensures nodes { (n : List ℕ) → how_many (λ m. same m n) result.now
+            ≡ times_named self.now group.now n }
         ensures once { (n : List ℕ) → how_many (λ m. same m n) result.now ≤ 1 }
         ensures rises { Rises text_cmp result.now }
     {
@@ -65,8 +66,10 @@ impl GroupNodes {
     /// The groups with a node, in their order.
     pub fn groups(&self, alloc: Global) -> Result<Vec<Group>, OutOfMemory>
         ensures rises { IfOk result (λ groups. Rises text_cmp groups.items) }
-        ensures found { IfOk result (λ groups. (g : List ℕ) → IsTrue (is_among g groups.items) → (n : List ℕ) × (0 < times_named self.now g n)) }
-        ensures only { IfOk result (λ groups. (g n : List ℕ) → 0 < times_named self.now g n → IsTrue (is_among g groups.items)) }
+        ensures found { IfOk result (λ groups. (g : List ℕ) → IsTrue (is_among g groups.items)
+            → (n : List ℕ) × (0 < times_named self.now g n)) }
+        ensures only { IfOk result (λ groups. (g n : List ℕ) → 0 < times_named self.now g n
+            → IsTrue (is_among g groups.items)) }
     {
         let mut groups = named(alloc, &self.nodes)?;
         groups.sort_unstable();
@@ -75,8 +78,10 @@ impl GroupNodes {
 
     /// The node is one of the group's.
     pub fn put(&mut self, group: &Group, node: &NodeName) -> Result<(), OutOfMemory>
-        ensures ok { OnOk result ((g n : List ℕ) → times_named self.new g n ≡ cond (same group.now g && same node.now n) 1 (times_named self.old g n)) }
-        ensures same { OnErr result ((g n : List ℕ) → times_named self.new g n ≡ times_named self.old g n) }
+        ensures ok { OnOk result ((g n : List ℕ) → times_named self.new g n
+            ≡ cond (same group.now g && same node.now n) 1 (times_named self.old g n)) }
+        ensures same { OnErr result ((g n : List ℕ) → times_named self.new g n
+            ≡ times_named self.old g n) }
     {
         let alloc = self.alloc;
         let Some(nodes) = self.nodes.get_mut(group) else {
@@ -88,8 +93,10 @@ impl GroupNodes {
     /// The first node of a group.
     fn begin(&mut self, group: &Group, node: &NodeName) -> Result<(), OutOfMemory>
         requires { (n : List ℕ) → times_named self.old group.now n ≡ 0 }
-        ensures ok { OnOk result ((g n : List ℕ) → times_named self.new g n ≡ cond (same group.now g && same node.now n) 1 (times_named self.old g n)) }
-        ensures same { OnErr result ((g n : List ℕ) → times_named self.new g n ≡ times_named self.old g n) }
+        ensures ok { OnOk result ((g n : List ℕ) → times_named self.new g n
+            ≡ cond (same group.now g && same node.now n) 1 (times_named self.old g n)) }
+        ensures same { OnErr result ((g n : List ℕ) → times_named self.new g n
+            ≡ times_named self.old g n) }
     {
         let nodes = only(self.alloc, node)?;
         let group = group.try_clone(self.alloc)?;
@@ -99,7 +106,8 @@ impl GroupNodes {
 
     /// The node is none of the group's.
     pub fn take(&mut self, group: &Group, node: &NodeName)
-        ensures { (g n : List ℕ) → times_named self.new g n ≡ cond (same group.now g && same node.now n) 0 (times_named self.old g n) }
+        ensures { (g n : List ℕ) → times_named self.new g n
+            ≡ cond (same group.now g && same node.now n) 0 (times_named self.old g n) }
     {
         let Some((at, _, _)) = self.nodes.get_full(group) else {
             return;
@@ -123,7 +131,8 @@ impl GroupNodes {
 
 /// The groups of which a node is named.
 fn named(alloc: Global, nodes: &IndexMap<Group, Vec<NodeName>>) -> Result<Vec<Group>, OutOfMemory>
-    ensures groups { IfOk result (λ groups. groups.items ≡ named_groups (node_names nodes.now.entries)) }
+    ensures groups { IfOk result (λ groups. groups.items
+        ≡ named_groups (node_names nodes.now.entries)) }
     ensures apart { IsDistinct same (keys_of nodes.now.entries) }
 {
     let mut groups = Vec::with_capacity(alloc, nodes.len())?;
@@ -148,7 +157,8 @@ fn only(alloc: Global, node: &NodeName) -> Result<Vec<NodeName>, OutOfMemory>
 #[tactic(auto, using(crate::proofs::GroupNodes::puts_name))]
 fn add(alloc: Global, nodes: &mut Vec<NodeName>, node: &NodeName) -> Result<(), OutOfMemory>
     requires { Rises text_cmp nodes.old.items }
-    ensures ok { OnOk result ((n : List ℕ) → how_many (λ m. same m n) nodes.new.items ≡ cond (same node.now n) 1 (how_many (λ m. same m n) nodes.old.items)) }
+    ensures ok { OnOk result ((n : List ℕ) → how_many (λ m. same m n) nodes.new.items
+        ≡ cond (same node.now n) 1 (how_many (λ m. same m n) nodes.old.items)) }
     ensures same { OnErr result (nodes.new.items ≡ nodes.old.items) }
     ensures rises { Rises text_cmp nodes.new.items }
 {
@@ -166,7 +176,8 @@ fn add(alloc: Global, nodes: &mut Vec<NodeName>, node: &NodeName) -> Result<(), 
 #[tactic(auto, using(crate::proofs::GroupNodes::takes_name))]
 fn remove(nodes: &mut Vec<NodeName>, node: &NodeName)
     requires { Rises text_cmp nodes.old.items }
-    ensures gone { (n : List ℕ) → how_many (λ m. same m n) nodes.new.items ≡ cond (same node.now n) 0 (how_many (λ m. same m n) nodes.old.items) }
+    ensures gone { (n : List ℕ) → how_many (λ m. same m n) nodes.new.items
+        ≡ cond (same node.now n) 0 (how_many (λ m. same m n) nodes.old.items) }
     ensures rises { Rises text_cmp nodes.new.items }
 {
     if let Ok(at) = place_of(nodes, node) {

@@ -1,4 +1,5 @@
-//! The rows of one node in a hashed map, with an ordered index of its groups and one of its processes.
+//! The rows of one node in a hashed map, with an ordered index of its groups and one of its
+//! processes.
 ghost use Rattle.std.specs.Prelude.{◌≡◌, ◌++◌, ◌+◌, ◌||◌, Bool, [], ◌∷◌, All, take, length, ◌-◌, ◌≤◌, ◌<◌, cond, not, true, false, IfSome, IfOk, OnOk, OnErr};
 ghost use Rattle.std.specs.Option.{IfNone};
 ghost use Rattle.std.specs.List.{AllByRecursion};
@@ -37,9 +38,13 @@ impl Model for HashedRows {
 
     ghost Value = { NodeTable };
 
-    ghost view = { λ rows. record { node = rows.counts.node; rows = counted_in rows.counts.entries } };
+    ghost view = { λ rows. record {
+      node = rows.counts.node;
+      rows = counted_in rows.counts.entries;
+    } };
 
-    ghost invariant = { λ rows. IsHashed rows.counts.node rows.counts.entries rows.groups rows.processes };
+    ghost invariant = { λ rows. IsHashed rows.counts.node rows.counts.entries rows.groups
+        rows.processes };
 }
 
 impl HashedRows {
@@ -89,13 +94,16 @@ impl HashedRows {
         Ok(true)
     }
 
-    /// Puts each row that isn't there yet last: all of them, or none. Those before the first that is there have their counts
-    /// then, and the others the count 0. Answers how many the former are.
+    /// Puts each row that isn't there yet last: all of them, or none. Those before the first that
+    /// is there have their counts then, and the others the count 0. Answers how many the former
+    /// are.
     pub fn grow(&mut self, more: &[Counted]) -> Result<usize, OutOfMemory>
         requires { AllByRecursion (λ c. c.row.pid.node ≡ self.old.node) more.now }
         ensures bound { IfOk result (λ n. n ≤ length more.now) }
-        ensures ok { IfOk result (λ n. (test : Row → Bool) → tally test self.new.rows ≡ tally test self.old.rows + tally test (take n more.now)) }
-        ensures stand { OnOk result ((r : Row) → stands r self.new.rows ≡ (stands r self.old.rows || stands r more.now)) }
+        ensures ok { IfOk result (λ n. (test : Row → Bool) → tally test self.new.rows
+            ≡ tally test self.old.rows + tally test (take n more.now)) }
+        ensures stand { OnOk result ((r : Row) → stands r self.new.rows
+            ≡ (stands r self.old.rows || stands r more.now)) }
         ensures node { self.new.node ≡ self.old.node }
         ensures same { OnErr result (self.new ≡ self.old) }
     {
@@ -109,11 +117,15 @@ impl HashedRows {
         Ok(fresh)
     }
 
-    /// Puts rows last up to the first that is there: all of those, or none. Answers how many they are.
+    /// Puts rows last up to the first that is there: all of those, or none. Answers how many they
+    /// are.
     fn put_new(&mut self, more: &[Counted]) -> Result<usize, OutOfMemory>
         requires { AllByRecursion (λ c. c.row.pid.node ≡ self.old.node) more.now }
         ensures bound { IfOk result (λ n. n ≤ length more.now) }
-        ensures ok { IfOk result (λ n. self.new ≡ record { node = self.old.node; rows = self.old.rows ++ take n more.now }) }
+        ensures ok { IfOk result (λ n. self.new ≡ record {
+          node = self.old.node;
+          rows = self.old.rows ++ take n more.now;
+        }) }
         ensures same { OnErr result (self.new ≡ self.old) }
     {
         let len = self.counts.len();
@@ -134,8 +146,10 @@ impl HashedRows {
     /// Puts each row that isn't there yet last, with the count 0: all of them, or none.
     fn hold(&mut self, more: &[Counted]) -> Result<(), OutOfMemory>
         requires { AllByRecursion (λ c. c.row.pid.node ≡ self.old.node) more.now }
-        ensures ok { OnOk result ((test : Row → Bool) → tally test self.new.rows ≡ tally test self.old.rows) }
-        ensures stand { OnOk result ((r : Row) → stands r self.new.rows ≡ (stands r self.old.rows || stands r more.now)) }
+        ensures ok { OnOk result ((test : Row → Bool) → tally test self.new.rows
+            ≡ tally test self.old.rows) }
+        ensures stand { OnOk result ((r : Row) → stands r self.new.rows
+            ≡ (stands r self.old.rows || stands r more.now)) }
         ensures node { self.new.node ≡ self.old.node }
         ensures same { OnErr result (self.new ≡ self.old) }
     {
@@ -160,7 +174,10 @@ impl HashedRows {
 
     /// Takes the last row out.
     fn pop(&mut self)
-        ensures { self.new ≡ record { node = self.old.node; rows = take (length self.old.rows - 1) self.old.rows } }
+        ensures { self.new ≡ record {
+          node = self.old.node;
+          rows = take (length self.old.rows - 1) self.old.rows;
+        } }
     {
         let Some(row) = self.counts.pop() else {
             return;
@@ -176,7 +193,10 @@ impl HashedRows {
     /// Gives a row that is there a count.
     fn set(&mut self, row: &Row, count: u32)
         requires { stands row.now self.old.rows ≡ true }
-        ensures tallies { (test : Row → Bool) → tally test self.new.rows + cond (test row.now) (tally (is_row row.now.group row.now.pid) self.old.rows) 0 ≡ tally test self.old.rows + cond (test row.now) count 0 }
+        ensures tallies { (test : Row → Bool)
+            → tally test self.new.rows + cond (test row.now)
+            (tally (is_row row.now.group row.now.pid) self.old.rows) 0 ≡ tally test self.old.rows
+            + cond (test row.now) count 0 }
         ensures rows { bare_rows self.new.rows ≡ bare_rows self.old.rows }
         ensures counted { 0 < count → AreCounted self.old.rows → AreCounted self.new.rows }
         ensures node { self.new.node ≡ self.old.node }
@@ -190,7 +210,8 @@ impl HashedRows {
     pub fn raise(&mut self, row: &Row, more: u32)
         requires stands { stands row.now self.old.rows ≡ true }
         requires few { tally (is_row row.now.group row.now.pid) self.old.rows + more ≤ max_rows }
-        ensures tallies { (test : Row → Bool) → tally test self.new.rows ≡ tally test self.old.rows + cond (test row.now) more 0 }
+        ensures tallies { (test : Row → Bool) → tally test self.new.rows ≡ tally test self.old.rows
+            + cond (test row.now) more 0 }
         ensures rows { bare_rows self.new.rows ≡ bare_rows self.old.rows }
         ensures node { self.new.node ≡ self.old.node }
     {
@@ -211,9 +232,11 @@ impl HashedRows {
     /// Takes a row away, as often as it is counted here. Answers whether none is left of its group.
     pub fn lessen(&mut self, gone: &Counted) -> bool
         requires some { 0 < gone.now.count }
-        requires counted { gone.now.count ≤ tally (is_row gone.now.row.group gone.now.row.pid) self.old.rows }
+        requires counted { gone.now.count ≤ tally (is_row gone.now.row.group gone.now.row.pid)
+            self.old.rows }
         ensures taken { Joins (gone.now ∷ []) self.new.rows self.old.rows }
-        ensures last { AreCounted self.old.rows → result ≡ not (has_members gone.now.row.group self.new.node self.new.rows) }
+        ensures last { AreCounted self.old.rows
+            → result ≡ not (has_members gone.now.row.group self.new.node self.new.rows) }
         ensures counted { AreCounted self.old.rows → AreCounted self.new.rows }
         ensures node { self.new.node ≡ self.old.node }
     {
@@ -227,7 +250,8 @@ impl HashedRows {
 
     /// Each row stands once, so that all are counted where each that stands there is.
     pub fn each_once(&self)
-        ensures { ((r : Row) → stands r self.now.rows ≡ true → 0 < tally (is_row r.group r.pid) self.now.rows) → AreCounted self.now.rows }
+        ensures { ((r : Row) → stands r self.now.rows ≡ true
+            → 0 < tally (is_row r.group r.pid) self.now.rows) → AreCounted self.now.rows }
     {
         let _len = self.counts.len();
     }
@@ -236,8 +260,11 @@ impl HashedRows {
     /// is left of its group.
     fn remove(&mut self, row: &Row) -> bool
         requires { row.now.pid.node ≡ self.old.node }
-        ensures tallies { (test : Row → Bool) → tally test self.new.rows + cond (test row.now) (tally (is_row row.now.group row.now.pid) self.old.rows) 0 ≡ tally test self.old.rows }
-        ensures last { AreCounted self.old.rows → result ≡ not (has_members row.now.group self.new.node self.new.rows) }
+        ensures tallies { (test : Row → Bool)
+            → tally test self.new.rows + cond (test row.now)
+            (tally (is_row row.now.group row.now.pid) self.old.rows) 0 ≡ tally test self.old.rows }
+        ensures last { AreCounted self.old.rows
+            → result ≡ not (has_members row.now.group self.new.node self.new.rows) }
         ensures counted { AreCounted self.old.rows → AreCounted self.new.rows }
         ensures node { self.new.node ≡ self.old.node }
     {

@@ -50,7 +50,8 @@ fn copies_in_order(alloc: Global, rows: &[Row]) -> Result<Vec<Row>, OutOfMemory>
 /// Rows with their counts, unless one stands behind a higher one.
 fn counted_in_order(alloc: Global, rows: &[Row]) -> Result<Option<Vec<Counted>>, OutOfMemory>
     requires { HasRoomFor rows.now [] }
-    ensures added { IfOk result (λ found. IfSome found (λ counted. Adds rows.now [] counted.items)) }
+    ensures added { IfOk result (λ found.
+        IfSome found (λ counted. Adds rows.now [] counted.items)) }
     ensures kept { IfOk result (λ found. IfSome found (λ counted. IsKept counted.items)) }
 {
     let mut counted = Vec::with_capacity(alloc, rows.len())?;
@@ -70,7 +71,8 @@ fn counted_in_order(alloc: Global, rows: &[Row]) -> Result<Option<Vec<Counted>>,
 /// The same of rows that needn't be copied.
 fn counted_of(alloc: Global, rows: Vec<Row>) -> Result<Option<Vec<Counted>>, OutOfMemory>
     requires { HasRoomFor rows.items [] }
-    ensures added { IfOk result (λ found. IfSome found (λ counted. Adds rows.items [] counted.items)) }
+    ensures added { IfOk result (λ found.
+        IfSome found (λ counted. Adds rows.items [] counted.items)) }
     ensures kept { IfOk result (λ found. IfSome found (λ counted. IsKept counted.items)) }
 {
     let mut counted = Vec::with_capacity(alloc, rows.len())?;
@@ -86,7 +88,8 @@ fn counted_of(alloc: Global, rows: Vec<Row>) -> Result<Option<Vec<Counted>>, Out
 fn count_next(counted: &mut Vec<Counted>, row: Row) -> Result<bool, OutOfMemory>
     requires kept { IsKept counted.old.items }
     requires room { HasRoomFor (row ∷ []) counted.old.items }
-    ensures { IfOk result (λ next. next ≡ true → Adds (row ∷ []) counted.old.items counted.new.items × IsKept counted.new.items) }
+    ensures { IfOk result (λ next. next ≡ true → Adds (row ∷ []) counted.old.items counted.new.items
+        × IsKept counted.new.items) }
 {
     match order_behind(counted, &row) {
         Ordering::Less => counted.push(Counted { row, count: 1 })?,
@@ -99,8 +102,10 @@ fn count_next(counted: &mut Vec<Counted>, row: Row) -> Result<bool, OutOfMemory>
 /// How the last row stands to another: below it, where there is none.
 fn order_behind(counted: &[Counted], row: &Row) -> Ordering
     requires { Rises counted_cmp counted.now }
-    ensures behind { result ≡ Less → AllByRecursion (λ c. row_cmp c.row row.now ≡ Less) counted.now }
-    ensures again { result ≡ Equal → HoldsAt (λ c. c.row ≡ row.now) counted.now (length counted.now - 1) }
+    ensures behind { result ≡ Less → AllByRecursion (λ c. row_cmp c.row row.now
+        ≡ Less) counted.now }
+    ensures again { result ≡ Equal → HoldsAt (λ c. c.row ≡ row.now) counted.now (length counted.now
+        - 1) }
 {
     match counted.last() {
         Some(last) => last.row.cmp(row),
@@ -152,7 +157,8 @@ pub fn beyond(
 fn from<'a>(rows: &'a [Counted], row: &Row) -> &'a [Counted]
     requires { Rises counted_cmp rows.now }
     ensures rises { Rises counted_cmp result.now }
-    ensures low { (r : Row) → row_cmp r row.now ≢ Less → tally (is_row r.group r.pid) result.now ≡ tally (is_row r.group r.pid) rows.now }
+    ensures low { (r : Row) → row_cmp r row.now ≢ Less → tally (is_row r.group r.pid) result.now
+        ≡ tally (is_row r.group r.pid) rows.now }
     ensures first { AllByRecursion (λ c. row_cmp row.now c.row ≡ Less) (drop 1 result.now) }
 {
     let mut rest = rows;

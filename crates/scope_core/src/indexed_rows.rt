@@ -78,7 +78,8 @@ impl IndexedRows {
     /// The rows of a node in their order.
     pub fn in_order(&self, alloc: Global, node: &NodeName) -> Result<Vec<Counted>, OutOfMemory>
         ensures rises { IfOk result (λ rows. Rises counted_cmp rows.items) }
-        ensures counts { IfOk result (λ rows. (g : List ℕ) (p : Pid) → tally (is_row g p) rows.items ≡ cond (same p.node node.now) (tally (is_row g p) self.now) 0) }
+        ensures counts { IfOk result (λ rows. (g : List ℕ) (p : Pid) → tally (is_row g p) rows.items
+            ≡ cond (same p.node node.now) (tally (is_row g p) self.now) 0) }
     {
         match self.lists.get(node) {
             Some(list) => list.rows().in_order(),
@@ -89,7 +90,8 @@ impl IndexedRows {
     /// Whether these are the rows of the node in their order.
     pub fn are_just(&self, node: &NodeName, rows: &[Row]) -> bool
         requires { All (λ r. r.pid.node ≡ node.now) rows.now }
-        ensures { IsTrue result → (g : List ℕ) (p : Pid) → how_many (is_row g p) rows.now ≡ cond (same p.node node.now) (tally (is_row g p) self.now) 0 }
+        ensures { IsTrue result → (g : List ℕ) (p : Pid) → how_many (is_row g p) rows.now
+            ≡ cond (same p.node node.now) (tally (is_row g p) self.now) 0 }
     {
         match self.lists.get(node) {
             Some(list) => list.total() == rows.len() && list.rows().are_just(rows),
@@ -97,15 +99,20 @@ impl IndexedRows {
         }
     }
 
-    /// Puts the processes of a node in a group at the end of a list, each as often as it is counted.
+    /// Puts the processes of a node in a group at the end of a list, each as often as it is
+    /// counted.
     pub fn push_members(
         &self,
         pids: &mut Vec<Pid>,
         node: &NodeName,
         group: &Group,
     ) -> Result<(), OutOfMemory>
-        ensures counts { OnOk result ((p : Pid) → mentions p pids.new.items ≡ mentions p pids.old.items + cond (same node.now p.node) (tally (is_row group.now p) self.now) 0) }
-        ensures ascends { OnOk result (AllByRecursion (λ p. text_cmp p.node node.now ≡ Less) pids.old.items → Ascends pid_cmp pids.old.items → Ascends pid_cmp pids.new.items) }
+        ensures counts { OnOk result ((p : Pid) → mentions p pids.new.items
+            ≡ mentions p pids.old.items + cond (same node.now p.node)
+            (tally (is_row group.now p) self.now) 0) }
+        ensures ascends { OnOk result (AllByRecursion (λ p. text_cmp p.node node.now
+            ≡ Less) pids.old.items → Ascends pid_cmp pids.old.items
+            → Ascends pid_cmp pids.new.items) }
     {
         self.lists.push_members(pids, node, group)
     }
@@ -138,7 +145,8 @@ impl IndexedRows {
 
     /// The groups with a process, in their order.
     pub fn groups(&self, alloc: Global) -> Result<Vec<Group>, OutOfMemory>
-        ensures { IfOk result (λ groups. IsGroupListing (λ g p. tally (is_row g p) self.now) groups.items) }
+        ensures { IfOk result (λ groups. IsGroupListing (λ g p. tally (is_row g p) self.now)
+            groups.items) }
     {
         let groups = self.index.groups(alloc)?;
         Ok(groups)
@@ -146,7 +154,8 @@ impl IndexedRows {
 
     /// The processes of a group, in order, each as often as it is counted.
     pub fn members(&self, alloc: Global, group: &Group) -> Result<Vec<Pid>, OutOfMemory>
-        ensures { IfOk result (λ pids. IsPidListing (λ p. tally (is_row group.now p) self.now) pids.items) }
+        ensures { IfOk result (λ pids. IsPidListing (λ p. tally (is_row group.now p) self.now)
+            pids.items) }
     {
         let nodes = self.index.of(group);
         let pids = gathered(alloc, &self.lists, nodes, group)?;
@@ -162,9 +171,11 @@ impl IndexedRows {
     ) -> Result<(), OutOfMemory>
         requires list { IsNodeList node.now more.items }
         requires rises { Rises counted_cmp more.items }
-        requires few { tally (is_of_node node.now) self.old + tally (is_of_node node.now) more.items ≤ max_rows }
+        requires few { tally (is_of_node node.now) self.old + tally (is_of_node node.now) more.items
+            ≤ max_rows }
         requires changes { Covers changes.now node.now [] more.items }
-        requires named { (g : List ℕ) → is_named g changes.now ≡ true → has_members g node.now more.items ≡ true }
+        requires named { (g : List ℕ) → is_named g changes.now ≡ true
+            → has_members g node.now more.items ≡ true }
         ensures ok { OnOk result (Joins more.items self.old self.new) }
         ensures same { OnErr result (self.new ≡ self.old) }
     {
@@ -204,7 +215,8 @@ impl IndexedRows {
 
     /// The changes where all rows of a node leave.
     pub fn all_left(&self, alloc: Global, node: &NodeName) -> Result<Vec<GroupChange>, OutOfMemory>
-        ensures { IfOk result (λ changes. IsDifference (λ g p. tally (is_row g p) self.now) (λ g p. cond (same p.node node.now) 0 (tally (is_row g p) self.now)) changes.items) }
+        ensures { IfOk result (λ changes. IsDifference (λ g p. tally (is_row g p) self.now) (λ g p.
+            cond (same p.node node.now) 0 (tally (is_row g p) self.now)) changes.items) }
     {
         match self.lists.get(node) {
             Some(list) => list.rows().all_left(),
@@ -225,7 +237,8 @@ impl IndexedRows {
 
     /// The changes where a process leaves all groups.
     pub fn left_by(&self, alloc: Global, pid: &Pid) -> Result<Vec<GroupChange>, OutOfMemory>
-        ensures { IfOk result (λ changes. IsDifference (λ g p. tally (is_row g p) self.now) (λ g p. cond (same_pid p pid.now) 0 (tally (is_row g p) self.now)) changes.items) }
+        ensures { IfOk result (λ changes. IsDifference (λ g p. tally (is_row g p) self.now) (λ g p.
+            cond (same_pid p pid.now) 0 (tally (is_row g p) self.now)) changes.items) }
     {
         match self.lists.get(&pid.node) {
             Some(list) => list.rows().left_by(pid),
@@ -236,7 +249,8 @@ impl IndexedRows {
     /// Takes rows away, each as often as it is counted here.
     pub fn take_rows(&mut self, gone: &[Counted])
         requires kept { IsKept gone.now }
-        requires counted { AllByRecursion (λ c. c.count ≤ tally (is_row c.row.group c.row.pid) self.old) gone.now }
+        requires counted { AllByRecursion (λ c. c.count
+            ≤ tally (is_row c.row.group c.row.pid) self.old) gone.now }
         ensures { Joins gone.now self.new self.old }
     {
         for counted in gone {
@@ -244,14 +258,17 @@ impl IndexedRows {
         }
     }
 
-    /// Takes rows of a node away, which are counted here. Where it has no others, they needn't be looked up.
+    /// Takes rows of a node away, which are counted here. Where it has no others, they needn't be
+    /// looked up.
     pub fn take_listed(&mut self, node: &NodeName, rows: &[Row], counted: &[Counted])
         requires own { All (λ r. r.pid.node ≡ node.now) rows.now }
         requires there { IsTrue (are_all_in self.old rows.now) }
         requires counted { Adds rows.now [] counted.now }
         requires kept { IsKept counted.now }
-        ensures rows { (g : List ℕ) (p : Pid) → tally (is_row g p) self.old ≡ tally (is_row g p) self.new + how_many (is_row g p) rows.now }
-        ensures totals { (n : List ℕ) → tally (is_of_node n) self.old ≡ tally (is_of_node n) self.new + how_many (is_of_node n) rows.now }
+        ensures rows { (g : List ℕ) (p : Pid) → tally (is_row g p) self.old
+            ≡ tally (is_row g p) self.new + how_many (is_row g p) rows.now }
+        ensures totals { (n : List ℕ) → tally (is_of_node n) self.old
+            ≡ tally (is_of_node n) self.new + how_many (is_of_node n) rows.now }
     {
         if self.total_of(node) == rows.len() {
             self.remove_node(node);
@@ -263,7 +280,8 @@ impl IndexedRows {
     /// Takes a row away, as often as it is counted here.
     fn take(&mut self, gone: &Counted)
         requires some { 0 < gone.now.count }
-        requires counted { gone.now.count ≤ tally (is_row gone.now.row.group gone.now.row.pid) self.old }
+        requires counted { gone.now.count ≤ tally (is_row gone.now.row.group gone.now.row.pid)
+            self.old }
         ensures { Joins (gone.now ∷ []) self.new self.old }
     {
         if self.lists.take(gone) {
@@ -290,7 +308,8 @@ impl IndexedRows {
     /// Takes all rows of a node away, and gives them back.
     pub fn remove_node(&mut self, node: &NodeName) -> Option<NodeRows>
         ensures rest { self.new ≡ without_node node.now self.old }
-        ensures gone { IfSome result (λ list. (list.node ≡ node.now) × (list.rows ≡ of_node node.now self.old)) }
+        ensures gone { IfSome result (λ list. (list.node ≡ node.now)
+            × (list.rows ≡ of_node node.now self.old)) }
         ensures none { IfNone result (of_node node.now self.old ≡ []) }
     {
         let gone = self.lists.remove_node(node)?;

@@ -19,8 +19,11 @@ pub fn put_all(
     changes: &[GroupChange],
     node: &NodeName,
 ) -> Result<(), OutOfMemory>
-    ensures ok { OnOk result ((g n : List ℕ) → times_named index.new g n ≡ cond (same node.now n && is_named g changes.now) 1 (times_named index.old g n)) }
-    ensures some { OnErr result ((g n : List ℕ) → (b : Bool) × (times_named index.new g n ≡ cond (b && (same node.now n && is_named g changes.now)) 1 (times_named index.old g n))) }
+    ensures ok { OnOk result ((g n : List ℕ) → times_named index.new g n
+        ≡ cond (same node.now n && is_named g changes.now) 1 (times_named index.old g n)) }
+    ensures some { OnErr result ((g n : List ℕ) → (b : Bool)
+        × (times_named index.new g n ≡ cond (b && (same node.now n && is_named g changes.now)) 1
+        (times_named index.old g n))) }
 {
     for change in changes {
         index.put(&change.group, node)?;
@@ -30,7 +33,9 @@ pub fn put_all(
 
 /// The node is none of a group's in which it has no process.
 pub fn settle(lists: &NodeLists, index: &mut GroupNodes, group: &Group, node: &NodeName)
-    ensures { (g n : List ℕ) → times_named index.new g n ≡ cond ((same group.now g && same node.now n) && not (has_members g n lists.now)) 0 (times_named index.old g n) }
+    ensures { (g n : List ℕ) → times_named index.new g n
+        ≡ cond ((same group.now g && same node.now n) && not (has_members g n lists.now)) 0
+        (times_named index.old g n) }
 {
     if !lists.has_group(node, group) {
         index.take(group, node);
@@ -44,7 +49,9 @@ pub fn settle_all(
     changes: &[GroupChange],
     node: &NodeName,
 )
-    ensures { (g n : List ℕ) → times_named index.new g n ≡ cond ((is_named g changes.now && same node.now n) && not (has_members g n lists.now)) 0 (times_named index.old g n) }
+    ensures { (g n : List ℕ) → times_named index.new g n
+        ≡ cond ((is_named g changes.now && same node.now n) && not (has_members g n lists.now)) 0
+        (times_named index.old g n) }
 {
     for change in changes {
         settle(lists, index, &change.group, node);
@@ -53,8 +60,10 @@ pub fn settle_all(
 
 /// The node, whose rows these are, is no group's any more of which they are.
 pub fn unname(index: &mut GroupNodes, rows: &HashedRows, node: &NodeName)
-    ensures others { (g n : List ℕ) → same node.now n ≡ false → times_named index.new g n ≡ times_named index.old g n }
-    ensures own { (g : List ℕ) → times_named index.new g node.now ≤ cond (has_members g rows.now.node rows.now.rows) 0 (times_named index.old g node.now) }
+    ensures others { (g n : List ℕ) → same node.now n ≡ false → times_named index.new g n
+        ≡ times_named index.old g n }
+    ensures own { (g : List ℕ) → times_named index.new g node.now
+        ≤ cond (has_members g rows.now.node rows.now.rows) 0 (times_named index.old g node.now) }
 {
     for (group, _) in rows.groups().iter() {
         index.take(group, node);
@@ -69,7 +78,9 @@ pub fn gathered(
     group: &Group,
 ) -> Result<Vec<Pid>, OutOfMemory>
     requires { Rises text_cmp nodes.now }
-    ensures counts { IfOk result (λ pids. (p : Pid) → mentions p pids.items ≡ cond (nat_lt 0 (how_many (λ m. same m p.node) nodes.now)) (tally (is_row group.now p) lists.now) 0) }
+    ensures counts { IfOk result (λ pids. (p : Pid)
+        → mentions p pids.items ≡ cond (nat_lt 0 (how_many (λ m. same m p.node) nodes.now))
+        (tally (is_row group.now p) lists.now) 0) }
     ensures ascends { IfOk result (λ pids. Ascends pid_cmp pids.items) }
 {
     let mut pids = Vec::with_capacity(alloc, nodes.len())?;

@@ -20,14 +20,17 @@ pub fn gone_of(
     group: &Group,
     pids: &[Pid],
 ) -> Result<Vec<Pid>, OutOfMemory>
-    ensures { IfOk result (λ gone. IsPidListing (λ p. min (mentions p pids.now) (tally (is_row group.now p) rows.now)) gone.items) }
+    ensures { IfOk result (λ gone.
+        IsPidListing (λ p. min (mentions p pids.now) (tally (is_row group.now p) rows.now))
+        gone.items) }
 {
     let sorted = in_order(alloc, pids)?;
     let gone = gone_in_order(alloc, rows, group, &sorted)?;
     Ok(gone)
 }
 
-/// The same for processes in order. Those that are the same stand in a run, and their row is looked up once.
+/// The same for processes in order. Those that are the same stand in a run, and their row is looked
+/// up once.
 #[tactic(auto, using(crate::proofs::Mentioned::ascends_behind))]
 fn gone_in_order(
     alloc: Global,
@@ -36,7 +39,9 @@ fn gone_in_order(
     sorted: &[Pid],
 ) -> Result<Vec<Pid>, OutOfMemory>
     requires { Ascends pid_cmp sorted.now }
-    ensures { IfOk result (λ gone. IsPidListing (λ p. min (mentions p sorted.now) (tally (is_row group.now p) rows.now)) gone.items) }
+    ensures { IfOk result (λ gone.
+        IsPidListing (λ p. min (mentions p sorted.now) (tally (is_row group.now p) rows.now))
+        gone.items) }
 {
     let mut gone = Vec::with_capacity(alloc, sorted.len())?;
     let mut rest = sorted;
@@ -62,7 +67,8 @@ fn run_of(pids: &[Pid], pid: &Pid) -> usize
 
 /// The changes where all processes leave all groups.
 pub fn all_gone(alloc: Global, rows: &IndexedRows) -> Result<Vec<GroupChange>, OutOfMemory>
-    ensures { IfOk result (λ changes. IsDifference (λ g p. tally (is_row g p) rows.now) no_count changes.items) }
+    ensures { IfOk result (λ changes. IsDifference (λ g p. tally (is_row g p) rows.now) no_count
+        changes.items) }
 {
     let groups = rows.groups(alloc)?;
     let mut changes = Vec::with_capacity(alloc, groups.len())?;

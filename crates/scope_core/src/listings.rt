@@ -60,7 +60,8 @@ impl Listings {
         group: &Group,
         pids: &Shared<Pid>,
     ) -> Result<(), OutOfMemory>
-        ensures pids { OnOk result ((g : List ℕ) → kept_of self.new g ≡ cond (same group.now g) (Some pids.now) (kept_of self.old g)) }
+        ensures pids { OnOk result ((g : List ℕ) → kept_of self.new g
+            ≡ cond (same group.now g) (Some pids.now) (kept_of self.old g)) }
         ensures groups { OnOk result (self.new.groups ≡ self.old.groups) }
         ensures same { OnErr result (self.new ≡ self.old) }
     {
@@ -107,10 +108,12 @@ impl Listings {
         }
     }
 
-    /// Keeps no list of a group of these rows. What it keeps is right still where the other groups stay.
+    /// Keeps no list of a group of these rows. What it keeps is right still where the other groups
+    /// stay.
     pub fn forget_rows(&mut self, rows: &HashedRows)
         ensures { (before after : List ℕ → Pid → ℕ) → AreListings before self.old
-            → ((g : List ℕ) → has_members g rows.now.node rows.now.rows ≡ false → (p : Pid) → before g p ≡ after g p) → AreListings after self.new }
+            → ((g : List ℕ) → has_members g rows.now.node rows.now.rows ≡ false → (p : Pid)
+            → before g p ≡ after g p) → AreListings after self.new }
     {
         for (group, _) in rows.groups().iter() {
             self.forget(group);

@@ -13,12 +13,13 @@ ghost use Rattle.scope_core.specs.LoweredRows.{IsLowered};
 use crate::row_counts::RowCounts;
 use dist_types::Row;
 
-/// Whether each row stands in the list at most as often as it is counted. Counts are lowered as far as this goes, and raised
-/// again, so that it takes no memory.
+/// Whether each row stands in the list at most as often as it is counted. Counts are lowered as far
+/// as this goes, and raised again, so that it takes no memory.
 pub fn can_lower(counts: &mut RowCounts, gone: &[Row]) -> bool
     requires own { All (λ r. r.pid.node ≡ counts.old.node) gone.now }
     requires once { IsDistinct same_row (keys_of counts.old.entries) }
-    requires few { (r : Row) → tally (is_row r.group r.pid) (counted_in counts.old.entries) ≤ max_rows }
+    requires few { (r : Row) → tally (is_row r.group r.pid) (counted_in counts.old.entries)
+        ≤ max_rows }
     ensures value { result ≡ are_all_in (counted_in counts.old.entries) gone.now }
     ensures same { counts.new ≡ counts.old }
 {
@@ -37,7 +38,8 @@ fn lower_all(counts: &mut RowCounts, gone: &[Row]) -> usize
     ensures node { counts.new.node ≡ counts.old.node }
     ensures lowered { IsLowered (take result gone.now) counts.new.entries counts.old.entries }
     ensures within { result ≤ length gone.now }
-    ensures ended { result < length gone.now → HoldsAt (λ r. unwrap_or (lookup (same_row r) counts.new.entries) 0 ≡ 0) gone.now result }
+    ensures ended { result < length gone.now
+        → HoldsAt (λ r. unwrap_or (lookup (same_row r) counts.new.entries) 0 ≡ 0) gone.now result }
 {
     let mut lowered = 0;
     for row in gone {

@@ -17,8 +17,11 @@ pub fn put<A: Ord + Drop + TryClone, B: Ord + Drop, V: Drop>(
     inner: B,
     value: V,
 ) -> Result<(), OutOfMemory>
-    ensures ok { OnOk result ((a : A) (b : B) → find_in A.cmp B.cmp map.new a b ≡ cond (eq_by_cmp A.cmp outer.now a && eq_by_cmp B.cmp inner b) (Some value) (find_in A.cmp B.cmp map.old a b)) }
-    ensures same { OnErr result ((a : A) (b : B) → find_in A.cmp B.cmp map.new a b ≡ find_in A.cmp B.cmp map.old a b) }
+    ensures ok { OnOk result ((a : A) (b : B) → find_in A.cmp B.cmp map.new a b
+        ≡ cond (eq_by_cmp A.cmp outer.now a && eq_by_cmp B.cmp inner b) (Some value)
+        (find_in A.cmp B.cmp map.old a b)) }
+    ensures same { OnErr result ((a : A) (b : B) → find_in A.cmp B.cmp map.new a b
+        ≡ find_in A.cmp B.cmp map.old a b) }
 {
     let Some(place) = map.get_mut(outer) else {
         map.insert(outer.try_clone(alloc)?, SmallMap::One(inner, value))?;
@@ -33,7 +36,9 @@ pub fn take<A: Ord + Drop, B: Ord + Drop, V: Drop>(
     outer: &A,
     inner: &B,
 ) -> bool
-    ensures taken { (a : A) (b : B) → find_in A.cmp B.cmp map.new a b ≡ cond (eq_by_cmp A.cmp outer.now a && eq_by_cmp B.cmp inner.now b) None (find_in A.cmp B.cmp map.old a b) }
+    ensures taken { (a : A) (b : B) → find_in A.cmp B.cmp map.new a b
+        ≡ cond (eq_by_cmp A.cmp outer.now a && eq_by_cmp B.cmp inner.now b) None
+        (find_in A.cmp B.cmp map.old a b) }
     ensures none { IsTrue result → (b : B) → find_in A.cmp B.cmp map.new outer.now b ≡ None }
     ensures some { result ≡ false → (b : B) × IsSome (find_in A.cmp B.cmp map.new outer.now b) }
 {
@@ -63,7 +68,8 @@ pub fn pop<A: Ord + Drop, B: Ord + Drop, V: Drop>(
     ensures more { IfSome result (λ r. r.1 ≡ false
         → (b : B) × IsSome (find_in A.cmp B.cmp map.new outer.now b)) }
     ensures none { IfNone result ((b : B) → find_in A.cmp B.cmp map.old outer.now b ≡ None) }
-    ensures same { IfNone result ((a : A) (b : B) → find_in A.cmp B.cmp map.new a b ≡ find_in A.cmp B.cmp map.old a b) }
+    ensures same { IfNone result ((a : A) (b : B) → find_in A.cmp B.cmp map.new a b
+        ≡ find_in A.cmp B.cmp map.old a b) }
 {
     let Some(place) = map.get_mut(outer) else {
         return None;
@@ -86,7 +92,9 @@ pub fn set<A: Ord + Drop, B: Ord + Drop, V: Drop>(
     value: V,
 )
     requires { IsSome (find_in A.cmp B.cmp map.old outer.now inner.now) }
-    ensures { (a : A) (b : B) → find_in A.cmp B.cmp map.new a b ≡ cond (eq_by_cmp A.cmp outer.now a && eq_by_cmp B.cmp inner.now b) (Some value) (find_in A.cmp B.cmp map.old a b) }
+    ensures { (a : A) (b : B) → find_in A.cmp B.cmp map.new a b
+        ≡ cond (eq_by_cmp A.cmp outer.now a && eq_by_cmp B.cmp inner.now b) (Some value)
+        (find_in A.cmp B.cmp map.old a b) }
 {
     let Some(place) = map.get_mut(outer) else {
         return;

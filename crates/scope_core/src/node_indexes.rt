@@ -30,8 +30,10 @@ pub fn groups_of(
     rows: &[Counted],
 ) -> Result<BTreeMap<Group, SmallMap<ProcessKey, u32>>, OutOfMemory>
     requires { Rises counted_cmp rows.now }
-    ensures { IfOk result (λ groups. (node : List ℕ) → AllByRecursion (λ c. c.row.pid.node ≡ node) rows.now → (g : List ℕ) (k : ProcessKey)
-        → find_in text_cmp key_cmp groups g k ≡ lookup (same_row (row_at node g k)) (entries_in rows.now)) }
+    ensures { IfOk result (λ groups. (node : List ℕ)
+        → AllByRecursion (λ c. c.row.pid.node ≡ node) rows.now → (g : List ℕ) (k : ProcessKey)
+        → find_in text_cmp key_cmp groups g k
+        ≡ lookup (same_row (row_at node g k)) (entries_in rows.now)) }
 {
     let mut groups = Vec::new(alloc);
     let mut rest = rows;
@@ -48,7 +50,9 @@ pub fn groups_of(
 /// The processes of rows of one group.
 fn members_of(alloc: Global, rows: &[Counted]) -> Result<SmallMap<ProcessKey, u32>, OutOfMemory>
     requires { Rises counted_cmp rows.now }
-    ensures { IfOk result (λ members. (node g : List ℕ) → AllByRecursion (λ c. (c.row.pid.node ≡ node) × (c.row.group ≡ g)) rows.now → (k : ProcessKey)
+    ensures { IfOk result (λ members. (node g : List ℕ)
+        → AllByRecursion (λ c. (c.row.pid.node ≡ node) × (c.row.group ≡ g)) rows.now
+        → (k : ProcessKey)
         → find key_cmp members k ≡ lookup (same_row (row_at node g k)) (entries_in rows.now)) }
 {
     if let [only] = rows {
@@ -66,8 +70,10 @@ fn map_of<K: Ord + Drop, V: Drop>(
     alloc: Global,
     entries: Vec<(K, V)>,
 ) -> Result<BTreeMap<K, V>, OutOfMemory>
-    ensures found { IfOk result (λ map. IsDistinct (eq_by_cmp K.cmp) (keys_of entries.items) → (k : K) → get K.cmp map k ≡ lookup (λ q. is_eq (K.cmp k q)) entries.items) }
-    ensures there { IfOk result (λ map. (k : K) → is_some (get K.cmp map k) ≡ is_member (eq_by_cmp K.cmp) (keys_of entries.items) k) }
+    ensures found { IfOk result (λ map. IsDistinct (eq_by_cmp K.cmp) (keys_of entries.items)
+        → (k : K) → get K.cmp map k ≡ lookup (λ q. is_eq (K.cmp k q)) entries.items) }
+    ensures there { IfOk result (λ map. (k : K) → is_some (get K.cmp map k)
+        ≡ is_member (eq_by_cmp K.cmp) (keys_of entries.items) k) }
 {
     Ok(entries.into_iter().collect(alloc)?)
 }
@@ -78,7 +84,8 @@ pub fn processes_of(
     rows: &[Counted],
 ) -> Result<BTreeMap<ProcessKey, SmallMap<Group, ()>>, OutOfMemory>
     requires { Rises counted_cmp rows.now }
-    ensures { IfOk result (λ processes. (node : List ℕ) → AllByRecursion (λ c. c.row.pid.node ≡ node) rows.now → (k : ProcessKey) (g : List ℕ)
+    ensures { IfOk result (λ processes. (node : List ℕ)
+        → AllByRecursion (λ c. c.row.pid.node ≡ node) rows.now → (k : ProcessKey) (g : List ℕ)
         → is_some (find_in key_cmp text_cmp processes k g) ≡ stands (row_at node g k) rows.now) }
 {
     // Those of one group rise as their processes do.
@@ -151,7 +158,8 @@ fn folded(
 ) -> Result<Vec<(ProcessKey, SmallMap<Group, ()>)>, OutOfMemory>
     requires { Ascends key_cmp (keys_of names.now) }
     ensures rises { IfOk result (λ all. Rises key_cmp (keys_of all.items)) }
-    ensures held { IfOk result (λ all. (k : ProcessKey) (g : List ℕ) → is_held k g all.items ≡ is_keyed k g names.now) }
+    ensures held { IfOk result (λ all. (k : ProcessKey) (g : List ℕ)
+        → is_held k g all.items ≡ is_keyed k g names.now) }
 {
     let mut all = Vec::with_capacity(alloc, names.len())?;
     let mut rest = names;
@@ -168,7 +176,8 @@ fn folded(
 fn run_under(names: &[(ProcessKey, Group)], key: &ProcessKey) -> usize
     ensures bound { result ≤ length names.now }
     ensures run { AllWithin (λ n. is_eq (key_cmp n.0 key.now) ≡ true) names.now 0 result }
-    ensures end { result < length names.now → HoldsAt (λ n. is_eq (key_cmp n.0 key.now) ≡ false) names.now result }
+    ensures end { result < length names.now
+        → HoldsAt (λ n. is_eq (key_cmp n.0 key.now) ≡ false) names.now result }
 {
     for (len, name) in names.iter().enumerate() {
         if name.0 != *key {
@@ -183,7 +192,8 @@ fn names_in(
     alloc: Global,
     names: &[(ProcessKey, Group)],
 ) -> Result<SmallMap<Group, ()>, OutOfMemory>
-    ensures { IfOk result (λ groups. (g : List ℕ) → is_some (find text_cmp groups g) ≡ list_any (λ n. eq_by_cmp text_cmp n.1 g) names.now) }
+    ensures { IfOk result (λ groups. (g : List ℕ) → is_some (find text_cmp groups g)
+        ≡ list_any (λ n. eq_by_cmp text_cmp n.1 g) names.now) }
 {
     if let [only] = names {
         return Ok(SmallMap::One(only.1.try_clone(alloc)?, ()));
@@ -204,10 +214,18 @@ pub fn name(
     count: u32,
 ) -> Result<(), OutOfMemory>
     requires { find_in text_cmp key_cmp groups.old row.now.group (key_of row.now.pid) ≡ None }
-    ensures groups { OnOk result ((g : List ℕ) (k : ProcessKey) → find_in text_cmp key_cmp groups.new g k ≡ cond (eq_by_cmp text_cmp row.now.group g && eq_by_cmp key_cmp (key_of row.now.pid) k) (Some count) (find_in text_cmp key_cmp groups.old g k)) }
-    ensures processes { OnOk result ((k : ProcessKey) (g : List ℕ) → find_in key_cmp text_cmp processes.new k g ≡ cond (eq_by_cmp key_cmp (key_of row.now.pid) k && eq_by_cmp text_cmp row.now.group g) (Some tt) (find_in key_cmp text_cmp processes.old k g)) }
-    ensures same_groups { OnErr result ((g : List ℕ) (k : ProcessKey) → find_in text_cmp key_cmp groups.new g k ≡ find_in text_cmp key_cmp groups.old g k) }
-    ensures same_processes { OnErr result ((k : ProcessKey) (g : List ℕ) → find_in key_cmp text_cmp processes.new k g ≡ find_in key_cmp text_cmp processes.old k g) }
+    ensures groups { OnOk result ((g : List ℕ) (k : ProcessKey)
+        → find_in text_cmp key_cmp groups.new g k
+        ≡ cond (eq_by_cmp text_cmp row.now.group g && eq_by_cmp key_cmp (key_of row.now.pid) k)
+        (Some count) (find_in text_cmp key_cmp groups.old g k)) }
+    ensures processes { OnOk result ((k : ProcessKey) (g : List ℕ)
+        → find_in key_cmp text_cmp processes.new k g
+        ≡ cond (eq_by_cmp key_cmp (key_of row.now.pid) k && eq_by_cmp text_cmp row.now.group g)
+        (Some tt) (find_in key_cmp text_cmp processes.old k g)) }
+    ensures same_groups { OnErr result ((g : List ℕ) (k : ProcessKey)
+        → find_in text_cmp key_cmp groups.new g k ≡ find_in text_cmp key_cmp groups.old g k) }
+    ensures same_processes { OnErr result ((k : ProcessKey) (g : List ℕ)
+        → find_in key_cmp text_cmp processes.new k g ≡ find_in key_cmp text_cmp processes.old k g) }
 {
     let key = ProcessKey::of(&row.pid);
     let group = row.group.try_clone(alloc)?;
@@ -226,10 +244,16 @@ pub fn forget(
     group: &Group,
     key: &ProcessKey,
 ) -> bool
-    ensures groups { (g : List ℕ) (k : ProcessKey) → find_in text_cmp key_cmp groups.new g k ≡ cond (eq_by_cmp text_cmp group.now g && eq_by_cmp key_cmp key.now k) None (find_in text_cmp key_cmp groups.old g k) }
-    ensures processes { (k : ProcessKey) (g : List ℕ) → find_in key_cmp text_cmp processes.new k g ≡ cond (eq_by_cmp key_cmp key.now k && eq_by_cmp text_cmp group.now g) None (find_in key_cmp text_cmp processes.old k g) }
-    ensures none { IsTrue result → (k : ProcessKey) → find_in text_cmp key_cmp groups.new group.now k ≡ None }
-    ensures some { result ≡ false → (k : ProcessKey) × IsSome (find_in text_cmp key_cmp groups.new group.now k) }
+    ensures groups { (g : List ℕ) (k : ProcessKey) → find_in text_cmp key_cmp groups.new g k
+        ≡ cond (eq_by_cmp text_cmp group.now g && eq_by_cmp key_cmp key.now k) None
+        (find_in text_cmp key_cmp groups.old g k) }
+    ensures processes { (k : ProcessKey) (g : List ℕ) → find_in key_cmp text_cmp processes.new k g
+        ≡ cond (eq_by_cmp key_cmp key.now k && eq_by_cmp text_cmp group.now g) None
+        (find_in key_cmp text_cmp processes.old k g) }
+    ensures none { IsTrue result → (k : ProcessKey)
+        → find_in text_cmp key_cmp groups.new group.now k ≡ None }
+    ensures some { result ≡ false → (k : ProcessKey)
+        × IsSome (find_in text_cmp key_cmp groups.new group.now k) }
 {
     let is_last = take(groups, group, key);
     take(processes, key, group);

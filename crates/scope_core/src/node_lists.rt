@@ -19,7 +19,8 @@ use indexmap::IndexMap;
 use std::alloc::Global;
 use std::marker::Model;
 
-/// Rows, those of a node beside one another. What a call does to one node's rows it does to these alone.
+/// Rows, those of a node beside one another. What a call does to one node's rows it does to these
+/// alone.
 #[derive(Debug, Drop)]
 pub struct NodeLists {
     alloc: Global,
@@ -75,15 +76,20 @@ impl NodeLists {
         }
     }
 
-    /// Puts the processes of a node in a group at the end of a list, each as often as it is counted.
+    /// Puts the processes of a node in a group at the end of a list, each as often as it is
+    /// counted.
     pub fn push_members(
         &self,
         pids: &mut Vec<Pid>,
         node: &NodeName,
         group: &Group,
     ) -> Result<(), OutOfMemory>
-        ensures counts { OnOk result ((p : Pid) → mentions p pids.new.items ≡ mentions p pids.old.items + cond (same node.now p.node) (tally (is_row group.now p) self.now) 0) }
-        ensures ascends { OnOk result (AllByRecursion (λ p. text_cmp p.node node.now ≡ Less) pids.old.items → Ascends pid_cmp pids.old.items → Ascends pid_cmp pids.new.items) }
+        ensures counts { OnOk result ((p : Pid) → mentions p pids.new.items
+            ≡ mentions p pids.old.items + cond (same node.now p.node)
+            (tally (is_row group.now p) self.now) 0) }
+        ensures ascends { OnOk result (AllByRecursion (λ p. text_cmp p.node node.now
+            ≡ Less) pids.old.items → Ascends pid_cmp pids.old.items
+            → Ascends pid_cmp pids.new.items) }
     {
         match self.get(node) {
             Some(list) => list.rows().push_members(pids, group),
@@ -113,7 +119,8 @@ impl NodeLists {
     pub fn join(&mut self, node: &NodeName, more: Vec<Counted>) -> Result<(), OutOfMemory>
         requires list { IsNodeList node.now more.items }
         requires rises { Rises counted_cmp more.items }
-        requires few { tally (is_of_node node.now) self.old + tally (is_of_node node.now) more.items ≤ max_rows }
+        requires few { tally (is_of_node node.now) self.old + tally (is_of_node node.now) more.items
+            ≤ max_rows }
         ensures ok { OnOk result (Joins more.items self.old self.new) }
         ensures same { OnErr result (self.new ≡ self.old) }
     {
@@ -140,7 +147,8 @@ impl NodeLists {
         Ok(())
     }
 
-    /// Whether each of a node's rows stands among these at most as often as it is counted. It takes no memory.
+    /// Whether each of a node's rows stands among these at most as often as it is counted. It takes
+    /// no memory.
     pub fn are_all_in(&mut self, node: &NodeName, gone: &[Row]) -> bool
         requires { All (λ r. r.pid.node ≡ node.now) gone.now }
         ensures value { result ≡ are_all_in self.old gone.now }
@@ -152,12 +160,15 @@ impl NodeLists {
         list.are_all_in(gone)
     }
 
-    /// Takes a row away, as often as it is counted here. Answers whether its node has none of its group any more.
+    /// Takes a row away, as often as it is counted here. Answers whether its node has none of its
+    /// group any more.
     pub fn take(&mut self, gone: &Counted) -> bool
         requires some { 0 < gone.now.count }
-        requires counted { gone.now.count ≤ tally (is_row gone.now.row.group gone.now.row.pid) self.old }
+        requires counted { gone.now.count ≤ tally (is_row gone.now.row.group gone.now.row.pid)
+            self.old }
         ensures taken { Joins (gone.now ∷ []) self.new self.old }
-        ensures last { result ≡ not (has_members gone.now.row.group gone.now.row.pid.node self.new) }
+        ensures last { result
+            ≡ not (has_members gone.now.row.group gone.now.row.pid.node self.new) }
     {
         let Some(list) = self.lists.get_mut(&gone.row.pid.node) else {
             return true;
@@ -185,7 +196,8 @@ impl NodeLists {
     /// Takes all rows of a node away, and gives them back.
     pub fn remove_node(&mut self, node: &NodeName) -> Option<NodeRows>
         ensures rest { self.new ≡ without_node node.now self.old }
-        ensures gone { IfSome result (λ list. (list.node ≡ node.now) × (list.rows ≡ of_node node.now self.old)) }
+        ensures gone { IfSome result (λ list. (list.node ≡ node.now)
+            × (list.rows ≡ of_node node.now self.old)) }
         ensures none { IfNone result (of_node node.now self.old ≡ []) }
     {
         self.lists.shift_remove(node)

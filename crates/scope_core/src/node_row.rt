@@ -36,7 +36,8 @@ impl<'a> NodeRowKey<'a> {
 }
 
 impl Equivalent<NodeRow> for NodeRowKey<'_> {
-    ghost equivalent = { λ q row. same_node_row (record { group = q.group.now; process = q.process }) row };
+    ghost equivalent = { λ q row.
+        same_node_row (record { group = q.group.now; process = q.process }) row };
 
     ghost respects_hash = { Prim.search (hashing, rules) };
 

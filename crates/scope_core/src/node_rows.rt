@@ -15,7 +15,8 @@ use dist_types::{NodeName, OutOfMemory, Pid, Row};
 use std::alloc::Global;
 use std::marker::Model;
 
-/// Rows of one node, each counted; with their total, which is asked for more often than the rows are gone over.
+/// Rows of one node, each counted; with their total, which is asked for more often than the rows
+/// are gone over.
 #[derive(Debug, Drop)]
 pub struct NodeRows {
     rows: HashedRows,
@@ -65,7 +66,8 @@ impl NodeRows {
     /// Puts rows in: all of them, or none.
     pub fn join(&mut self, more: &[Counted]) -> Result<(), OutOfMemory>
         requires list { IsNodeList self.old.node more.now }
-        requires few { total (λ c. c.count) self.old.rows + total (λ c. c.count) more.now ≤ max_rows }
+        requires few { total (λ c. c.count) self.old.rows + total (λ c. c.count) more.now
+            ≤ max_rows }
         ensures ok { OnOk result (Joins more.now self.old.rows self.new.rows) }
         ensures list { IsNodeList self.new.node self.new.rows }
         ensures node { self.new.node ≡ self.old.node }
@@ -96,7 +98,8 @@ impl NodeRows {
     /// Takes a row away, as often as it is counted here. Answers whether none is left of its group.
     pub fn take(&mut self, gone: &Counted) -> bool
         requires some { 0 < gone.now.count }
-        requires counted { gone.now.count ≤ tally (is_row gone.now.row.group gone.now.row.pid) self.old.rows }
+        requires counted { gone.now.count ≤ tally (is_row gone.now.row.group gone.now.row.pid)
+            self.old.rows }
         ensures taken { Joins (gone.now ∷ []) self.new.rows self.old.rows }
         ensures last { result ≡ not (has_members gone.now.row.group self.new.node self.new.rows) }
         ensures list { IsNodeList self.new.node self.new.rows }

@@ -27,7 +27,8 @@ impl ScopeTable {
         self.rows.count(group, pid) as usize
     }
 
-    /// The processes of a group, in a list that is made once for all who ask until the group changes.
+    /// The processes of a group, in a list that is made once for all who ask until the group
+    /// changes.
     pub fn listing(&mut self, group: &Group) -> Result<Shared<Pid>, OutOfMemory>
         ensures value { IfOk result (λ pids. IsPidListing (count_of self.old group.now) pids) }
         ensures same { self.new ≡ self.old }
@@ -54,7 +55,8 @@ impl ScopeTable {
 
     /// The own processes of a group.
     pub fn local_members(&self, group: &Group) -> Result<Vec<Pid>, OutOfMemory>
-        ensures value { IfOk result (λ pids. IsPidListing (local_count self.now group.now) pids.items) }
+        ensures value { IfOk result (λ pids.
+            IsPidListing (local_count self.now group.now) pids.items) }
         ensures limits { IfOk result (λ pids. length pids.items ≤ local_total self.now) }
     {
         let mut pids = Vec::new(self.alloc);
@@ -65,7 +67,9 @@ impl ScopeTable {
     /// The own processes that a leave of these takes from a group, each as often as it leaves.
     pub fn leaving(&self, group: &Group, pids: &[Pid]) -> Result<Vec<Pid>, OutOfMemory>
         requires { All (λ p. p.node ≡ self.now.own) pids.now }
-        ensures value { IfOk result (λ gone. IsPidListing (λ p. min (mentions p pids.now) (local_count self.now group.now p)) gone.items) }
+        ensures value { IfOk result (λ gone.
+            IsPidListing (λ p. min (mentions p pids.now) (local_count self.now group.now p))
+            gone.items) }
         ensures limits { IfOk result (λ gone. length gone.items ≤ local_total self.now) }
     {
         let gone = gone_of(self.alloc, &self.rows, group, pids)?;
@@ -80,7 +84,8 @@ impl ScopeTable {
         Ok(groups)
     }
 
-    /// The groups with a process, in a list that is made once for all who ask until rows of the table change.
+    /// The groups with a process, in a list that is made once for all who ask until rows of the
+    /// table change.
     pub fn group_listing(&mut self) -> Result<Shared<Group>, OutOfMemory>
         ensures value { IfOk result (λ groups. IsGroupListing (count_of self.old) groups) }
         ensures same { self.new ≡ self.old }

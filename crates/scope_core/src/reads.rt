@@ -56,7 +56,10 @@ pub fn groups_of(alloc: Global, rows: &[Counted]) -> Result<Vec<Group>, OutOfMem
 
 /// Puts the group of a row that is counted at the end, unless it is the last.
 fn push_group(alloc: Global, groups: &mut Vec<Group>, counted: &Counted) -> Result<(), OutOfMemory>
-    ensures { OnOk result (groups.new.items ≡ groups.old.items ++ cond (nat_lt 0 counted.now.count && differs (last_of groups.old.items) counted.now.row.group) (counted.now.row.group ∷ []) []) }
+    ensures { OnOk result (groups.new.items ≡ groups.old.items
+        ++ cond (nat_lt 0 counted.now.count
+        && differs (last_of groups.old.items) counted.now.row.group) (counted.now.row.group
+        ∷ []) []) }
 {
     if begins_group(counted, groups) {
         groups.push(counted.row.group.try_clone(alloc)?)?;
@@ -66,7 +69,8 @@ fn push_group(alloc: Global, groups: &mut Vec<Group>, counted: &Counted) -> Resu
 
 /// Whether the row is counted, and its group isn't the last of these.
 fn begins_group(counted: &Counted, groups: &[Group]) -> bool
-    ensures { result ≡ (nat_lt 0 counted.now.count && differs (last_of groups.now) counted.now.row.group) }
+    ensures { result ≡ (nat_lt 0 counted.now.count
+        && differs (last_of groups.now) counted.now.row.group) }
 {
     counted.count > 0 && groups.last() != Some(&counted.row.group)
 }
@@ -101,7 +105,8 @@ pub fn push_one<T: Drop>(items: &mut Vec<T>, item: T) -> Result<(), OutOfMemory>
 pub fn run_of(rows: &[Counted], group: &Group) -> usize
     ensures bound { result ≤ length rows.now }
     ensures run { AllWithin (λ c. is_in group.now c ≡ true) rows.now 0 result }
-    ensures end { result < length rows.now → HoldsAt (λ c. is_in group.now c ≡ false) rows.now result }
+    ensures end { result < length rows.now
+        → HoldsAt (λ c. is_in group.now c ≡ false) rows.now result }
 {
     for (len, counted) in rows.iter().enumerate() {
         if counted.row.group != *group {

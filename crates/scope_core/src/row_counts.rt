@@ -31,7 +31,10 @@ impl Model for RowCounts {
 
     ghost Value = { NodeCounts };
 
-    ghost view = { λ rows. record { node = rows.node; entries = rows_at rows.node rows.counts.entries } };
+    ghost view = { λ rows. record {
+      node = rows.node;
+      entries = rows_at rows.node rows.counts.entries;
+    } };
 }
 
 impl RowCounts {
@@ -39,7 +42,10 @@ impl RowCounts {
     pub fn of(alloc: Global, node: NodeName, rows: Vec<Counted>) -> Result<RowCounts, OutOfMemory>
         requires own { AllByRecursion (λ c. c.row.pid.node ≡ node) rows.items }
         requires rises { Rises counted_cmp rows.items }
-        ensures { IfOk result (λ made. made ≡ record { node = node; entries = entries_in rows.items }) }
+        ensures { IfOk result (λ made. made ≡ record {
+          node = node;
+          entries = entries_in rows.items;
+        }) }
     {
         let mut counts = IndexMap::with_capacity(alloc, rows.len())?;
         for Counted { row, count } in rows {
@@ -71,7 +77,8 @@ impl RowCounts {
     /// How often a process of the node is in the group.
     pub fn get(&self, group: &Group, pid: &Pid) -> u32
         requires { pid.now.node ≡ self.now.node }
-        ensures { result ≡ unwrap_or (lookup (same_row (row_in group.now pid.now)) self.now.entries) 0 }
+        ensures { result ≡ unwrap_or (lookup (same_row (row_in group.now pid.now))
+            self.now.entries) 0 }
     {
         let at = NodeRowKey::of(group, pid);
         self.counts.get(at).copied().unwrap_or(0)
@@ -102,9 +109,15 @@ impl RowCounts {
 
     /// Takes the last row out.
     pub fn pop(&mut self) -> Option<NodeRow>
-        ensures shorter { self.new ≡ record { node = self.old.node; entries = take (length self.old.entries - 1) self.old.entries } }
-        ensures last { IfSome result (λ row. has_row self.old.entries (row_at self.old.node row.group row.process) ≡ true) }
-        ensures written { IfSome result (λ row. Writes (row_at self.old.node row.group row.process) None self.old.entries self.new.entries) }
+        ensures shorter { self.new ≡ record {
+          node = self.old.node;
+          entries = take (length self.old.entries - 1) self.old.entries;
+        } }
+        ensures last { IfSome result (λ row.
+            has_row self.old.entries (row_at self.old.node row.group row.process) ≡ true) }
+        ensures written { IfSome result (λ row.
+            Writes (row_at self.old.node row.group row.process) None self.old.entries
+            self.new.entries) }
         ensures once { IsDistinct same_row (keys_of self.new.entries) }
         ensures none { IfNone result (self.new ≡ self.old) }
     {
@@ -116,7 +129,8 @@ impl RowCounts {
     pub fn take(&mut self, group: &Group, pid: &Pid) -> Option<Membership>
         requires { pid.now.node ≡ self.old.node }
         ensures group { IfSome result (λ m. m.group ≡ group.now) }
-        ensures count { option_map (λ m. m.count) result ≡ lookup (same_row (row_in group.now pid.now)) self.old.entries }
+        ensures count { option_map (λ m. m.count) result
+            ≡ lookup (same_row (row_in group.now pid.now)) self.old.entries }
         ensures written { Writes (row_in group.now pid.now) None self.old.entries self.new.entries }
         ensures fewer { IfSome result (λ _. length self.new.entries + 1 ≡ length self.old.entries) }
         ensures none { IfNone result (self.new ≡ self.old) }
@@ -152,7 +166,8 @@ impl RowCounts {
         requires { row.now.pid.node ≡ self.old.node }
         ensures lowered { IsTrue result → self.old.entries ≡ once_more row.now self.new.entries }
         ensures there { IsTrue result → IsSome (lookup (same_row row.now) self.new.entries) }
-        ensures none { result ≡ false → (self.new ≡ self.old) × (unwrap_or (lookup (same_row row.now) self.old.entries) 0 ≡ 0) }
+        ensures none { result ≡ false → (self.new ≡ self.old)
+            × (unwrap_or (lookup (same_row row.now) self.old.entries) 0 ≡ 0) }
         ensures node { self.new.node ≡ self.old.node }
     {
         let at = NodeRowKey::of(&row.group, &row.pid);
@@ -170,7 +185,10 @@ impl RowCounts {
     pub fn raise(&mut self, row: &Row)
         requires own { row.now.pid.node ≡ self.old.node }
         requires few { IfSome (lookup (same_row row.now) self.old.entries) (λ n. n < max_rows) }
-        ensures { self.new ≡ record { node = self.old.node; entries = once_more row.now self.old.entries } }
+        ensures { self.new ≡ record {
+          node = self.old.node;
+          entries = once_more row.now self.old.entries;
+        } }
     {
         let at = NodeRowKey::of(&row.group, &row.pid);
         let Some(count) = self.counts.get_mut(at) else {

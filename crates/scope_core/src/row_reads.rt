@@ -41,15 +41,20 @@ impl HashedRows {
 
     /// The groups of which there are rows.
     pub fn groups(&self) -> &BTreeMap<Group, SmallMap<ProcessKey, u32>>
-        ensures { (g : List ℕ) → IsTrue (has_members g self.now.node self.now.rows) → IsSome (get text_cmp result.now g) }
+        ensures { (g : List ℕ) → IsTrue (has_members g self.now.node self.now.rows)
+            → IsSome (get text_cmp result.now g) }
     {
         &self.groups
     }
 
     /// Puts the processes of a group at the end of a list, each as often as it is counted.
     pub fn push_members(&self, pids: &mut Vec<Pid>, group: &Group) -> Result<(), OutOfMemory>
-        ensures counts { OnOk result ((p : Pid) → mentions p pids.new.items ≡ mentions p pids.old.items + cond (same self.now.node p.node) (tally (is_row group.now p) self.now.rows) 0) }
-        ensures ascends { OnOk result (AllByRecursion (λ p. text_cmp p.node self.now.node ≡ Less) pids.old.items → Ascends pid_cmp pids.old.items → Ascends pid_cmp pids.new.items) }
+        ensures counts { OnOk result ((p : Pid) → mentions p pids.new.items
+            ≡ mentions p pids.old.items + cond (same self.now.node p.node)
+            (tally (is_row group.now p) self.now.rows) 0) }
+        ensures ascends { OnOk result (AllByRecursion (λ p. text_cmp p.node self.now.node
+            ≡ Less) pids.old.items → Ascends pid_cmp pids.old.items
+            → Ascends pid_cmp pids.new.items) }
     {
         let Some(members) = self.groups.get(group) else {
             return Ok(());
@@ -61,7 +66,9 @@ impl HashedRows {
     pub fn all_left(&self) -> Result<Vec<GroupChange>, OutOfMemory>
         requires { AreCounted self.now.rows }
         ensures { IfOk result (λ changes. (before after : List ℕ → Pid → ℕ)
-            → ((g : List ℕ) (p : Pid) → before g p - after g p ≡ tally (is_row g p) self.now.rows) → ((g : List ℕ) (p : Pid) → after g p - before g p ≡ 0) → IsDifference before after changes.items) }
+            → ((g : List ℕ) (p : Pid) → before g p - after g p ≡ tally (is_row g p) self.now.rows)
+            → ((g : List ℕ) (p : Pid) → after g p - before g p ≡ 0)
+            → IsDifference before after changes.items) }
     {
         let mut changes = Vec::with_capacity(self.alloc, self.groups.len())?;
         for (group, members) in self.groups.iter() {
@@ -76,7 +83,8 @@ impl HashedRows {
     /// The rows in their order.
     pub fn in_order(&self) -> Result<Vec<Counted>, OutOfMemory>
         ensures rises { IfOk result (λ rows. Rises counted_cmp rows.items) }
-        ensures counts { IfOk result (λ rows. (g : List ℕ) (p : Pid) → tally (is_row g p) rows.items ≡ tally (is_row g p) self.now.rows) }
+        ensures counts { IfOk result (λ rows. (g : List ℕ) (p : Pid) → tally (is_row g p) rows.items
+            ≡ tally (is_row g p) self.now.rows) }
     {
         let mut rows = Vec::with_capacity(self.alloc, self.counts.len())?;
         for (group, members) in self.groups.iter() {
@@ -102,7 +110,10 @@ impl HashedRows {
         requires own { pid.now.node ≡ self.now.node }
         requires counted { AreCounted self.now.rows }
         ensures { IfOk result (λ changes. (before after : List ℕ → Pid → ℕ)
-            → ((g : List ℕ) (p : Pid) → before g p - after g p ≡ cond (same_pid p pid.now) (tally (is_row g p) self.now.rows) 0) → ((g : List ℕ) (p : Pid) → after g p - before g p ≡ 0) → IsDifference before after changes.items) }
+            → ((g : List ℕ) (p : Pid) → before g p - after g p
+            ≡ cond (same_pid p pid.now) (tally (is_row g p) self.now.rows) 0)
+            → ((g : List ℕ) (p : Pid) → after g p - before g p ≡ 0)
+            → IsDifference before after changes.items) }
     {
         let Some(groups) = self.processes.get(&ProcessKey::of(pid)) else {
             return Ok(Vec::new(self.alloc));
@@ -121,8 +132,10 @@ impl HashedRows {
         pid: &Pid,
     ) -> Result<Vec<GroupChange>, OutOfMemory>
         requires { pid.now.node ≡ self.now.node }
-        ensures changes { IfOk result (λ changes. changes.items ≡ changes_left_by self.now.rows pid.now (keys_of (entries_of groups.now))) }
-        ensures ordered { IfOk result (λ _. IsStrictlySortedBy text_cmp (keys_of (entries_of groups.now))) }
+        ensures changes { IfOk result (λ changes. changes.items
+            ≡ changes_left_by self.now.rows pid.now (keys_of (entries_of groups.now))) }
+        ensures ordered { IfOk result (λ _.
+            IsStrictlySortedBy text_cmp (keys_of (entries_of groups.now))) }
     {
         match groups {
             SmallMap::Empty => Ok(Vec::new(self.alloc)),
@@ -144,7 +157,8 @@ impl HashedRows {
     /// Copies of a process, as many as it is counted in a group.
     fn copies(&self, group: &Group, pid: &Pid) -> Result<Vec<Pid>, OutOfMemory>
         requires { pid.now.node ≡ self.now.node }
-        ensures { IfOk result (λ pids. pids.items ≡ replicate (tally (is_row group.now pid.now) self.now.rows) pid.now) }
+        ensures { IfOk result (λ pids. pids.items
+            ≡ replicate (tally (is_row group.now pid.now) self.now.rows) pid.now) }
     {
         let count = self.count(group, pid) as usize;
         let mut pids = Vec::with_capacity(self.alloc, count)?;
@@ -155,7 +169,8 @@ impl HashedRows {
     /// Whether these are the rows of the node in their order, each as often as it is counted.
     pub fn are_just(&self, rows: &[Row]) -> bool
         requires { All (λ r. r.pid.node ≡ self.now.node) rows.now }
-        ensures { IsTrue result → (g : List ℕ) (p : Pid) → how_many (is_row g p) rows.now ≡ tally (is_row g p) self.now.rows }
+        ensures { IsTrue result → (g : List ℕ) (p : Pid) → how_many (is_row g p) rows.now
+            ≡ tally (is_row g p) self.now.rows }
     {
         let mut rest = rows;
         for (group, members) in self.groups.iter() {

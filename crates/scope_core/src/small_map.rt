@@ -62,7 +62,8 @@ impl<K: Ord + Drop, V: Drop> SmallMap<K, V> {
 
     /// Puts a value at the key.
     pub fn insert(&mut self, alloc: Global, key: K, value: V) -> Result<(), OutOfMemory>
-        ensures ok { OnOk result ((k : K) → find K.cmp self.new k ≡ cond (eq_by_cmp K.cmp key k) (Some value) (find K.cmp self.old k)) }
+        ensures ok { OnOk result ((k : K) → find K.cmp self.new k
+            ≡ cond (eq_by_cmp K.cmp key k) (Some value) (find K.cmp self.old k)) }
         ensures same { OnErr result ((k : K) → find K.cmp self.new k ≡ find K.cmp self.old k) }
     {
         match mem::replace(self, SmallMap::Empty) {
@@ -90,8 +91,11 @@ impl<K: Ord + Drop, V: Drop> SmallMap<K, V> {
         key: K,
         value: V,
     ) -> Result<(), OutOfMemory>
-        ensures ok { OnOk result ((k : K) → find K.cmp self.new k ≡ cond (eq_by_cmp K.cmp key k) (Some value) (cond (is_eq (K.cmp k only)) (Some held) None)) }
-        ensures same { OnErr result ((k : K) → find K.cmp self.new k ≡ cond (is_eq (K.cmp k only)) (Some held) None) }
+        ensures ok { OnOk result ((k : K) → find K.cmp self.new k
+            ≡ cond (eq_by_cmp K.cmp key k) (Some value)
+            (cond (is_eq (K.cmp k only)) (Some held) None)) }
+        ensures same { OnErr result ((k : K) → find K.cmp self.new k
+            ≡ cond (is_eq (K.cmp k only)) (Some held) None) }
     {
         if key.cmp(&only).is_eq() {
             *self = SmallMap::One(key, value);
@@ -118,7 +122,8 @@ impl<K: Ord + Drop, V: Drop> SmallMap<K, V> {
     /// Writes a value at a key that is there.
     pub fn set(&mut self, key: &K, value: V)
         requires { IsSome (find K.cmp self.old key.now) }
-        ensures { (k : K) → find K.cmp self.new k ≡ cond (eq_by_cmp K.cmp key.now k) (Some value) (find K.cmp self.old k) }
+        ensures { (k : K) → find K.cmp self.new k
+            ≡ cond (eq_by_cmp K.cmp key.now k) (Some value) (find K.cmp self.old k) }
     {
         match self {
             SmallMap::Empty => {}
@@ -133,7 +138,8 @@ impl<K: Ord + Drop, V: Drop> SmallMap<K, V> {
 
     /// Takes the entry of a key out.
     pub fn remove(&mut self, key: &K)
-        ensures { (k : K) → find K.cmp self.new k ≡ cond (eq_by_cmp K.cmp key.now k) None (find K.cmp self.old k) }
+        ensures { (k : K) → find K.cmp self.new k
+            ≡ cond (eq_by_cmp K.cmp key.now k) None (find K.cmp self.old k) }
     {
         if let SmallMap::Many(map) = self {
             map.remove(key);
@@ -147,7 +153,8 @@ impl<K: Ord + Drop, V: Drop> SmallMap<K, V> {
     /// Takes the first entry out.
     pub fn pop_first(&mut self) -> Option<(K, V)>
         ensures found { IfSome result (λ e. find K.cmp self.old e.0 ≡ Some e.1) }
-        ensures taken { IfSome result (λ e. (k : K) → find K.cmp self.new k ≡ cond (eq_by_cmp K.cmp e.0 k) None (find K.cmp self.old k)) }
+        ensures taken { IfSome result (λ e. (k : K)
+            → find K.cmp self.new k ≡ cond (eq_by_cmp K.cmp e.0 k) None (find K.cmp self.old k)) }
         ensures none { IfNone result ((k : K) → find K.cmp self.old k ≡ None) }
         ensures same { IfNone result ((k : K) → find K.cmp self.new k ≡ None) }
     {
@@ -167,7 +174,8 @@ impl<K: Ord + Drop, V: Drop> SmallMap<K, V> {
 impl<K: Ord + Copy, V: Copy> SmallMap<K, V> {
     /// Puts the entries at the end of a list.
     pub fn list(&self, entries: &mut Vec<(K, V)>) -> Result<(), OutOfMemory>
-        ensures listed { OnOk result (entries.new.items ≡ entries.old.items ++ entries_of self.now) }
+        ensures listed { OnOk result (entries.new.items ≡ entries.old.items
+            ++ entries_of self.now) }
         ensures ordered { OnOk result (IsStrictlySortedBy K.cmp (keys_of (entries_of self.now))) }
     {
         match self {

@@ -74,7 +74,8 @@ impl ScopeTable {
         limit: u32,
     ) -> Result<Vec<GroupChange>, TableFault>
         requires { All (λ p. p.node ≡ self.old.own) pids.now }
-        ensures ok { OnOk result (Counts self.old self.new (count_after_join self.old group.now pids.now)) }
+        ensures ok { OnOk result (Counts self.old self.new
+            (count_after_join self.old group.now pids.now)) }
         ensures change { IfOk result (λ changes. IsChange self.old self.new changes.items) }
         ensures refused { IfErr result (IsJoinFault self.old pids.now limit) }
         ensures limits { OnOk result (local_total self.old + length pids.now ≤ limit) }
@@ -93,13 +94,15 @@ impl ScopeTable {
         Ok(changes)
     }
 
-    /// One less for each mention of a process, as far as it is in the group. Answers what really left.
+    /// One less for each mention of a process, as far as it is in the group. Answers what really
+    /// left.
     pub fn leave_local(
         &mut self,
         group: &Group,
         pids: &[Pid],
     ) -> Result<Vec<GroupChange>, TableFault>
-        ensures ok { OnOk result (Counts self.old self.new (count_after_leave self.old group.now pids.now)) }
+        ensures ok { OnOk result (Counts self.old self.new
+            (count_after_leave self.old group.now pids.now)) }
         ensures change { IfOk result (λ changes. IsChange self.old self.new changes.items) }
         ensures refused { IfErr result (IsLeaveFault self.old group.now pids.now) }
         ensures only { OnOk result (IsTrue (is_any_joined self.old group.now pids.now)) }
@@ -119,9 +122,12 @@ impl ScopeTable {
         Ok(changes)
     }
 
-    /// Who leaves where these are to leave. Want of memory comes last: where nobody is in the group, that is the answer.
+    /// Who leaves where these are to leave. Want of memory comes last: where nobody is in the
+    /// group, that is the answer.
     fn gone(&self, group: &Group, pids: &[Pid]) -> Result<Vec<Pid>, TableFault>
-        ensures value { IfOk result (λ gone. IsPidListing (λ p. min (mentions p pids.now) (count_of self.now group.now p)) gone.items) }
+        ensures value { IfOk result (λ gone.
+            IsPidListing (λ p. min (mentions p pids.now) (count_of self.now group.now p))
+            gone.items) }
         ensures refused { IfErr result (IsLeaveFault self.now group.now pids.now) }
     {
         match gone_of(self.alloc, &self.rows, group, pids) {
@@ -144,7 +150,8 @@ impl ScopeTable {
         limit: u32,
     ) -> Result<Vec<GroupChange>, TableFault>
         requires { All (λ r. r.pid.node ≡ peer.now) rows.now }
-        ensures ok { OnOk result (Counts self.old self.new (count_after_sync self.old peer.now rows.now)) }
+        ensures ok { OnOk result (Counts self.old self.new
+            (count_after_sync self.old peer.now rows.now)) }
         ensures change { IfOk result (λ changes. IsChange self.old self.new changes.items) }
         ensures refused { IfErr result (IsSyncFault rows.now limit) }
         ensures limits { OnOk result (length rows.now ≤ limit) }
@@ -260,7 +267,8 @@ impl ScopeTable {
 
     /// What `exit` will change.
     pub fn exit_change(&self, pid: &Pid) -> Result<Vec<GroupChange>, OutOfMemory>
-        ensures change { IfOk result (λ changes. IsDifference (count_of self.now) (count_after_exit self.now pid.now) changes.items) }
+        ensures change { IfOk result (λ changes.
+            IsDifference (count_of self.now) (count_after_exit self.now pid.now) changes.items) }
         ensures limits { local_total self.now ≤ max_rows }
     {
         let changes = self.rows.left_by(self.alloc, pid)?;
@@ -281,7 +289,8 @@ impl ScopeTable {
 
     /// What `drop_peer` will change.
     pub fn drop_change(&self, peer: &NodeName) -> Result<Vec<GroupChange>, OutOfMemory>
-        ensures { IfOk result (λ changes. IsDifference (count_of self.now) (count_after_drop self.now peer.now) changes.items) }
+        ensures { IfOk result (λ changes.
+            IsDifference (count_of self.now) (count_after_drop self.now peer.now) changes.items) }
     {
         let changes = self.rows.all_left(self.alloc, peer)?;
         Ok(changes)
@@ -312,7 +321,8 @@ impl ScopeTable {
     }
 }
 
-/// How many of so many rows of a peer's processes are own ones: all, where the peer is the own node.
+/// How many of so many rows of a peer's processes are own ones: all, where the peer is the own
+/// node.
 fn share_of(own: &NodeName, peer: &NodeName, rows: usize) -> usize
     ensures { result ≡ cond (same peer.now own.now) rows 0 }
 {

@@ -8,7 +8,8 @@ pub struct Told {
     pub kind: u8,
     /// How many of its proper beginnings are bodies: by another reader, in Python.
     pub fronts: u32,
-    /// How many are bodies, of those with one byte changed to 00, ff or its neighbours: by the same.
+    /// How many are bodies, of those with one byte changed to 00, ff or its neighbours: by the
+    /// same.
     pub changes: u32,
 }
 

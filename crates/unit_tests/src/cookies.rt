@@ -74,7 +74,8 @@ fn answers_as_other_nodes_do(rt: HostRuntime) {
     }
 }
 
-/// The first words of ChaCha20's key stream with a key and a nonce of zeros (RFC 8439, appendix A.1).
+/// The first words of ChaCha20's key stream with a key and a nonce of zeros (RFC 8439, appendix
+/// A.1).
 static WORDS: [u32; 4] = [0xade0b876, 0x903df1a0, 0xe56a5d40, 0x28bd8653];
 
 fn draws(source: &mut ChallengeSource<ChaCha20Rng>, words: &[u32]) -> bool {

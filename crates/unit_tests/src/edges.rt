@@ -1,5 +1,5 @@
-//! The edge of a link: what is handed in and sent. What can't be played for want of memory is None or false; the assertions
-//! stand in the tests.
+//! The edge of a link: what is handed in and sent. What can't be played for want of memory is None
+//! or false; the assertions stand in the tests.
 use crate::digits::{bytes_of, exchange, front, is_spelled};
 use crate::made::{Process, alone, group_of, name_of, row_of, scope_of};
 use crate::steps::{STEPS, Step};
@@ -283,7 +283,8 @@ fn open_scopes(alloc: Global, edge: &mut Edge, life: &mut Life, count: u32) -> O
     Some(())
 }
 
-/// How many of 65 scopes are open, how many aren't, how many bytes are told of the last, and how often nothing is.
+/// How many of 65 scopes are open, how many aren't, how many bytes are told of the last, and how
+/// often nothing is.
 fn opened(alloc: Global, edge: &mut Edge, life: &mut Life) -> Option<(usize, u64, usize, u64)> {
     open_scopes(alloc, edge, life, 65)?;
     let refused = edge.drops.of(Dropped::TooManyScopes);

@@ -1,5 +1,6 @@
-//! Worked cases of what no clause says, over the public functions of the crates below: texts, frames and parts of messages, terms and what a
-//! stock node says, what an audit keeps, and threads over one node.
+//! Worked cases of what no clause says, over the public functions of the crates below: texts,
+//! frames and parts of messages, terms and what a stock node says, what an audit keeps, and threads
+//! over one node.
 #![tactic(auto)]
 
 #[cfg(test)]

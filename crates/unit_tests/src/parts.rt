@@ -1,5 +1,5 @@
-//! The bodies of parts, and bodies that are none. What can't be played for want of memory is None; the assertions stand in
-//! the tests.
+//! The bodies of parts, and bodies that are none. What can't be played for want of memory is None;
+//! the assertions stand in the tests.
 ghost use Rattle.std.specs.Prelude.{◌≡◌, IfSome, length};
 ghost use Rattle.link_frames.specs.Parts.{HasSpelling2};
 
@@ -9,7 +9,8 @@ use dist_types::{Body, Row, Scope};
 use link_frames::*;
 use std::alloc::Global;
 
-/// A part of a message of `pg`: its kind, its number, whether it is the last, and how many rows it has.
+/// A part of a message of `pg`: its kind, its number, whether it is the last, and how many rows it
+/// has.
 #[derive(Clone, Copy)]
 pub struct Numbered {
     pub kind: PartKind,
@@ -22,8 +23,8 @@ pub struct Numbered {
 struct Part {
     body: &'static [u8],
     part: Numbered,
-    /// How many bodies that differ from it in one byte, to 00, ff or a neighbour, are parts: counted by the reader of
-    /// tests/model (`changed_parts`).
+    /// How many bodies that differ from it in one byte, to 00, ff or a neighbour, are parts:
+    /// counted by the reader of tests/model (`changed_parts`).
     changed: u32,
 }
 

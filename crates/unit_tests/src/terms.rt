@@ -234,7 +234,8 @@ static TAGS: [&str; 27] = [
     "787703614068000000000000000100000003",
 ];
 
-/// Whether the term of these digits is skipped, with and without a byte behind it, and is cut at each of its beginnings.
+/// Whether the term of these digits is skipped, with and without a byte behind it, and is cut at
+/// each of its beginnings.
 fn skips(alloc: Global, digits: &str) -> bool {
     match bytes_of(alloc, digits) {
         Some(mut term) => {

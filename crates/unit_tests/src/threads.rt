@@ -1,5 +1,5 @@
-//! Callers on threads of their own, and the workers of links. What can't be played for want of memory is None; the assertions
-//! stand in the tests.
+//! Callers on threads of their own, and the workers of links. What can't be played for want of
+//! memory is None; the assertions stand in the tests.
 ghost use Rattle.std.specs.Prelude.{◌≤◌, length};
 
 mod accepting;
@@ -53,7 +53,8 @@ fn entries_of(end: &Result<Closed, CloseFault>) -> Option<usize> {
     }
 }
 
-// What calls has no contract and is given the event, so that a check doesn't compute the policy's verdict on it.
+// What calls has no contract and is given the event, so that a check doesn't compute the policy's
+// verdict on it.
 pub(super) fn is_done<R: Wait>(rt: &R, node: &Node, pass: &mut Pass, event: Event) -> bool {
     pass.call(node, rt, event).is_ok()
 }

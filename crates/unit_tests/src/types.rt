@@ -1,5 +1,5 @@
-//! The faults of each text, and what is printed. What can't be made for want of memory is None; the assertions stand in the
-//! tests.
+//! The faults of each text, and what is printed. What can't be made for want of memory is None; the
+//! assertions stand in the tests.
 use crate::made::cookie_of;
 use dist_types::*;
 use std::alloc::Global;

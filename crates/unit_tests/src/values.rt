@@ -116,7 +116,8 @@ fn reads_values_behind_each_other(rt: HostRuntime) {
     assert!(rt; reads(rt.alloc(), GROUPS, &LEAVES));
 }
 
-/// Whether the bytes are numbers, and these are written so. The other writers are called by what is sent in `edges`.
+/// Whether the bytes are numbers, and these are written so. The other writers are called by what is
+/// sent in `edges`.
 fn are_written_so(alloc: Global, bytes: &[u8]) -> bool {
     let mut out = Vec::new(alloc);
     let is_written = match numbers_at(bytes) {

@@ -28,7 +28,8 @@ abbrev pub MakesAsked : Nodes → Option WorldStep → Nodes → List ℕ → Ty
 MakesAsked old (Some t) new said = Makes old t new said
 MakesAsked old None new said = ⊥
 
--- frames went and came by steps of this seat, and the line says how many came, or that memory lacked
+-- frames went and came by steps of this seat, and the line says how many came, or that memory
+-- lacked
 pub record IsSettled (old : Nodes) (seat : ℕ) (new : Nodes) (said : List ℕ) : Type 0 where
   pub came : ℕ
   pub settles : Settles seat old came new
@@ -45,9 +46,11 @@ seated w k = record { world = w; seat = k }
 -- what a line makes of them, and the line that is its answer
 abbrev pub Follows : Seated → WorldLine → Seated → List ℕ → Type 0
 Follows old (line.Seat k) new said = (new ≡ seated old.world k) × (said ≡ seat_line)
-Follows old line.Settle new said = (new.seat ≡ old.seat) × IsSettled old.world old.seat new.world said
+Follows old line.Settle new said = (new.seat ≡ old.seat)
+    × IsSettled old.world old.seat new.world said
 Follows old (line.Show s g) new said = (new ≡ old) × (said ≡ shown_line s g old.world.nodes)
-Follows old asked new said = (new.seat ≡ old.seat) × MakesAsked old.world (step_in old.seat old.world.nodes asked) new.world said
+Follows old asked new said = (new.seat ≡ old.seat)
+    × MakesAsked old.world (step_in old.seat old.world.nodes asked) new.world said
 
 -- ---- a script's world, from its first line on
 
@@ -68,7 +71,8 @@ pub record AddsNode (old : Playing) (o : Opening) (new : Playing) (said : List �
   pub line : said ≡ seat_line
 
 -- the world that has begun follows the line
-pub record AsksWorld (old : Playing) (asked : WorldLine) (new : Playing) (said : List ℕ) : Type 0 where
+pub record AsksWorld (old : Playing) (asked : WorldLine) (new : Playing)
+    (said : List ℕ) : Type 0 where
   pub after : Nodes
   pub stands : new.world ≡ Some after
   pub follows : Follows (seated (begun old) old.seat) asked (seated after new.seat) said

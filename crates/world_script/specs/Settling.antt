@@ -30,7 +30,8 @@ MovesFrames seat (step.Hand n at s) = s ≡ seat
 MovesFrames seat (step.Deliver n at s) = s ≡ seat
 MovesFrames seat t = ⊥
 
--- whether a frame came in a delivery that was answered so: also where the node refused it, unless its audit is full
+-- whether a frame came in a delivery that was answered so: also where the node refused it, unless
+-- its audit is full
 abbrev pub has_come : Result WorldReply WorldFault → Bool
 has_come (Ok r) = true
 has_come (Err (fault.Core (core_fault.Refused rule.EntriesFull))) = false

@@ -20,7 +20,8 @@ listed_by s g h = cond (is_running h s) (members h s g) []
 
 -- a node, how many processes these are, and each
 abbrev pub node_text : List ℕ → List Pid → List ℕ
-node_text name pids = codes " " ++ name ++ codes ": " ++ decimal (length pids) ++ spaced pid_text pids
+node_text name pids = codes " " ++ name ++ codes ": " ++ decimal (length pids)
+    ++ spaced pid_text pids
 
 -- the same of those that a node lists
 abbrev pub shown_text : List ℕ → List ℕ → History → List ℕ

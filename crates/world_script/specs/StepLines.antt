@@ -17,7 +17,8 @@ use Rattle.world_script.specs.Names.{place_of}
 -- the step that a line asks for, of this seat among these nodes, if it asks for one
 abbrev pub step_in : ℕ → List History → WorldLine → Option WorldStep
 step_in seat hs (line.At node event) = Some (step.Call (place_of node hs) seat event)
-step_in seat hs (line.Dial from to challenge) = Some (step.Dial (place_of from hs) (place_of to hs) seat challenge)
+step_in seat hs (line.Dial from to challenge) =
+    Some (step.Dial (place_of from hs) (place_of to hs) seat challenge)
 step_in seat hs (line.Accept wire challenge) = Some (step.Accept wire seat challenge)
 step_in seat hs (line.Hand wire side) = Some (step.Hand wire side seat)
 step_in seat hs (line.Deliver wire side) = Some (step.Deliver wire side seat)

@@ -22,7 +22,8 @@ use Rattle.world_script.specs.declared.opening_words.Settings.{Settings}
 
 -- the side that a word names
 abbrev pub side_of : List ℕ → Option Side
-side_of word = cond (bytes_eq word (codes "dialler")) (Some side.Dialler) (cond (bytes_eq word (codes "acceptor")) (Some side.Acceptor) None)
+side_of word = cond (bytes_eq word (codes "dialler")) (Some side.Dialler)
+    (cond (bytes_eq word (codes "acceptor")) (Some side.Acceptor) None)
 
 -- this word is next
 abbrev pub is_next : List ℕ → List (List ℕ) → Bool
@@ -40,7 +41,8 @@ without word words = cond (is_next word words) (behind words) words
 
 -- the number behind this word, where it is next, else this number; and the words behind
 abbrev pub number_behind : List ℕ → ℕ → List (List ℕ) → Option (ℕ × List (List ℕ))
-number_behind word default words = cond (is_next word words) (first number_of (behind words)) (Some (default, words))
+number_behind word default words = cond (is_next word words) (first number_of (behind words))
+    (Some (default, words))
 
 -- a number that is a version of link messages
 abbrev pub version_of : ℕ → Option ℕ
@@ -75,7 +77,9 @@ opened_with name cookie s = record {
 
 -- `NAME COOKIE`, and settings
 abbrev pub opening_of : List (List ℕ) → Option Opening
-opening_of words = option_and_then (λ n. option_and_then (λ c. option_map (opened_with n.0 c.0) (settings_of c.1)) (first text_of n.1)) (first name_of words)
+opening_of words = option_and_then (λ n.
+    option_and_then (λ c. option_map (opened_with n.0 c.0) (settings_of c.1)) (first text_of n.1))
+    (first name_of words)
 
 -- the event of a command
 abbrev pub event_in : Command → Option Event
@@ -88,11 +92,13 @@ event_of words = option_and_then event_in (command_of words)
 
 -- a node, and an event
 abbrev pub call_of : List (List ℕ) → Option (List ℕ × Event)
-call_of words = option_and_then (λ n. option_map (λ e. (n.0, e)) (event_of n.1)) (first name_of words)
+call_of words = option_and_then (λ n. option_map (λ e. (n.0, e)) (event_of n.1))
+    (first name_of words)
 
 -- who dials whom, with which challenge
 abbrev pub dial_of : List (List ℕ) → Option WorldLine
-dial_of words = option_and_then (λ n. option_map (λ to. line.Dial n.0 to.0 to.1) (both name_of number_of n.1)) (first name_of words)
+dial_of words = option_and_then (λ n. option_map (λ to. line.Dial n.0 to.0 to.1)
+    (both name_of number_of n.1)) (first name_of words)
 
 -- ---- lines
 
@@ -104,10 +110,14 @@ alone asked words = cond (is_empty words) (Some asked) None
 abbrev pub wire_line : List ℕ → List (List ℕ) → Option WorldLine
 wire_line name words =
     cond (bytes_eq name (codes "dial")) (dial_of words)
-    (cond (bytes_eq name (codes "accept")) (option_map (λ said. line.Accept said.0 said.1) (both number_of number_of words))
-    (cond (bytes_eq name (codes "hand")) (option_map (λ said. line.Hand said.0 said.1) (both number_of side_of words))
-    (cond (bytes_eq name (codes "deliver")) (option_map (λ said. line.Deliver said.0 said.1) (both number_of side_of words))
-    (cond (bytes_eq name (codes "cut")) (option_map (λ said. line.Cut said.0 said.1) (both number_of side_of words))
+    (cond (bytes_eq name (codes "accept")) (option_map (λ said. line.Accept said.0 said.1)
+    (both number_of number_of words))
+    (cond (bytes_eq name (codes "hand")) (option_map (λ said. line.Hand said.0 said.1)
+    (both number_of side_of words))
+    (cond (bytes_eq name (codes "deliver")) (option_map (λ said. line.Deliver said.0 said.1)
+    (both number_of side_of words))
+    (cond (bytes_eq name (codes "cut")) (option_map (λ said. line.Cut said.0 said.1)
+    (both number_of side_of words))
     (cond (bytes_eq name (codes "settle")) (alone line.Settle words)
     None)))))
 
@@ -118,7 +128,8 @@ node_line name words =
     (cond (bytes_eq name (codes "at")) (option_map (λ said. line.At said.0 said.1) (call_of words))
     (cond (bytes_eq name (codes "seat")) (option_map line.Seat (only number_of words))
     (cond (bytes_eq name (codes "restart")) (option_map line.Restart (only name_of words))
-    (cond (bytes_eq name (codes "show")) (option_map (λ said. line.Show said.0 said.1) (both text_of text_of words))
+    (cond (bytes_eq name (codes "show")) (option_map (λ said. line.Show said.0 said.1)
+    (both text_of text_of words))
     (wire_line name words)))))
 
 -- by the first word

@@ -23,7 +23,8 @@ pub fn put_answer(
     }
 }
 
-/// Adds the line for a step that has no reply: the node's own answer, or the world's fault by its name.
+/// Adds the line for a step that has no reply: the node's own answer, or the world's fault by its
+/// name.
 fn put_refused(fault: WorldFault, out: &mut Vec<u8>) -> Result<(), OutOfMemory>
     ensures { OnOk result (out.new.items ≡ out.old.items ++ fault_answer fault) }
 {

@@ -14,7 +14,8 @@ pub enum Unread {
     LateNode,
 }
 
-/// The lines with the words that they take. What stands in brackets may be left out, and a word with `..` comes any number of times.
+/// The lines with the words that they take. What stands in brackets may be left out, and a word
+/// with `..` comes any number of times.
 pub const FORMS: [&str; 11] = [
     "node NAME COOKIE [hidden] [creation N] [entries N] [links N]",
     "at NAME COMMAND..",
@@ -29,8 +30,8 @@ pub const FORMS: [&str; 11] = [
     "show SCOPE GROUP",
 ];
 
-/// Why a line asks for nothing, and the word or the form that this is about. It is empty where the line has a byte that a terminal
-/// shouldn't be given.
+/// Why a line asks for nothing, and the word or the form that this is about. It is empty where the
+/// line has a byte that a terminal shouldn't be given.
 pub fn why_unread(alloc: Global, line: &[u8]) -> (Unread, &str) {
     if read_world_line(alloc, line).is_ok() {
         return (Unread::LateNode, "");

@@ -110,7 +110,11 @@ impl Model for Lab {
 
     ghost Value = { Playing };
 
-    ghost view = { λ lab. record { nodes = histories lab.nodes.items; world = lab.world; seat = lab.seat } };
+    ghost view = { λ lab. record {
+      nodes = histories lab.nodes.items;
+      world = lab.world;
+      seat = lab.seat;
+    } };
 }
 
 impl Lab {
@@ -128,10 +132,13 @@ impl Lab {
 
     /// Adds the answer to a line. After a fault nothing more is asked.
     pub fn answer(&mut self, line: &[u8], out: &mut Vec<u8>) -> Result<(), LabFault>
-        ensures quiet { OnOk result (IsTrue (is_quiet line.now) → (self.new ≡ self.old) × (out.new.items ≡ out.old.items)) }
-        ensures ok { OnOk result (IsFalse (is_quiet line.now) → (asked : Line) × (said : List ℕ) × (asked_by line.now ≡ Some asked)
+        ensures quiet { OnOk result (IsTrue (is_quiet line.now) → (self.new ≡ self.old)
+            × (out.new.items ≡ out.old.items)) }
+        ensures ok { OnOk result (IsFalse (is_quiet line.now) → (asked : Line) × (said : List ℕ)
+            × (asked_by line.now ≡ Some asked)
             × (out.new.items ≡ out.old.items ++ said) × Plays self.old asked self.new said) }
-        ensures fault { IfErr result (λ fault. fault ≡ faults.Script → IsMisplaced self.old (asked_by line.now)) }
+        ensures fault { IfErr result (λ fault. fault ≡ faults.Script
+            → IsMisplaced self.old (asked_by line.now)) }
     {
         if is_quiet(line) {
             return Ok(());
@@ -144,7 +151,8 @@ impl Lab {
 
     /// One more node, where the world hasn't begun.
     fn add(&mut self, opening: Opening, out: &mut Vec<u8>) -> Result<(), LabFault>
-        ensures ok { OnOk result ((said : List ℕ) × (out.new.items ≡ out.old.items ++ said) × AddsNode self.old opening self.new said) }
+        ensures ok { OnOk result ((said : List ℕ) × (out.new.items ≡ out.old.items ++ said)
+            × AddsNode self.old opening self.new said) }
         ensures fault { IfErr result (λ fault. fault ≡ faults.Script → IsNoNode self.old opening) }
     {
         if self.world.is_some() {
@@ -161,8 +169,10 @@ impl Lab {
 
     /// Asks the world, which begins with the first line that isn't a node.
     fn follow(&mut self, asked: WorldLine, out: &mut Vec<u8>) -> Result<(), LabFault>
-        ensures ok { OnOk result ((said : List ℕ) × (out.new.items ≡ out.old.items ++ said) × AsksWorld self.old asked self.new said) }
-        ensures fault { IfErr result (λ fault. fault ≡ faults.Script → (o : Opening) × (asked ≡ lines.Node o)) }
+        ensures ok { OnOk result ((said : List ℕ) × (out.new.items ≡ out.old.items ++ said)
+            × AsksWorld self.old asked self.new said) }
+        ensures fault { IfErr result (λ fault. fault ≡ faults.Script → (o : Opening)
+            × (asked ≡ lines.Node o)) }
     {
         let mut world = self.take_world()?;
         let followed = follow(self.alloc, &mut world, &mut self.seat, asked, out);
@@ -208,7 +218,8 @@ pub fn follow(
 ) -> Result<(), LabFault>
     ensures ok { OnOk result ((said : List ℕ) × (out.new.items ≡ out.old.items ++ said)
         × Follows (seated world.old seat.old) asked (seated world.new seat.new) said) }
-    ensures fault { IfErr result (λ fault. fault ≡ faults.Script → (o : Opening) × (asked ≡ lines.Node o)) }
+    ensures fault { IfErr result (λ fault. fault ≡ faults.Script → (o : Opening)
+        × (asked ≡ lines.Node o)) }
 {
     match asked {
         WorldLine::Seat(number) => {
@@ -232,7 +243,8 @@ fn make(
 ) -> Result<(), LabFault>
     ensures ok { OnOk result ((said : List ℕ) × (out.new.items ≡ out.old.items ++ said)
         × MakesAsked world.old (step_in seat world.old.nodes asked) world.new said) }
-    ensures fault { IfErr result (λ fault. fault ≡ faults.Script → step_in seat world.old.nodes asked ≡ None) }
+    ensures fault { IfErr result (λ fault. fault ≡ faults.Script
+        → step_in seat world.old.nodes asked ≡ None) }
 {
     let Some(step) = step_of(world, seat, asked) else {
         return Err(LabFault::Script);

@@ -72,7 +72,8 @@ impl NamedWorld {
         self.world.wires()
     }
 
-    /// The place of the node of this name; where there is none, how many nodes there are, so that a step there is refused as `NoNode`.
+    /// The place of the node of this name; where there is none, how many nodes there are, so that a
+    /// step there is refused as `NoNode`.
     pub fn place(&self, name: &NodeName) -> usize
         ensures { result ≡ place_of name.now self.now.nodes }
     {

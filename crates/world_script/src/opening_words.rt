@@ -102,8 +102,10 @@ fn number_behind<'a>(
     default: u32,
     words: Option<&'a [u8]>,
 ) -> Result<(u32, Option<&'a [u8]>), LineFault>
-    ensures ok { IfOk result (λ said. number_behind word.now default (words_left words.entry) ≡ Some (said.0, words_left said.1)) }
-    ensures fault { IfErr result (λ fault. IsUnread fault (number_behind word.now default (words_left words.entry))) }
+    ensures ok { IfOk result (λ said. number_behind word.now default (words_left words.entry)
+        ≡ Some (said.0, words_left said.1)) }
+    ensures fault { IfErr result (λ fault.
+        IsUnread fault (number_behind word.now default (words_left words.entry))) }
 {
     let (found, rest) = flag(word, words);
     if found {

@@ -27,7 +27,8 @@ pub fn read_world_line(alloc: Global, line: &[u8]) -> Result<WorldLine, LineFaul
 /// A line about nodes, or one about wires.
 fn node_line(alloc: Global, name: &[u8], words: Option<&[u8]>) -> Result<WorldLine, LineFault>
     ensures ok { IfOk result (λ said. node_line name.now (words_left words.entry) ≡ Some said) }
-    ensures fault { IfErr result (λ fault. IsUnread fault (node_line name.now (words_left words.entry))) }
+    ensures fault { IfErr result (λ fault.
+        IsUnread fault (node_line name.now (words_left words.entry))) }
 {
     Ok(if is(name, "node") {
         WorldLine::Node(opening(alloc, words)?)
@@ -49,7 +50,8 @@ fn node_line(alloc: Global, name: &[u8], words: Option<&[u8]>) -> Result<WorldLi
 /// A line about wires.
 fn wire_line(alloc: Global, name: &[u8], words: Option<&[u8]>) -> Result<WorldLine, LineFault>
     ensures ok { IfOk result (λ said. wire_line name.now (words_left words.entry) ≡ Some said) }
-    ensures fault { IfErr result (λ fault. IsUnread fault (wire_line name.now (words_left words.entry))) }
+    ensures fault { IfErr result (λ fault.
+        IsUnread fault (wire_line name.now (words_left words.entry))) }
 {
     Ok(if is(name, "dial") {
         dial(alloc, words)?
@@ -114,7 +116,8 @@ fn dial(alloc: Global, words: Option<&[u8]>) -> Result<WorldLine, LineFault>
 /// A wire, and a side of it.
 fn wire_side(alloc: Global, words: Option<&[u8]>) -> Result<(u32, Side), LineFault>
     ensures ok { IfOk result (λ said. both number_of side_of (words_left words.entry) ≡ Some said) }
-    ensures fault { IfErr result (λ fault. IsUnread fault (both number_of side_of (words_left words.entry))) }
+    ensures fault { IfErr result (λ fault.
+        IsUnread fault (both number_of side_of (words_left words.entry))) }
 {
     let (wire, rest) = first(alloc, words)?;
     let Some(word) = only_word(rest) else {

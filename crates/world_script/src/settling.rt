@@ -21,8 +21,8 @@ struct Moved {
     came: bool,
 }
 
-/// Takes turns at the sides of all wires, in their order, until none moves a frame, or for `TURNS` turns. Tells how many frames
-/// came. Without memory for a step it stops there.
+/// Takes turns at the sides of all wires, in their order, until none moves a frame, or for `TURNS`
+/// turns. Tells how many frames came. Without memory for a step it stops there.
 pub fn settle(world: &mut NamedWorld, seat: u32) -> Result<u32, OutOfMemory>
     ensures ok { IfOk result (λ came. Settles seat world.old came world.new) }
     ensures memory { OnErr result ((came : ℕ) × Settles seat world.old came world.new) }
@@ -72,7 +72,8 @@ fn take_turn(
     side: Side,
     seat: u32,
 ) -> Result<Moved, OutOfMemory>
-    ensures ok { IfOk result (λ moved. Settles seat world.old (if moved.came then 1 else 0) world.new) }
+    ensures ok { IfOk result (λ moved. Settles seat world.old (if moved.came then 1 else 0)
+        world.new) }
     ensures memory { OnErr result (Settles seat world.old 0 world.new) }
 {
     let handed = hand(world, wire, side, seat)?;
@@ -91,7 +92,8 @@ fn hand(world: &mut NamedWorld, wire: usize, side: Side, seat: u32) -> Result<bo
     }
 }
 
-/// Whether a frame was under way. It has come, also where the node refused it, unless the audit is full.
+/// Whether a frame was under way. It has come, also where the node refused it, unless the audit is
+/// full.
 fn deliver(world: &mut NamedWorld, wire: usize, side: Side, seat: u32) -> Result<bool, OutOfMemory>
     ensures ok { IfOk result (λ came. Settles seat world.old (if came then 1 else 0) world.new) }
     ensures memory { OnErr result (Settles seat world.old 0 world.new) }

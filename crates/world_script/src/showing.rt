@@ -19,7 +19,8 @@ pub fn put_shown(
     group: &Group,
     out: &mut Vec<u8>,
 ) -> Result<(), OutOfMemory>
-    ensures { OnOk result (out.new.items ≡ out.old.items ++ shown_line scope.now group.now world.now.nodes) }
+    ensures { OnOk result (out.new.items ≡ out.old.items
+        ++ shown_line scope.now group.now world.now.nodes) }
 {
     put_word("show", out)?;
     for place in 0..world.nodes() {
@@ -36,7 +37,8 @@ fn put_place(
     group: &Group,
     out: &mut Vec<u8>,
 ) -> Result<(), OutOfMemory>
-    ensures { OnOk result (out.new.items ≡ out.old.items ++ option_map_or (shown_text scope.now group.now) (option_copied found.entry) []) }
+    ensures { OnOk result (out.new.items ≡ out.old.items
+        ++ option_map_or (shown_text scope.now group.now) (option_copied found.entry) []) }
 {
     match found {
         Some(node) => put_node(alloc, node, scope, group, out),
@@ -52,7 +54,8 @@ fn put_node(
     group: &Group,
     out: &mut Vec<u8>,
 ) -> Result<(), OutOfMemory>
-    ensures { OnOk result (out.new.items ≡ out.old.items ++ shown_text scope.now group.now node.now) }
+    ensures { OnOk result (out.new.items ≡ out.old.items
+        ++ shown_text scope.now group.now node.now) }
 {
     match node.look(scope, Query::Members(group)) {
         Ok(reply) => put_listed(alloc, node, pids_in(&reply), out),
@@ -78,7 +81,8 @@ fn put_listed(
     pids: &[Pid],
     out: &mut Vec<u8>,
 ) -> Result<(), OutOfMemory>
-    ensures { OnOk result (out.new.items ≡ out.old.items ++ node_text node.now.opening.name pids.now) }
+    ensures { OnOk result (out.new.items ≡ out.old.items
+        ++ node_text node.now.opening.name pids.now) }
 {
     put_word(" ", out)?;
     put_bytes(node.name().as_bytes(), out)?;

@@ -136,7 +136,8 @@ impl<'a> Door for Callers<'a> {
     }
 }
 
-/// What is tried: a node of so many entries and pairs of passes, and the links that a caller of its own has opened before.
+/// What is tried: a node of so many entries and pairs of passes, and the links that a caller of its
+/// own has opened before.
 struct Plan {
     entries: u32,
     pairs: u32,
@@ -189,7 +190,8 @@ fn accept<R: Threads + Wait + Sync>(
     accept_links(rt, alloc, node, pairs, &mut door, &mut source, heard)
 }
 
-/// The same on a new node, which then closes with all passes: how many links were served, and why no more are.
+/// The same on a new node, which then closes with all passes: how many links were served, and why
+/// no more are.
 fn serve<R: Threads + Wait + Sync>(
     rt: &R,
     alloc: Global,

@@ -1,4 +1,5 @@
-//! What the peers of a door are asked. The words are the first of the key stream of RFC 8439, A.1, test vector 1.
+//! What the peers of a door are asked. The words are the first of the key stream of RFC 8439, A.1,
+//! test vector 1.
 use super::accepting::NAME;
 use super::{give, opening, paired};
 use cookie_digest::ChallengeSource;
@@ -12,7 +13,8 @@ use std::sync::atomic::{AtomicU64, Ordering};
 use std::thread::Threads;
 use std::{io, thread};
 
-/// Where a challenge begins in what is written: behind the status `ok`, two lengths, a tag and the flags.
+/// Where a challenge begins in what is written: behind the status `ok`, two lengths, a tag and the
+/// flags.
 const BEGIN: u64 = 16;
 
 const END: u64 = 20;

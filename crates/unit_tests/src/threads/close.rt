@@ -45,7 +45,8 @@ fn stranger<R: Wait>(rt: &R, alloc: Global) -> Option<Pass> {
     if has_spawned { passes.pop() } else { None }
 }
 
-/// What a strange pass is told by a new node, and why the node isn't closed with both passes, nor with the strange one.
+/// What a strange pass is told by a new node, and why the node isn't closed with both passes, nor
+/// with the strange one.
 type Meeting = (Option<CallFault>, CloseRule, CloseRule);
 
 fn meets_a_stranger<R: Wait>(rt: &R, alloc: Global) -> Option<Meeting> {

@@ -73,8 +73,8 @@ fn with_takes<R: Wait>(rt: &R, alloc: Global, calls: u32) -> Option<(Node, Pass)
     }
 }
 
-/// A pass that made so many calls and let them go, and then made its last one, and what becomes of a close of another node
-/// with it: that one's own pass made 301 calls.
+/// A pass that made so many calls and let them go, and then made its last one, and what becomes of
+/// a close of another node with it: that one's own pass made 301 calls.
 struct Strange {
     what: &'static str,
     calls: u32,

@@ -1,4 +1,5 @@
-//! Nodes that aren't made: the seats come first, then the limit of the audit, and then the version of link messages.
+//! Nodes that aren't made: the seats come first, then the limit of the audit, and then the version
+//! of link messages.
 use super::opening;
 use node_core::{NodeCore, OpenFault};
 use node_threads::*;

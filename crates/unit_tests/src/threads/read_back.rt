@@ -1,4 +1,5 @@
-//! Two callers on threads of their own read back what both have done. What can't be played for want of memory is None.
+//! Two callers on threads of their own read back what both have done. What can't be played for want
+//! of memory is None.
 use super::{Ask, Member, Told, Way, ask_for, closed, member_of, new_node};
 use node_threads::*;
 use std::alloc::Global;
@@ -75,7 +76,8 @@ fn begins<R: Wait>(rt: &R, alloc: Global, node: &Node, passes: &mut [Pass]) -> b
     }
 }
 
-/// How many callers are members in the end, how many found the audit full, and how many entries the node has.
+/// How many callers are members in the end, how many found the audit full, and how many entries the
+/// node has.
 fn read_back<R: Threads + Wait + Sync>(
     rt: &R,
     alloc: Global,
