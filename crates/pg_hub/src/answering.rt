@@ -137,7 +137,7 @@ impl Hub {
             hub: self,
             line,
         };
-        let answered = session.answer(rt, self.alloc, &self.node, &surroundings, line, out);
+        let answered = session.answer(rt, &self.node, &surroundings, line, out);
         let Ok(answered) = answered else {
             return self.take_back(rt, session, calls, monitors);
         };

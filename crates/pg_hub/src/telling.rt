@@ -28,7 +28,7 @@ impl Hub {
             rt,
             links: self.link_notes(),
         };
-        session.tell(rt, self.alloc, &self.node, &lost, self.keeping.stale(), out)
+        session.tell(rt, &self.node, &lost, self.keeping.stale(), out)
     }
 
     /// Adds that a connection hasn't read for too long. Its monitors end, and it is told what

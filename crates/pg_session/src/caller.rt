@@ -141,7 +141,6 @@ impl Caller {
     pub fn call<R: Wait>(
         &mut self,
         rt: &R,
-        alloc: Global,
         node: &Node,
         event: Event,
         outcome: &mut Outcome,
@@ -156,14 +155,13 @@ impl Caller {
             → CameFrom (spawned self.new.calls) outcome.new }
     {
         let answer = self.pass.call(node, rt, event);
-        put_answer(alloc, answer, outcome, out)
+        put_answer(*out.allocator(), answer, outcome, out)
     }
 
     /// Asks what a monitor has not told yet, and adds a line for each update.
     pub fn fetch<R: Wait>(
         &mut self,
         rt: &R,
-        alloc: Global,
         node: &Node,
         number: u32,
         out: &mut Vec<u8>,
@@ -175,7 +173,7 @@ impl Caller {
             × Called self.old (Updates number) answer self.new × (fetched ≡ fetched_by answer)) }
     {
         let answer = self.pass.call(node, rt, Event::Updates(number));
-        put_fetched(alloc, number, answer, out)
+        put_fetched(*out.allocator(), number, answer, out)
     }
 
     /// A call that ends something: whether it was made. Where memory is wanting, it wasn't.

@@ -13,7 +13,6 @@ use crate::watch::{note_ages, tell_all};
 use crate::watched::{Watched, note_news, tell_noted};
 use dist_types::OutOfMemory;
 use node_threads::Node;
-use std::alloc::Global;
 use std::sync::Wait;
 
 impl Session {
@@ -23,7 +22,6 @@ impl Session {
     pub fn tell<R: Wait, E: LostLinks>(
         &mut self,
         rt: &R,
-        alloc: Global,
         node: &Node,
         lost: &E,
         stale: usize,
@@ -40,13 +38,12 @@ impl Session {
         ensures memory { OnErr result (IsBroken self.old self.new) }
     {
         self.news.put_restart(out)?;
-        self.look(rt, alloc, node, lost, out)?;
+        self.look(rt, node, lost, out)?;
         note_ages(&mut self.watches, stale);
         tell_all(
             &mut self.watches,
             &mut self.caller,
             rt,
-            alloc,
             node,
             self.seen.entries(),
             out,
@@ -59,7 +56,6 @@ impl Session {
     fn look<R: Wait, E: LostLinks>(
         &mut self,
         rt: &R,
-        alloc: Global,
         node: &Node,
         lost: &E,
         out: &mut Vec<u8>,
@@ -75,6 +71,7 @@ impl Session {
         ensures monitors { map as_begun self.new.watches ≡ map as_begun self.old.watches }
         ensures memory { OnErr result (self.new.seen ≡ self.old.seen) }
     {
+        let alloc = *out.allocator();
         let mut watched = Watched::of_many(rt, alloc, node, &self.watches, self.seen);
         let shared = node.shared.lock(rt);
         let core = shared.core();

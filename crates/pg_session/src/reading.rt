@@ -12,20 +12,20 @@ use node_core::{CoreFault, NodeCore};
 use node_threads::Node;
 use pg_text::{put_bytes, put_numbered_line, put_step, put_word, query_of};
 use policy_audit::{Event, NodeNames, Reply};
-use std::alloc::Global;
 use std::sync::Wait;
 
 /// The commands, as `help` answers them.
 pub const HELP: &str =
-    "help cookie COOKIE | cookie_for NAME COOKIE | allow NAME.. | disconnect NAME | dial NAME=HOST:PORT | undial NAME | reopen | nodes | start SCOPE | stop SCOPE | \
-spawn | exit PROCESS | join SCOPE GROUP PROCESS.. | leave SCOPE GROUP PROCESS.. | members SCOPE GROUP | local_members SCOPE GROUP | \
-groups SCOPE | local_groups SCOPE | monitor SCOPE GROUP | monitor_scope SCOPE | demonitor REF | size | audit ENTRY | self | status | \
-links | dials | scopes | allowed | clients | refusals | help | quit | drain\n";
+    "help cookie COOKIE | cookie_for NAME COOKIE | allow NAME.. | disconnect NAME | \
+dial NAME=HOST:PORT | undial NAME | reopen | nodes | start SCOPE | stop SCOPE | spawn | \
+exit PROCESS | join SCOPE GROUP PROCESS.. | leave SCOPE GROUP PROCESS.. | members SCOPE GROUP | \
+local_members SCOPE GROUP | groups SCOPE | local_groups SCOPE | monitor SCOPE GROUP | \
+monitor_scope SCOPE | demonitor REF | size | audit ENTRY | self | status | links | dials | \
+scopes | allowed | clients | refusals | help | quit | drain\n";
 
 /// Adds the answer to a query. The lock is free again while it is printed.
 pub fn put_query<R: Wait>(
     rt: &R,
-    alloc: Global,
     node: &Node,
     caller: &Caller,
     event: Event,
@@ -42,7 +42,7 @@ pub fn put_query<R: Wait>(
     let answer = look(shared.core(), &event);
     drop(shared);
     drop(event);
-    let added = put_step(alloc, &answer, out);
+    let added = put_step(*out.allocator(), &answer, out);
     drop(answer);
     added
 }

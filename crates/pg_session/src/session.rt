@@ -236,7 +236,6 @@ impl Session {
     pub fn answer<R: Wait, E: Surroundings>(
         &mut self,
         rt: &R,
-        alloc: Global,
         node: &Node,
         surroundings: &E,
         line: &[u8],
@@ -256,8 +255,9 @@ impl Session {
         if is_quiet(line) {
             return Ok(Answered::LINE);
         }
+        let alloc = *out.allocator();
         match read_request(alloc, line) {
-            Ok(request) => self.follow(rt, alloc, node, surroundings, request, out),
+            Ok(request) => self.follow(rt, node, surroundings, request, out),
             Err(LineFault::Script) => {
                 put_fault(alloc, line, out)?;
                 Ok(Answered::LINE)
@@ -269,7 +269,6 @@ impl Session {
     fn follow<R: Wait, E: Surroundings>(
         &mut self,
         rt: &R,
-        alloc: Global,
         node: &Node,
         surroundings: &E,
         request: Request,
@@ -286,11 +285,11 @@ impl Session {
     {
         match request {
             Request::Call(event) => {
-                let lack = self.call(rt, alloc, node, event, out)?;
+                let lack = self.call(rt, node, event, out)?;
                 let next = Next::Line;
                 return Ok(Answered { next, lack });
             }
-            Request::Query(event) => put_query(rt, alloc, node, &self.caller, event, out)?,
+            Request::Query(event) => put_query(rt, node, &self.caller, event, out)?,
             Request::Size => put_size(rt, node, &self.caller, out)?,
             Request::Audit(number) => put_found(rt, node, &self.caller, number, out)?,
             Request::Nodes => put_peers(rt, node, &self.caller, out)?,
@@ -314,7 +313,6 @@ impl Session {
     fn call<R: Wait>(
         &mut self,
         rt: &R,
-        alloc: Global,
         node: &Node,
         event: Event,
         out: &mut Vec<u8>,
@@ -333,6 +331,7 @@ impl Session {
             put_word("fault not yours\n", out)?;
             return Ok(None);
         }
+        let alloc = *out.allocator();
         let prepared = prepare(alloc, &mut self.processes, &mut self.watches, kind);
         let Ok(stake) = prepared else {
             drop(event);
@@ -340,7 +339,7 @@ impl Session {
         };
         let rows = MoreOrFewer::of(rows_of(&self.processes, self.rows), &event);
         let mut outcome = Outcome::Refused(None);
-        let answered = self.caller.call(rt, alloc, node, event, &mut outcome, out);
+        let answered = self.caller.call(rt, node, event, &mut outcome, out);
         let lack = outcome.lack();
         self.rows = rows.behind(&outcome);
         keep(&mut self.processes, &mut self.watches, outcome, stake)?;

@@ -149,7 +149,6 @@ impl Watch {
         &mut self,
         caller: &mut Caller,
         rt: &R,
-        alloc: Global,
         node: &Node,
         entries: usize,
         out: &mut Vec<u8>,
@@ -172,7 +171,7 @@ impl Watch {
         if !self.is_due || self.is_over {
             return self.put_end(out);
         }
-        let fetched = caller.fetch(rt, alloc, node, self.number, out)?;
+        let fetched = caller.fetch(rt, node, self.number, out)?;
         self.learn(fetched, entries);
         self.put_end(out)
     }
@@ -244,7 +243,6 @@ pub fn tell_all<R: Wait>(
     watches: &mut Vec<Watch>,
     caller: &mut Caller,
     rt: &R,
-    alloc: Global,
     node: &Node,
     entries: usize,
     out: &mut Vec<u8>,
@@ -258,7 +256,7 @@ pub fn tell_all<R: Wait>(
     ensures memory { OnErr result (map as_begun watches.new.items
         ≡ map as_begun watches.old.items) }
 {
-    ask_all(watches, caller, rt, alloc, node, entries, out)?;
+    ask_all(watches, caller, rt, node, entries, out)?;
     watches.retain(|watch| !watch.is_over);
     Ok(())
 }
@@ -267,7 +265,6 @@ fn ask_all<R: Wait>(
     watches: &mut Vec<Watch>,
     caller: &mut Caller,
     rt: &R,
-    alloc: Global,
     node: &Node,
     entries: usize,
     out: &mut Vec<u8>,
@@ -281,7 +278,7 @@ fn ask_all<R: Wait>(
         ≡ map as_begun watches.old.items) }
 {
     for watch in watches.iter_mut() {
-        watch.tell(caller, rt, alloc, node, entries, out)?;
+        watch.tell(caller, rt, node, entries, out)?;
     }
     Ok(())
 }
