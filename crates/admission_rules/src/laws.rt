@@ -1,5 +1,5 @@
 //! Laws of the rules after a change. Each function does nothing; its contract is the law.
-ghost use Rattle.std.specs.Prelude.{◌≡◌, ◌≢◌, ◌↔◌, ◌⊎◌, List, ℕ, Contains, Some, length, take};
+ghost use Rattle.std.specs.Prelude.{◌≡◌, ◌≢◌, ◌↔◌, ◌⊎◌, List, ℕ, Contains, length, take};
 ghost use Rattle.admission_rules.specs.Admission.{AdmissionRules, cookie_of, peer_cookie, with_cookie_for, with_allowed};
 
 /// A cookie for a peer is that of this peer alone, and a cookie for the own name leaves those of

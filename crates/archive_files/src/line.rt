@@ -1,6 +1,5 @@
 //! A line of an archive on its way to a file.
-ghost use Rattle.std.specs.Prelude.{◌≡◌, true, false, IfOk, length};
-ghost use Rattle.pg_archive.specs.Entries.{entry_line, life_line};
+ghost use Rattle.std.specs.Prelude.{◌≡◌, true, false, IfOk};
 ghost use Rattle.archive_files.specs.Waiting.{text_of_entry, text_of_life};
 
 use dist_types::OutOfMemory;

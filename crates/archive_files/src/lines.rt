@@ -1,5 +1,5 @@
 //! Lines that wait for a file.
-ghost use Rattle.std.specs.Prelude.{◌≡◌, ◌+◌, ◌≤◌, ◌<◌, ◌↔◌, true, false, [], ◌∷◌, ◌++◌, ◌^◌, OnOk, OnErr, IfOk, length, map, drop, if◌then◌else◌};
+ghost use Rattle.std.specs.Prelude.{◌≡◌, ◌+◌, ◌≤◌, ◌<◌, false, [], ◌∷◌, ◌++◌, ◌^◌, OnOk, OnErr, IfOk, length, map, drop, if◌then◌else◌};
 ghost use Rattle.std.specs.Option.{option_copied};
 ghost use Rattle.archive_files.specs.Waiting.{entries_among, text_of_entry, first_of, text_of_life, part_of, piece_of, rest_of};
 

@@ -1,5 +1,5 @@
 //! The end of a file, where a line may have been torn.
-ghost use Rattle.std.specs.Prelude.{◌≡◌, ◌≢◌, ◌+◌, ◌-◌, ◌<◌, ◌≤◌, length, drop, slice_index, All};
+ghost use Rattle.std.specs.Prelude.{◌≡◌, ◌≢◌, ◌-◌, ◌<◌, ◌≤◌, length, drop, slice_index, All};
 
 /// How many of these bytes stand behind the last line feed; all, if there is none.
 pub fn torn(bytes: &[u8]) -> usize

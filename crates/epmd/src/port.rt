@@ -1,5 +1,5 @@
 //! How the port of a node is asked for: PORT_PLEASE2_REQ, and its answer.
-ghost use Rattle.std.specs.Prelude.{◌≡◌, ◌≢◌, ◌≤◌, ◌<◌, ◌^◌, ◌∷◌, ◌++◌, ℕ, List, length};
+ghost use Rattle.std.specs.Prelude.{◌≡◌, ◌≤◌, ◌<◌, ◌^◌, ◌∷◌, ◌++◌, ℕ, List, length};
 ghost use Rattle.std.specs.Prelude.{IfOk, IfErr, IsOkAnd, IfSome, IsSomeAnd, OnOk};
 ghost use Rattle.std.specs.Int.{w16, to_be_bytes};
 ghost use Rattle.epmd.specs.Head.{IsNameFault};

@@ -3,7 +3,6 @@
 //! where no such term stands there.
 ghost use Rattle.std.specs.Prelude.{◌≡◌, ◌<◌, ◌*◌, ◌^◌, ◌∷◌, ◌++◌, length, ℕ, List, IfSome};
 ghost use Rattle.std.specs.Prelude.{IsSomeAnd};
-ghost use Rattle.std.specs.Int.{w16, w32, to_be_bytes};
 ghost use Rattle.external_terms.specs.Values.{short, medium, long, small_integer_bytes, atom_bytes};
 ghost use Rattle.external_terms.specs.Values.{Process, process_said, ProcessFits, process_bytes};
 ghost use Rattle.external_terms.specs.Values.{Reference, reference_said, ReferenceFits};

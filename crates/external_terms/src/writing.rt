@@ -1,6 +1,6 @@
 //! The terms that a link is made of, appended to bytes. Where there is no memory, nothing is
 //! appended.
-ghost use Rattle.std.specs.Prelude.{◌≡◌, ◌<◌, ◌*◌, ◌^◌, ◌++◌, length, OnOk, OnErr};
+ghost use Rattle.std.specs.Prelude.{◌≡◌, ◌<◌, ◌^◌, ◌++◌, length, OnOk, OnErr};
 ghost use Rattle.external_terms.specs.Values.{small_integer_bytes, atom_bytes, process_said};
 ghost use Rattle.external_terms.specs.Values.{process_bytes, reference_said, reference_bytes};
 ghost use Rattle.external_terms.specs.Values.{tuple_head, list_head, nil_bytes, numbers_bytes};

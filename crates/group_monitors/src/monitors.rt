@@ -1,7 +1,7 @@
 //! The monitors of a node (Kernel manual, `pg:monitor/2`, `pg:monitor_scope/1`, `pg:demonitor/2`).
 ghost use Rattle.std.specs.Prelude.{◌≡◌, ◌++◌, ◌∷◌, [], ◌≤◌, nat_le, Some, None, length, not, IfOk, IfErr, OnOk, OnErr, IfSome, IsSome};
 ghost use Rattle.std.specs.List.{list_all};
-ghost use Rattle.std.specs.Option.{option_map, option_copied};
+ghost use Rattle.std.specs.Option.{option_map};
 ghost use Rattle.dist_types.specs.Listing.{same};
 ghost use Rattle.group_monitors.specs.Monitors.{monitor_of, IsFree, IsNumbered, HasSeen, updates_behind, with_place, without, without_scope, IsUpdatesFault};
 

@@ -1,19 +1,19 @@
 -- What the parts of a message make of it where they come in their order.
 use Rattle.link_frames.proofs
 use Rattle.link_frames.specs
-use Rattle.dist_types.specs.Listing.{max_rows, same}
-use proofs.Words.{All, All-cons, All-nil, ap, append_assoc, AreRows, arith, Bool, cond, drop, false}
+use Rattle.dist_types.specs.Listing.{max_rows}
+use proofs.Words.{All, All-cons, All-nil, ap, append_assoc, arith, drop, false}
 use proofs.Words.{IsRow, length, List, Message, None, Option, refl, Row, rules, Some, subst, suc}
-use proofs.Words.{sym, take, take-append-drop, text_bytes, true, zero, ℕ, [], ◌&&◌, ◌*◌, ◌++◌, ◌+◌}
+use proofs.Words.{sym, take, take-append-drop, text_bytes, true, zero, ℕ, [], ◌++◌, ◌+◌}
 use proofs.Words.{◌-◌, ◌<◌, ◌==◌, ◌^◌, ◌∙◌, ◌∷◌, ◌≡◌, ◌≤◌}
-use Rattle.std.specs.Prelude.{map, ⊤, ◌%◌, ◌/◌}
+use Rattle.std.specs.Prelude.{map, ◌/◌}
 use Rattle.std.proofs.lemmas.List.{length-drop, length-take-le}
 use Rattle.std.proofs.lemmas.List.Elements.{All-drop, All-take}
 use Rattle.dist_types.specs.Text.{IsText}
 use specs.declared.part.PartKind.{PartKind}
 use specs.declared.part.Message2.{Message2}
-use specs.Parts.{AreWritten, before_last, Begun, begun_after, begun_by, completed, completed_by}
-use specs.Parts.{follows, HasParts, HasSome, is_next, IsMessage2, IsPart, kind_byte, may_come}
+use specs.Parts.{AreWritten, before_last, Begun, completed_by}
+use specs.Parts.{HasParts, HasSome, is_next, IsMessage2, IsPart, kind_byte, may_come}
 use specs.Parts.{MayCome, message2_bytes, message_of, part_bytes, parts, parts_from, rows_before}
 use specs.Parts.{rows_so_far, whole}
 use specs.declared.message.Message.TheVariants as messages

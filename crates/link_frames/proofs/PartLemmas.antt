@@ -2,14 +2,13 @@
 -- a message.
 use Rattle.link_frames.proofs
 use Rattle.link_frames.specs
-use proofs.Words.{All, and_from, and_parts, ap, append-nil, append_assoc, are_rows, AreRows, arith}
-use proofs.Words.{behind_text, Bool, cond, counted_rows_in, Decides-and, drop, drop_at, Err, false}
+use proofs.Words.{and_from, and_parts, ap, append-nil, arith}
+use proofs.Words.{behind_text, Bool, cond, counted_rows_in, Decides-and, drop, Err, false}
 use proofs.Words.{from_be_bytes, from_be_bytes-to_be_bytes_4, get_or, IsTrue, length, length-append}
-use proofs.Words.{List, max_body, Message, nat_le, nat_lt, None, Ok, Option, refl, Result, Row}
-use proofs.Words.{rows_bytes, rules, Some, subst, suc, sym, take, take-append-drop, take_all}
-use proofs.Words.{take_at, text_bytes, text_in, to_be_bytes, true, w32, zero, ℕ, [], ◌&&◌, ◌++◌}
-use proofs.Words.{◌+◌, ◌-◌, ◌<◌, ◌==◌, ◌^◌, ◌↔◌, ◌∙◌, ◌∷◌, ◌≡◌, ◌≤◌}
-use Rattle.std.specs.Prelude.{⊤, ◌/◌}
+use proofs.Words.{List, max_body, None, Ok, Option, refl, Result, Row}
+use proofs.Words.{rows_bytes, Some, subst, sym, take}
+use proofs.Words.{text_bytes, text_in, true, w32, ℕ, [], ◌&&◌, ◌++◌}
+use proofs.Words.{◌+◌, ◌-◌, ◌==◌, ◌^◌, ◌↔◌, ◌∙◌, ◌∷◌, ◌≡◌, ◌≤◌}
 use Rattle.std.specs.Str.{bytes_eq}
 use Rattle.std.specs.Result.{IfOk, MatchResult}
 use Rattle.std.proofs.lemmas.Slice.Eq.{bytes_eq-Decides}

@@ -2,16 +2,16 @@
 use Rattle.link_frames.proofs
 use Rattle.link_frames.specs
 use Rattle.dist_types.specs.Listing.{max_rows, same}
-use proofs.Words.{ap, append-nil, append_assoc, arith, Bool, cond, drop, false, inl, inr, List}
+use proofs.Words.{ap, append-nil, append_assoc, cond, drop, false, inl, inr, List}
 use proofs.Words.{Message, None, Option, refl, Row, rules, Some, subst, suc, sym, take, true, zero}
 use proofs.Words.{ℕ, [], ◌++◌, ◌==◌, ◌∙◌, ◌∷◌, ◌≡◌}
-use Rattle.std.specs.Prelude.{⊤, ◌⊎◌}
-use Rattle.std.specs.Option.{option_map_or, option_to_list}
+use Rattle.std.specs.Prelude.{⊤}
+use Rattle.std.specs.Option.{option_to_list}
 use specs.declared.part.PartKind.{PartKind}
 use specs.declared.part.Message2.{Message2}
 use specs.Parts.{AreInOrder, before_last, Begun, begun_after, begun_by, comes_next, completed}
-use specs.Parts.{completed_by, follows, is_next, KeepsOrNot, kind_byte, may_come, message_of, parts}
-use specs.Parts.{parts_from, rows_before, rows_so_far}
+use specs.Parts.{completed_by, KeepsOrNot, may_come, message_of, parts}
+use specs.Parts.{parts_from, rows_before}
 use proofs.PartLaws.{kept, parts_complete, so_far_later}
 use specs.declared.message.Message.TheVariants as messages
 use specs.declared.part.PartKind.TheVariants as kinds

@@ -1,5 +1,5 @@
 //! What is kept of a message of which parts have come, and not the last.
-ghost use Rattle.std.specs.Prelude.{◌≡◌, ◌++◌, Some, IfOk, OnOk, OnErr};
+ghost use Rattle.std.specs.Prelude.{◌≡◌, Some, IfOk, OnOk, OnErr};
 ghost use Rattle.link_frames.specs.Parts.{follows};
 ghost use Rattle.link_frames.specs.Undoing.{with_part, undone, undone_of};
 

@@ -1,5 +1,5 @@
 //! Bodies to messages.
-ghost use Rattle.std.specs.Prelude.{◌≡◌, ◌∷◌, ◌++◌, ◌<◌, ℕ, List, Some, None, All, IfOk, MatchResult, length};
+ghost use Rattle.std.specs.Prelude.{◌≡◌, ◌∷◌, ◌++◌, ◌<◌, List, Some, None, All, IfOk, MatchResult, length};
 ghost use Rattle.std.specs.List.{flat_map};
 ghost use Rattle.link_frames.specs.declared.fault.MessageFault.TheVariants as faults;
 ghost use Rattle.link_frames.specs.declared.message.Message.{Message};

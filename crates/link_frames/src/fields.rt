@@ -1,6 +1,6 @@
 //! Texts and rows at the front of a body. Each reader gives what it read and what stands behind it.
 //! A row shares the texts that it has in common with the row before it.
-ghost use Rattle.std.specs.Prelude.{◌≡◌, ◌<◌, ◌^◌, ◌++◌, ℕ, List, length, IfOk, IfSome, IsSomeAnd, MatchResult};
+ghost use Rattle.std.specs.Prelude.{◌≡◌, ◌<◌, ◌^◌, ◌++◌, ℕ, List, IfOk, IfSome, IsSomeAnd, MatchResult};
 ghost use Rattle.std.specs.Int.{w16, w32, w64, to_be_bytes};
 ghost use Rattle.dist_types.specs.Text.{IsText, IsNodeName};
 ghost use Rattle.dist_types.specs.declared.row.Row.{Row};

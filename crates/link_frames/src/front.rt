@@ -1,5 +1,5 @@
 //! The length at the front of a stream, behind ticks.
-ghost use Rattle.std.specs.Prelude.{◌≡◌, ◌<◌, ◌+◌, ◌++◌, ℕ, List, length, IfOk, IfErr, IfSome, IfNone};
+ghost use Rattle.std.specs.Prelude.{◌≡◌, ◌<◌, ◌+◌, ◌++◌, ℕ, length, IfOk, IfErr, IfSome, IfNone};
 ghost use Rattle.std.specs.Int.{w32, to_be_bytes};
 ghost use Rattle.link_frames.specs.Stream.{ticks};
 

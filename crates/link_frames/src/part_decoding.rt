@@ -1,12 +1,12 @@
 //! Bodies to the messages of version 2.
-ghost use Rattle.std.specs.Prelude.{◌≡◌, ◌∷◌, ◌++◌, ◌<◌, ◌≤◌, ◌^◌, ℕ, Bool, List, Some, None, IfOk, IfSome, IsSomeAnd, MatchResult, length};
+ghost use Rattle.std.specs.Prelude.{◌≡◌, ◌∷◌, ◌++◌, ◌<◌, ◌≤◌, ◌^◌, ℕ, Bool, List, Some, None, IfOk, IfSome, IsSomeAnd, MatchResult};
 ghost use Rattle.std.specs.Int.{w32, to_be_bytes};
 ghost use Rattle.link_frames.specs.declared.fault.MessageFault.TheVariants as faults;
 ghost use Rattle.link_frames.specs.declared.part.Message2.{Message2};
 ghost use Rattle.dist_types.specs.Text.{IsText};
 ghost use Rattle.dist_types.specs.declared.row.Row.{Row};
 ghost use Rattle.link_frames.specs.Spelling.{text_bytes, rows_bytes, AreRows};
-ghost use Rattle.link_frames.specs.Parts.{kind_byte, last_byte, part_bytes, HasSome, SpellsMessage2};
+ghost use Rattle.link_frames.specs.Parts.{kind_byte, last_byte, HasSome, SpellsMessage2};
 ghost use Rattle.link_frames.specs.PartReading.{message2};
 
 use crate::decoding::{rows_at, some_rows_at};

@@ -1,7 +1,6 @@
 //! The messages of version 2 to bodies.
-ghost use Rattle.std.specs.Prelude.{◌≡◌, ◌++◌, ◌∷◌, ◌≤◌, ◌<◌, ◌^◌, List, ℕ, length, OnOk, OnErr, IfOk};
+ghost use Rattle.std.specs.Prelude.{◌≡◌, ◌++◌, ◌∷◌, ◌≤◌, ◌<◌, List, ℕ, length, OnOk, OnErr, IfOk};
 ghost use Rattle.dist_types.specs.Listing.{max_rows};
-ghost use Rattle.dist_types.specs.Text.{IsText};
 ghost use Rattle.link_frames.specs.Spelling.{text_bytes, AreRows};
 ghost use Rattle.link_frames.specs.Stream.{max_body};
 ghost use Rattle.link_frames.specs.Parts.{kind_byte, part_bytes, message2_bytes, HasSome, IsPart, IsMessage2, HasSpelling2};

@@ -1,7 +1,7 @@
 //! The links that bear on a handshake.
 ghost use Rattle.std.specs.Prelude.{◌≡◌};
 ghost use Rattle.link_states.specs.declared.pending.Pending.{Pending};
-ghost use Rattle.link_states.specs.Pending.{has_name, is_up, is_dialled};
+ghost use Rattle.link_states.specs.Pending.{is_up, is_dialled};
 
 use dist_types::{Items, NodeName};
 

@@ -11,7 +11,7 @@ use proofs.Words.{Option, option_map_or, PartKind, peer_limit, peer_of, peer_row
 use proofs.Words.{refusal_owes, refuses_calmly, Row, row_limit, rows_before, rows_of, rows_so_far}
 use proofs.Words.{Rule, Running, same, same_decides, same_sym, says_in, scope_in, scope_words}
 use proofs.Words.{so_far, Some, subst, sym, Table, table_refusal, takes_parts, true, up_peer, ℕ, []}
-use proofs.Words.{◌&&◌, ◌==◌, ◌∙◌, ◌∷◌, ◌≡◌}
+use proofs.Words.{◌&&◌, ◌==◌, ◌∙◌, ◌≡◌}
 use Rattle.std.proofs.lemmas.List.Folds.{list_all-append, list_all_at}
 use Rattle.scope_core.proofs.Members.{length-members}
 use Rattle.policy_audit.specs.Sides.{is_visible}
@@ -23,7 +23,6 @@ use proofs.Found.{some_is}
 use proofs.Scopes.{counts_listed, groups_listing, members_listing}
 use proofs.MessagePlaces.{IsUpHere}
 use proofs.MessageKept.{message_rules}
-use Rattle.link_frames.specs.Parts.{is_next}
 
 -- ---- checks
 

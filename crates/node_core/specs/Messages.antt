@@ -1,7 +1,6 @@
 -- Messages of linked nodes.
 use Rattle.std.specs.Prelude.{ℕ, Bool, true, false, not, ◌&&◌, cond, List, Option, Some, None}
 use Rattle.std.specs.Option.{option_map}
-use Rattle.dist_types.specs.declared.row.Row.{Row}
 use Rattle.link_frames.specs.declared.part.PartKind.{PartKind}
 use Rattle.link_frames.specs.declared.part.PartKind.TheVariants as kinds
 use Rattle.link_frames.specs.declared.part.Message2.{Message2}

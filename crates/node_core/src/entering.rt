@@ -1,6 +1,5 @@
 //! What an event is answered, and its entry in the audit.
-ghost use Rattle.std.specs.Prelude.{◌≡◌, ◌<◌, ◌+◌, ◌∷◌, [], true, length, Ok, Err, IfOk};
-ghost use Rattle.policy_audit.specs.declared.entry.Entry.{Entry};
+ghost use Rattle.std.specs.Prelude.{◌≡◌, ◌<◌, [], true, length, Ok, Err, IfOk};
 ghost use Rattle.node_core.specs.declared.fault.CoreFault.TheVariants as faults;
 ghost use Rattle.node_core.specs.Step.{Says, one_more, reply_of};
 

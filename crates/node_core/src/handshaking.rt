@@ -1,14 +1,12 @@
 //! Frames of the handshake.
-ghost use Rattle.std.specs.Prelude.{◌≡◌, ◌+◌, ◌<◌, ◌≤◌, ◌++◌, vec_len, vec_capacity, [], cond, true, false, length, find, is_some, map, Some, None, IfOk};
-ghost use Rattle.std.specs.List.{AllZip, insert};
-ghost use Rattle.std.specs.Option.{option_map, option_map_or, unwrap_or};
-ghost use Rattle.dist_types.specs.Listing.{same};
+ghost use Rattle.std.specs.Prelude.{◌≡◌, ◌+◌, ◌<◌, ◌≤◌, ◌++◌, vec_len, vec_capacity, [], cond, true, length, find, is_some, map, Some, None, IfOk};
+ghost use Rattle.std.specs.List.{insert};
+ghost use Rattle.std.specs.Option.{unwrap_or};
 ghost use Rattle.link_frames.specs.declared.message.Message.TheVariants as said;
 ghost use Rattle.policy_audit.specs.Owed.{wide};
-ghost use Rattle.node_core.specs.Links.{known_peer, up_peer, dial_beside, narrow_frames};
+ghost use Rattle.node_core.specs.Links.{known_peer, dial_beside, narrow_frames};
 ghost use Rattle.node_core.specs.Handshakes.{IsReady, HaveGoneOn, HaveEnded, HaveComeUp, moved_on, older_of, without_link};
 ghost use Rattle.node_core.specs.Gone.{AreLost};
-ghost use Rattle.node_core.specs.Parting.{IsCutOff};
 ghost use Rattle.policy_audit.specs.declared.event.Event.TheVariants as events;
 ghost use Rattle.node_core.specs.FramesHere.{AwaitsEarly, AwaitsLast};
 ghost use Rattle.node_core.specs.Step.{Call, IsCalled, Answers};
@@ -172,15 +170,14 @@ fn go_on(
     remove_some(links, dial);
 }
 
-/// The number of the own dial that is given up for a link in this state, if one is.
+/// The number of the own dial beside a link in this state, where it is given up.
 fn given_up(links: &[Link], state: &LinkState, gives_up: bool) -> Option<u32>
     ensures { result ≡ cond gives_up (dial_beside state.now links.now) None }
 {
-    if gives_up {
-        dial_beside(links, state)
-    } else {
-        None
+    if gives_up && let LinkState::Reply(reply) = state {
+        return Some(dial_to(links, reply.peer())?.number());
     }
+    None
 }
 
 /// The link of this number is gone, if there is a number.
@@ -260,15 +257,7 @@ fn owe_all(link: &mut Link, frames: Bodies, visible: bool, discovers: Vec<OutFra
 fn older_of(links: &[Link], peer: &NodeName) -> Option<u32>
     ensures { result ≡ older_of peer.now links.now }
 {
-    Some(up_with(links, peer)?.number())
-}
-
-/// The link that is up with this peer.
-fn up_with<'a>(links: &'a [Link], peer: &NodeName) -> Option<&'a Link>
-    ensures { option_map (λ x. x.now) result
-        ≡ find (λ x. option_map_or (λ n. same n peer.now) (up_peer x.state) false) links.now }
-{
-    links.iter().find(|link| link.is_up_with(peer))
+    Some(links.iter().find(|link| link.is_up_with(peer))?.number())
 }
 
 /// That the link is up.
@@ -301,16 +290,6 @@ fn arrival_of(alloc: Global, link: &Link, scopes: &[Running]) -> Result<Arrival,
         changes: changes_of(alloc, scopes, Leaving::Node(peer))?,
         discovers: discovers_of(alloc, scopes)?,
     })
-}
-
-/// The own dial to the peer of a link in this state.
-fn dial_beside(links: &[Link], state: &LinkState) -> Option<u32>
-    ensures { result ≡ dial_beside state.now links.now }
-{
-    let LinkState::Reply(reply) = state else {
-        return None;
-    };
-    Some(dial_to(links, reply.peer())?.number())
 }
 
 /// A Discover for each scope that runs.

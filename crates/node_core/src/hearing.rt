@@ -1,6 +1,5 @@
 //! What a frame of the handshake makes of a link's state.
 ghost use Rattle.std.specs.Prelude.{◌≡◌, true, false};
-ghost use Rattle.link_states.specs.Checks.{Check};
 ghost use Rattle.node_core.specs.declared.link_state.LinkState.TheVariants as states;
 ghost use Rattle.node_core.specs.Hearing.{Hears, is_handshake, rule_of};
 

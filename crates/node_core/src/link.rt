@@ -1,6 +1,5 @@
 //! A link that is kept.
-ghost use Rattle.std.specs.Prelude.{◌≡◌, ◌++◌, vec_len, vec_capacity, [], ◌≤◌, ◌+◌, ◌==◌, false, cond, ℕ, length, None, OnOk, OnErr, IfOk};
-ghost use Rattle.std.specs.Option.{option_map, option_map_or};
+ghost use Rattle.std.specs.Prelude.{◌≡◌, ◌++◌, vec_len, vec_capacity, [], ◌≤◌, ◌+◌, ◌==◌, false, cond, length, None, OnOk, OnErr, IfOk};
 ghost use Rattle.dist_types.specs.Listing.{same};
 ghost use Rattle.link_frames.specs.declared.part.Message2.TheVariants as messages;
 ghost use Rattle.link_frames.specs.Parts.{is_next, begun_after};

@@ -1,13 +1,12 @@
 //! The kept links together.
-ghost use Rattle.std.specs.Prelude.{◌≡◌, ◌++◌, ◌∷◌, [], ◌&&◌, cond, nat_eq, true, false, map, position, is_some, OnOk, OnErr, IfOk, ◌<◌, length, slice_index_or};
-ghost use Rattle.std.specs.List.{list_any, filter, flat_map, AllByRecursion};
+ghost use Rattle.std.specs.Prelude.{◌≡◌, [], ◌&&◌, cond, nat_eq, true, false, map, position, is_some, OnOk, OnErr, IfOk, ◌<◌, length, slice_index_or};
+ghost use Rattle.std.specs.List.{list_any, filter, flat_map};
 ghost use Rattle.std.specs.Option.{option_map, option_map_or, option_to_list};
 ghost use Rattle.dist_types.specs.Listing.{same};
 ghost use Rattle.node_core.specs.Links.{KeptLink, AreInOrder, up_peer, dialled_peer, dial_to, is_shown, with_prepared, unroomed, committed, prepared_for, link_place, without_number};
 ghost use Rattle.node_core.specs.Links.{broken_off, is_any_in};
 ghost use Rattle.node_core.specs.Telling.{said_in, CanBeSaid, IsSpelled, MayBeSaid};
 ghost use Rattle.node_core.specs.Gone.{without_ended};
-ghost use Rattle.node_core.specs.ScopeFacts.{is_number};
 
 use crate::frames::frames_of;
 use crate::link::Link;

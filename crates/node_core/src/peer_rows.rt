@@ -14,34 +14,43 @@ use link_frames::PartKind;
 use policy_audit::{Change, Rule};
 use std::alloc::Global;
 
-/// What all rows of a message of a peer make of the scope, where the peer may have so many rows.
+/// Rows of its own processes that a peer says, in a message of this kind.
+#[derive(Clone, Copy)]
+pub struct PeerRows<'a> {
+    /// The number of the link that brings them.
+    pub link: u32,
+    pub kind: PartKind,
+    pub peer: &'a NodeName,
+    pub rows: &'a [Row],
+    /// The most rows that the peer may have in the scope.
+    pub limit: u32,
+}
+
+/// What all rows of a message make of the scope.
 pub fn hear(
     alloc: Global,
     running: &mut Running,
-    number: u32,
-    kind: PartKind,
     scope: Scope,
-    peer: &NodeName,
-    rows: &[Row],
-    limit: u32,
+    said: PeerRows<'_>,
 ) -> Result<Vec<Change>, CoreFault>
-    requires { All (λ r. r.pid.node ≡ peer.now) rows.now }
-    ensures ok { OnOk result (HasBecome running.old running.new (count_after kind
-        running.old.table peer.now rows.now) (heard_after kind number running.old.heard.items)
-        running.old.told.items) }
-    ensures change { IfOk result (λ changes. IsChangeIn scope (count_of running.old.table)
-        (count_of running.new.table) changes.items) }
-    ensures refused { IfErr result (IsRowFault (table_refusal running.old.table peer.now kind
-        rows.now limit)) }
-    ensures holds { OnOk result (table_refusal running.old.table peer.now kind rows.now limit ≡
-        None) }
+    requires { All (λ r. r.pid.node ≡ said.peer.now) said.rows.now }
+    ensures ok { OnOk result (HasBecome running.old running.new
+        (count_after said.kind running.old.table said.peer.now said.rows.now)
+        (heard_after said.kind said.link running.old.heard.items) running.old.told.items) }
+    ensures change { IfOk result (λ changes.
+        IsChangeIn scope (count_of running.old.table) (count_of running.new.table) changes.items) }
+    ensures refused { IfErr result
+        (IsRowFault (table_refusal running.old.table said.peer.now said.kind said.rows.now
+        said.limit)) }
+    ensures holds { OnOk result (table_refusal running.old.table said.peer.now said.kind
+        said.rows.now said.limit ≡ None) }
     ensures same { OnErr result (HasBecome running.old running.new (count_of running.old.table)
         running.old.heard.items running.old.told.items) }
 {
-    match kind {
-        PartKind::Sync => hear_rows(alloc, running, number, scope, peer, rows, limit),
-        PartKind::Join => add_rows(alloc, running, scope, peer, rows, limit),
-        PartKind::Leave => take_rows(alloc, running, scope, peer, rows),
+    match said.kind {
+        PartKind::Sync => hear_rows(alloc, running, scope, said),
+        PartKind::Join => add_rows(alloc, running, scope, said),
+        PartKind::Leave => take_rows(alloc, running, scope, said),
     }
 }
 
@@ -50,30 +59,27 @@ pub fn hear(
 fn hear_rows(
     alloc: Global,
     running: &mut Running,
-    number: u32,
     scope: Scope,
-    peer: &NodeName,
-    rows: &[Row],
-    limit: u32,
+    said: PeerRows<'_>,
 ) -> Result<Vec<Change>, CoreFault>
-    requires { All (λ r. r.pid.node ≡ peer.now) rows.now }
-    ensures ok { OnOk result (HasBecome running.old running.new (count_after_sync
-        running.old.table peer.now rows.now) (with_number number running.old.heard.items)
-        running.old.told.items) }
-    ensures change { IfOk result (λ changes. IsChangeIn scope (count_of running.old.table)
-        (count_of running.new.table) changes.items) }
-    ensures refused { IfErr result (IsRowFault (cond (nat_le (length rows.now) limit) None (Some
-        Rule.RowsFull))) }
-    ensures holds { OnOk result (cond (nat_le (length rows.now) limit) None (Some Rule.RowsFull) ≡
-        None) }
+    requires { All (λ r. r.pid.node ≡ said.peer.now) said.rows.now }
+    ensures ok { OnOk result (HasBecome running.old running.new
+        (count_after_sync running.old.table said.peer.now said.rows.now)
+        (with_number said.link running.old.heard.items) running.old.told.items) }
+    ensures change { IfOk result (λ changes.
+        IsChangeIn scope (count_of running.old.table) (count_of running.new.table) changes.items) }
+    ensures refused { IfErr result
+        (IsRowFault (cond (nat_le (length said.rows.now) said.limit) None (Some Rule.RowsFull))) }
+    ensures holds { OnOk result (cond (nat_le (length said.rows.now) said.limit) None
+        (Some Rule.RowsFull) ≡ None) }
     ensures same { OnErr result (HasBecome running.old running.new (count_of running.old.table)
         running.old.heard.items running.old.told.items) }
 {
     let room = ChangeRoom::new(alloc, scope)?;
     running.heard.reserve(1)?;
-    match running.table.sync(peer, rows, limit) {
+    match running.table.sync(said.peer, said.rows, said.limit) {
         Ok(groups) => {
-            note(&mut running.heard, number);
+            note(&mut running.heard, said.link);
             Ok(room.filled(groups))
         }
         Err(fault) => Err(fault_of(fault)),
@@ -86,24 +92,25 @@ fn add_rows(
     alloc: Global,
     running: &mut Running,
     scope: Scope,
-    peer: &NodeName,
-    rows: &[Row],
-    limit: u32,
+    said: PeerRows<'_>,
 ) -> Result<Vec<Change>, CoreFault>
-    requires { All (λ r. r.pid.node ≡ peer.now) rows.now }
-    ensures ok { OnOk result (HasBecome running.old running.new (count_after_add running.old.table
-        rows.now) running.old.heard.items running.old.told.items) }
-    ensures change { IfOk result (λ changes. IsChangeIn scope (count_of running.old.table)
-        (count_of running.new.table) changes.items) }
-    ensures refused { IfErr result (IsRowFault (cond (nat_le (node_total running.old.table
-        peer.now + length rows.now) limit) None (Some Rule.RowsFull))) }
-    ensures holds { OnOk result (cond (nat_le (node_total running.old.table peer.now + length
-        rows.now) limit) None (Some Rule.RowsFull) ≡ None) }
+    requires { All (λ r. r.pid.node ≡ said.peer.now) said.rows.now }
+    ensures ok { OnOk result (HasBecome running.old running.new
+        (count_after_add running.old.table said.rows.now) running.old.heard.items
+        running.old.told.items) }
+    ensures change { IfOk result (λ changes.
+        IsChangeIn scope (count_of running.old.table) (count_of running.new.table) changes.items) }
+    ensures refused { IfErr result
+        (IsRowFault (cond (nat_le (node_total running.old.table said.peer.now
+        + length said.rows.now) said.limit) None (Some Rule.RowsFull))) }
+    ensures holds { OnOk result
+        (cond (nat_le (node_total running.old.table said.peer.now + length said.rows.now)
+        said.limit) None (Some Rule.RowsFull) ≡ None) }
     ensures same { OnErr result (HasBecome running.old running.new (count_of running.old.table)
         running.old.heard.items running.old.told.items) }
 {
     let room = ChangeRoom::new(alloc, scope)?;
-    match running.table.join_remote(peer, rows, limit) {
+    match running.table.join_remote(said.peer, said.rows, said.limit) {
         Ok(groups) => Ok(room.filled(groups)),
         Err(fault) => Err(fault_of(fault)),
     }
@@ -115,23 +122,24 @@ fn take_rows(
     alloc: Global,
     running: &mut Running,
     scope: Scope,
-    peer: &NodeName,
-    rows: &[Row],
+    said: PeerRows<'_>,
 ) -> Result<Vec<Change>, CoreFault>
-    requires { All (λ r. r.pid.node ≡ peer.now) rows.now }
-    ensures ok { OnOk result (HasBecome running.old running.new (count_after_take
-        running.old.table rows.now) running.old.heard.items running.old.told.items) }
-    ensures change { IfOk result (λ changes. IsChangeIn scope (count_of running.old.table)
-        (count_of running.new.table) changes.items) }
-    ensures refused { IfErr result (IsRowFault (cond (are_counted running.old.table rows.now) None
+    requires { All (λ r. r.pid.node ≡ said.peer.now) said.rows.now }
+    ensures ok { OnOk result (HasBecome running.old running.new
+        (count_after_take running.old.table said.rows.now) running.old.heard.items
+        running.old.told.items) }
+    ensures change { IfOk result (λ changes.
+        IsChangeIn scope (count_of running.old.table) (count_of running.new.table) changes.items) }
+    ensures refused { IfErr result
+        (IsRowFault (cond (are_counted running.old.table said.rows.now) None
         (Some Rule.NotListed))) }
-    ensures holds { OnOk result (cond (are_counted running.old.table rows.now) None (Some
-        Rule.NotListed) ≡ None) }
+    ensures holds { OnOk result (cond (are_counted running.old.table said.rows.now) None
+        (Some Rule.NotListed) ≡ None) }
     ensures same { OnErr result (HasBecome running.old running.new (count_of running.old.table)
         running.old.heard.items running.old.told.items) }
 {
     let room = ChangeRoom::new(alloc, scope)?;
-    match running.table.leave_remote(peer, rows) {
+    match running.table.leave_remote(said.peer, said.rows) {
         Ok(groups) => Ok(room.filled(groups)),
         Err(fault) => Err(fault_of(fault)),
     }
@@ -157,31 +165,29 @@ pub fn drop_change(
 pub fn hear_or_test(
     alloc: Global,
     running: &mut Running,
-    number: u32,
-    kind: PartKind,
-    peer: &NodeName,
-    rows: &[Row],
-    limit: u32,
+    said: PeerRows<'_>,
     last: bool,
 ) -> Result<Vec<Change>, CoreFault>
-    requires { All (λ r. r.pid.node ≡ peer.now) rows.now }
-    ensures ok { OnOk result (HasBecome running.old running.new (count_with last kind
-        running.old.table peer.now rows.now) (heard_with last kind number running.old.heard.items)
-        running.old.told.items) }
-    ensures change { IfOk result (λ changes. IsChangeIn running.old.scope (count_of
-        running.old.table) (count_of running.new.table) changes.items) }
-    ensures refused { IfErr result (IsRowFault (table_refusal running.old.table peer.now kind
-        rows.now limit)) }
-    ensures holds { OnOk result (table_refusal running.old.table peer.now kind rows.now limit ≡
-        None) }
+    requires { All (λ r. r.pid.node ≡ said.peer.now) said.rows.now }
+    ensures ok { OnOk result (HasBecome running.old running.new
+        (count_with last said.kind running.old.table said.peer.now said.rows.now)
+        (heard_with last said.kind said.link running.old.heard.items) running.old.told.items) }
+    ensures change { IfOk result (λ changes.
+        IsChangeIn running.old.scope (count_of running.old.table) (count_of running.new.table)
+        changes.items) }
+    ensures refused { IfErr result
+        (IsRowFault (table_refusal running.old.table said.peer.now said.kind said.rows.now
+        said.limit)) }
+    ensures holds { OnOk result (table_refusal running.old.table said.peer.now said.kind
+        said.rows.now said.limit ≡ None) }
     ensures same { OnErr result (HasBecome running.old running.new (count_of running.old.table)
         running.old.heard.items running.old.told.items) }
 {
     if last {
         let scope = running.scope.try_clone(alloc)?;
-        return hear(alloc, running, number, kind, scope, peer, rows, limit);
+        return hear(alloc, running, scope, said);
     }
-    tested(alloc, running, kind, peer, rows, limit)
+    tested(alloc, running, said)
 }
 
 /// What rows of a peer's message make of the scope before the last part has come: nothing, where
@@ -190,42 +196,37 @@ pub fn hear_or_test(
 fn tested(
     alloc: Global,
     running: &mut Running,
-    kind: PartKind,
-    peer: &NodeName,
-    rows: &[Row],
-    limit: u32,
+    said: PeerRows<'_>,
 ) -> Result<Vec<Change>, CoreFault>
-    requires { All (λ r. r.pid.node ≡ peer.now) rows.now }
+    requires { All (λ r. r.pid.node ≡ said.peer.now) said.rows.now }
     ensures became { HasBecome running.old running.new (count_of running.old.table)
         running.old.heard.items running.old.told.items }
-    ensures change { IfOk result (λ changes. IsChangeIn running.old.scope (count_of
-        running.old.table) (count_of running.new.table) changes.items) }
-    ensures refused { IfErr result (IsRowFault (table_refusal running.old.table peer.now kind
-        rows.now limit)) }
-    ensures holds { OnOk result (table_refusal running.old.table peer.now kind rows.now limit ≡
-        None) }
+    ensures change { IfOk result (λ changes.
+        IsChangeIn running.old.scope (count_of running.old.table) (count_of running.new.table)
+        changes.items) }
+    ensures refused { IfErr result
+        (IsRowFault (table_refusal running.old.table said.peer.now said.kind said.rows.now
+        said.limit)) }
+    ensures holds { OnOk result (table_refusal running.old.table said.peer.now said.kind
+        said.rows.now said.limit ≡ None) }
 {
-    match table_refusal(running, kind, peer, rows, limit) {
+    match table_refusal(running, said) {
         Some(rule) => Err(CoreFault::Refused(rule)),
         None => Ok(Vec::new(alloc)),
     }
 }
 
 /// The rule that rows of a peer break by the table of the scope. It takes no memory.
-fn table_refusal(
-    running: &mut Running,
-    kind: PartKind,
-    peer: &NodeName,
-    rows: &[Row],
-    limit: u32,
-) -> Option<Rule>
-    requires { All (λ r. r.pid.node ≡ peer.now) rows.now }
-    ensures value { result ≡ table_refusal running.old.table peer.now kind rows.now limit }
+fn table_refusal(running: &mut Running, said: PeerRows<'_>) -> Option<Rule>
+    requires { All (λ r. r.pid.node ≡ said.peer.now) said.rows.now }
+    ensures value { result ≡ table_refusal running.old.table said.peer.now said.kind said.rows.now
+        said.limit }
     ensures same { running.new ≡ running.old }
 {
-    match kind {
-        PartKind::Sync => full(rows.len() > limit as usize),
-        PartKind::Join => full(running.table.peer_total(peer) + rows.len() > limit as usize),
+    let (peer, rows, limit) = (said.peer, said.rows, said.limit as usize);
+    match said.kind {
+        PartKind::Sync => full(rows.len() > limit),
+        PartKind::Join => full(running.table.peer_total(peer) + rows.len() > limit),
         PartKind::Leave => unlisted(running.table.has_rows(peer, rows)),
     }
 }

@@ -1,5 +1,5 @@
 //! The processes of a node.
-ghost use Rattle.std.specs.Prelude.{◌≡◌, ◌+◌, ◌<◌, ◌^◌, ◌==◌, ◌∷◌, [], ◌++◌, ℕ, Bool, true, false, cond, not, ◌&&◌, nat_le, nat_eq, length, OnOk, OnErr, IfOk};
+ghost use Rattle.std.specs.Prelude.{◌≡◌, ◌+◌, ◌<◌, ◌^◌, [], ℕ, true, false, cond, nat_le, nat_eq, length, OnOk, OnErr};
 ghost use Rattle.node_core.specs.Processes.{max_living};
 ghost use Rattle.node_core.specs.ScopeFacts.{is_number};
 

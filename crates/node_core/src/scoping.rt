@@ -1,5 +1,5 @@
 //! Scopes that start and stop, and a node that begins anew.
-ghost use Rattle.std.specs.Prelude.{◌≡◌, ◌<◌, ℕ, Bool, not, List, [], map, vec_len, vec_capacity, IfOk, OnOk, OnErr};
+ghost use Rattle.std.specs.Prelude.{◌≡◌, ◌<◌, ℕ, Bool, not, List, [], vec_len, vec_capacity, IfOk, OnOk, OnErr};
 ghost use Rattle.std.specs.List.{filter};
 ghost use Rattle.dist_types.specs.declared.pid.Pid.{Pid};
 ghost use Rattle.dist_types.specs.Listing.{same};

@@ -1,5 +1,5 @@
 -- Counts of rows, one for each.
-use Rattle.std.proofs.Common.{ap, Bool, false, length, List, refl, subst, sym, true, ℕ, ◌∙◌, ◌≡◌}
+use Rattle.std.proofs.Common.{ap, false, length, List, subst, sym, true, ℕ, ◌∙◌, ◌≡◌}
 use Rattle.std.specs.Prelude.{cond, get_or, map, replicate}
 use Rattle.std.proofs.lemmas.List.{get_or-map, get_or-replicate, length-map, length-replicate}
 use Rattle.dist_types.specs.declared.row.Row.{Row}

@@ -1,5 +1,5 @@
 -- What a pass has recorded, and which entries of an audit are a seat's.
-use Rattle.std.specs.Prelude.{◌≡◌, ℕ, ◌+◌, ◌-◌, ◌<◌, ◌^◌, ◌==◌, Bool, true, false, List, [], ◌∷◌, ◌++◌, length, map, reverse, drop, Option, Some, None, slice_get}
+use Rattle.std.specs.Prelude.{◌≡◌, ℕ, ◌+◌, ◌-◌, ◌<◌, ◌^◌, ◌==◌, Bool, true, false, List, ◌++◌, length, map, reverse, drop, Option, Some, None, slice_get}
 use Rattle.std.specs.List.{filter}
 use Rattle.policy_audit.specs.declared.reply.Reply.{Reply}
 use Rattle.policy_audit.specs.declared.reply.Reply.TheVariants.{Up}

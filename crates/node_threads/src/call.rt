@@ -1,6 +1,5 @@
 //! Calls. A reply is lent out of the pass, so a caller learns what becomes of its pass where the
 //! pass comes first.
-ghost use Rattle.std.specs.Prelude.{◌≡◌};
 ghost use Rattle.std.specs.Borrow.{sem};
 ghost use Rattle.node_threads.specs.Calls.{Record};
 ghost use Rattle.node_threads.specs.Room.{IsSound};

@@ -1,5 +1,5 @@
 //! A node for many threads.
-ghost use Rattle.std.specs.Prelude.{◌≡◌, ◌<◌, ◌≤◌, IfOk, IfErr, OnOk};
+ghost use Rattle.std.specs.Prelude.{◌≡◌, ◌<◌, IfOk, IfErr, OnOk};
 ghost use Rattle.handshake_frames.specs.Spelling.{IsVersion};
 ghost use Rattle.node_threads.specs.Opened.{new_room, IsOpened, IsNewFault, HasBounds};
 

@@ -1,5 +1,5 @@
 //! A link for the next connection of a door.
-ghost use Rattle.std.specs.Prelude.{◌≡◌, ◌≢◌, None, Some, IfOk, IfErr};
+ghost use Rattle.std.specs.Prelude.{◌≢◌, None, Some, IfOk, IfErr};
 ghost use Rattle.node_threads.specs.declared.accepting.AcceptEnd.TheVariants as ends;
 ghost use Rattle.node_threads.specs.Accepting.{Opens, Asked, IsUnopened};
 ghost use Rattle.node_threads.specs.Drawing.{Draws, new_challenges};

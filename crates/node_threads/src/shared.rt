@@ -1,13 +1,13 @@
 //! What lies behind the lock.
-ghost use Rattle.std.specs.Prelude.{◌≡◌, ◌+◌, ◌<◌, ◌≤◌, ◌↔◌, ◌^◌, ◌++◌, ◌∷◌, [], false, replicate, length, vec_len, vec_capacity, slice_index, slice_set, Some, IsTrue, IsSome, IfOk, IfErr, IfSome, IfNone, OnOk, OnErr, OnSome};
+ghost use Rattle.std.specs.Prelude.{◌≡◌, ◌+◌, ◌<◌, ◌≤◌, ◌↔◌, ◌^◌, ◌++◌, ◌∷◌, [], false, replicate, length, vec_len, vec_capacity, Some, IsTrue, IsSome, IfOk, IfErr, IfSome, IfNone, OnOk, OnErr, OnSome};
 ghost use Rattle.node_core.specs.declared.fault.CoreFault.TheVariants as core_faults;
 ghost use Rattle.node_threads.specs.declared.fault.CallFault.TheVariants as faults;
 ghost use Rattle.policy_audit.specs.History.{audited};
 ghost use Rattle.policy_audit.specs.Pages.{page_size, IsPageBehind};
-ghost use Rattle.policy_audit.specs.Policy.{verdict, after, is_full, next_number, IsLegal};
+ghost use Rattle.policy_audit.specs.Policy.{verdict, after, is_full, next_number};
 ghost use Rattle.node_core.specs.Recorded.{IsSpare};
 ghost use Rattle.node_threads.specs.Calls.{entries_of, last_reply};
-ghost use Rattle.node_threads.specs.Room.{IsSound, AreCounted, one_more, recorded, room_of};
+ghost use Rattle.node_threads.specs.Room.{IsSound, recorded, room_of};
 ghost use Rattle.node_threads.specs.Applied.{Fits, Applied, IsKept, room_after};
 
 use crate::fault::CallFault;

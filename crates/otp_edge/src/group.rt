@@ -1,5 +1,5 @@
 //! Groups as texts and as terms.
-ghost use Rattle.std.specs.Prelude.{◌≡◌, ◌<◌, ◌∷◌, ◌^◌, ℕ, List, length, Some, IfOk, IfSome};
+ghost use Rattle.std.specs.Prelude.{◌≡◌, ◌<◌, ◌^◌, ℕ, List, length, Some, IfOk, IfSome};
 ghost use Rattle.std.specs.Prelude.{IsSomeAnd};
 ghost use Rattle.external_terms.specs.Values.{atom_bytes, binary_bytes};
 ghost use Rattle.otp_edge.specs.Groups.{marked, has_mark, is_marked, text_or_none, atom_text};

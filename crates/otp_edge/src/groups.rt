@@ -1,6 +1,5 @@
 //! The groups of a leave.
-ghost use Rattle.std.specs.Prelude.{◌≡◌, ◌≢◌, ◌++◌, ℕ, List, length, All, IfOk, IfErr, IfSome, map};
-ghost use Rattle.std.specs.Prelude.{OnOk};
+ghost use Rattle.std.specs.Prelude.{◌≡◌, ◌≢◌, ◌++◌, ℕ, List, length, All, IfOk, IfErr, map};
 ghost use Rattle.std.specs.List.{flat_map};
 ghost use Rattle.external_terms.specs.Terms.{SpellsTerm};
 ghost use Rattle.external_terms.specs.Values.{small_integer_bytes};

@@ -1,13 +1,13 @@
 //! What the processes of a scope say to each other (Kernel manual, `pg`).
-ghost use Rattle.std.specs.Prelude.{◌≡◌, ◌++◌, [], ℕ, List, IfOk, MatchResult};
+ghost use Rattle.std.specs.Prelude.{◌≡◌, [], ℕ, List, IfOk, MatchResult};
 ghost use Rattle.external_terms.specs.Terms.{SpellsTerm};
 ghost use Rattle.dist_types.specs.declared.pid.Pid.{Pid};
 ghost use Rattle.otp_edge.specs.Fault.{IsFaultOf};
-ghost use Rattle.otp_edge.specs.Lists.{IsList, listed};
+ghost use Rattle.otp_edge.specs.Lists.{IsList};
 ghost use Rattle.otp_edge.specs.Processes.{IsPid, pid_bytes};
-ghost use Rattle.otp_edge.specs.PgMessages.{PgMessage, SpellsPg, Stated, IsStated, stated_bytes};
-ghost use Rattle.otp_edge.specs.PgMessages.{Members, AreMembers, members_bytes, members_of};
-ghost use Rattle.otp_edge.specs.PgMessages.{Groups, AreGroups, groups_bytes, groups_of};
+ghost use Rattle.otp_edge.specs.PgMessages.{PgMessage, SpellsPg, Stated, IsStated};
+ghost use Rattle.otp_edge.specs.PgMessages.{Members, AreMembers, members_of};
+ghost use Rattle.otp_edge.specs.PgMessages.{Groups, AreGroups, groups_of};
 ghost use Rattle.otp_edge.specs.PgMessages.{rows_meant, rows_stated, rows_in, rows_left};
 ghost use Rattle.otp_edge.specs.PgMessages.{sync_inner, join_inner, leave_inner};
 ghost use Rattle.otp_edge.specs.Meaning.{meant};

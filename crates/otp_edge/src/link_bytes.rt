@@ -1,7 +1,5 @@
 //! Messages of the links between nodes, as the node takes and gives them.
-ghost use Rattle.std.specs.Prelude.{◌≡◌, ◌<◌, ◌≤◌, ◌^◌, length, true, false, Some, OnOk};
-ghost use Rattle.link_frames.specs.Parts.{HasParts};
-ghost use Rattle.link_frames.specs.Spelling.{HasSpelling};
+ghost use Rattle.std.specs.Prelude.{◌≡◌, ◌<◌, ◌≤◌, length, true, false, Some, OnOk};
 ghost use Rattle.otp_edge.specs.Handed.{PutsFrame};
 ghost use Rattle.otp_edge.specs.Opens.{HasRows};
 

@@ -1,5 +1,5 @@
 //! The heads of lists, of tuples and of messages.
-ghost use Rattle.std.specs.Prelude.{◌≡◌, ◌<◌, ◌^◌, ◌++◌, [], ℕ, List, length, IfSome, IsSomeAnd};
+ghost use Rattle.std.specs.Prelude.{◌≡◌, ◌<◌, ◌^◌, ◌++◌, [], ℕ, List, IfSome, IsSomeAnd};
 ghost use Rattle.external_terms.specs.Values.{atom_bytes, tuple_head, nil_bytes};
 ghost use Rattle.otp_edge.specs.Lists.{list_front};
 

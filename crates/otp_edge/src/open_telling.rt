@@ -8,7 +8,7 @@ ghost use Rattle.otp_edge.specs.Endings.{asking_of, asking_again, ending_of, end
 ghost use Rattle.otp_edge.specs.Endings.{unwatch_bytes};
 ghost use Rattle.otp_edge.specs.Opens.{open_of, with_seen};
 ghost use Rattle.otp_edge.specs.Said.{GoesOn, Tells};
-ghost use Rattle.otp_edge.specs.Sayings.{AreTold, syncs, joins, leaves, AreLeft};
+ghost use Rattle.otp_edge.specs.Sayings.{AreTold, syncs, joins, AreLeft};
 ghost use Rattle.otp_edge.specs.ScopeEdges.{seen_of, with_told, now_told, told_to};
 
 use crate::life::Life;

@@ -2,7 +2,7 @@
 ghost use Rattle.std.specs.Prelude.{◌≡◌, ◌<◌, ◌^◌, ◌∷◌, [], ◌++◌, length, map, All, OnOk};
 ghost use Rattle.external_terms.specs.Values.{atom_bytes, tuple_head};
 ghost use Rattle.otp_edge.specs.Lists.{list_front, listed};
-ghost use Rattle.otp_edge.specs.PgMessages.{Stated, stated_bytes, pg_bytes, many, terms};
+ghost use Rattle.otp_edge.specs.PgMessages.{stated_bytes, pg_bytes, many, terms};
 ghost use Rattle.otp_edge.specs.PgMessages.{discover, sync, join, leave};
 ghost use Rattle.otp_edge.specs.Processes.{pid_bytes};
 ghost use Rattle.otp_edge.specs.Telling.{HasFew, stated_of, pids_of};

@@ -1,5 +1,5 @@
 //! Rows gathered by group, as a process of a scope is told them.
-ghost use Rattle.std.specs.Prelude.{◌≡◌, ◌≤◌, ◌++◌, ℕ, List, length, take, All, IfOk, OnOk};
+ghost use Rattle.std.specs.Prelude.{◌≡◌, ◌≤◌, ◌++◌, length, take, All, IfOk, OnOk};
 ghost use Rattle.std.specs.Prelude.{MatchOption, IsTrue, ◌↔◌};
 ghost use Rattle.dist_types.specs.declared.row.Row.{Row};
 ghost use Rattle.otp_edge.specs.Grouped.{IsGrouped, IsInGroup, IsLeftOut, MayBeTold};

@@ -1,5 +1,5 @@
 //! When a stock node is asked for its rows again.
-ghost use Rattle.std.specs.Prelude.{◌≡◌, IfSome, true, false, None};
+ghost use Rattle.std.specs.Prelude.{◌≡◌, true, false, None};
 ghost use Rattle.otp_link.specs.Asking.{asked_at, has_come, lacks_at, millis, next_pause, sought_at};
 
 use std::time::Duration;

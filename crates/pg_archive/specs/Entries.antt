@@ -1,7 +1,6 @@
 -- The lines of an archive.
 use Rattle.std.specs.Prelude.{ℕ, Bool, List, ◌++◌, codes, decimal, Option, Some, None}
 use Rattle.std.specs.List.{flat_map}
-use Rattle.dist_types.specs.declared.cookie.Cookie.{Cookie}
 use Rattle.policy_audit.specs.declared.entry.Entry.{Entry}
 use Rattle.policy_audit.specs.declared.change.Change.{Change}
 use Rattle.policy_audit.specs.declared.opening.Opening.{Opening}

@@ -2,8 +2,8 @@
 use Rattle.pg_ledger.proofs
 use Rattle.pg_ledger.specs
 use Rattle.std.proofs.Common.{ap, append_assoc, arith, Bool, cond, drop, false, length, List}
-use Rattle.std.proofs.Common.{max, refl, reverse, subst, sym, true, zero, suc}
-use Rattle.std.proofs.Common.{ℕ, [], ◌++◌, ◌<◌, ◌^◌, ◌==◌, ◌∙◌, ◌∷◌, ◌≡◌, ◌≤◌}
+use Rattle.std.proofs.Common.{max, refl, reverse, subst, sym, true}
+use Rattle.std.proofs.Common.{ℕ, [], ◌++◌, ◌<◌, ◌^◌, ◌==◌, ◌∙◌, ◌∷◌, ◌≡◌}
 use Rattle.std.proofs.lemmas.List.{append-nil, length-append, length-reverse, reverse-append}
 use Rattle.std.proofs.lemmas.List.{reverse-reverse}
 use Rattle.policy_audit.specs.declared.opening.Opening.{Opening}
@@ -13,9 +13,9 @@ use Rattle.policy_audit.specs.Log.{later_than}
 use Rattle.policy_audit.specs.Policy.{history, IsLegal, IsLegalIn}
 use Rattle.policy_audit.proofs.Losses.{made_entered}
 use Rattle.node_core.specs.Recorded.{Recorded}
-use proofs.Going.{few_entries, legal_part}
+use proofs.Going.{legal_part}
 use specs.Telling.{nothing, Told, told_of}
-use specs.Following.{goes_on_at, IsBehind, IsBetween, NotesAll, NotesBut}
+use specs.Following.{goes_on_at, IsBehind, IsBetween, NotesBut}
 
 drop_first : (xs ys : List Entry) → drop (length xs) (xs ++ ys) ≡ ys
 drop_first [] ys = refl

@@ -1,17 +1,17 @@
 -- What is told of a node's history, and of what it was before.
 use Rattle.pg_ledger.specs
-use Rattle.std.proofs.Common.{ap, append_assoc, arith, Bool, cond, drop, false, length, List}
-use Rattle.std.proofs.Common.{max, refl, reverse, subst, sym, true, zero, suc}
-use Rattle.std.proofs.Common.{ℕ, [], ◌++◌, ◌<◌, ◌^◌, ◌==◌, ◌∙◌, ◌∷◌, ◌≡◌, ◌≤◌}
-use Rattle.std.proofs.lemmas.List.{append-nil, length-append, length-reverse, reverse-append}
+use Rattle.std.proofs.Common.{ap, append_assoc, arith, Bool, cond, false, List}
+use Rattle.std.proofs.Common.{refl, reverse, subst, sym, true}
+use Rattle.std.proofs.Common.{ℕ, [], ◌++◌, ◌<◌, ◌^◌, ◌∙◌, ◌∷◌, ◌≡◌, ◌≤◌}
+use Rattle.std.proofs.lemmas.List.{reverse-append}
 use Rattle.std.specs.Prelude.{Err, Ok, OnErr, Result}
 use Rattle.policy_audit.specs.declared.opening.Opening.{Opening}
 use Rattle.policy_audit.specs.declared.entry.Entry.{Entry}
-use Rattle.policy_audit.specs.History.{audited, entered, History, is_accepted, is_entered, just}
+use Rattle.policy_audit.specs.History.{entered, History, is_accepted, is_entered, just}
 use Rattle.policy_audit.specs.History.{lose, past}
 use Rattle.policy_audit.specs.Owed.{slow_links, with_entry}
-use Rattle.policy_audit.specs.Policy.{history, IsLegal, IsLegalIn}
-use Rattle.policy_audit.proofs.Losses.{history_opening, legal_room, made_entered, made_legal}
+use Rattle.policy_audit.specs.Policy.{history, IsLegalIn}
+use Rattle.policy_audit.proofs.Losses.{history_opening, legal_room, made_legal}
 use Rattle.policy_audit.proofs.Losses.{next_entered}
 use specs.Telling.{NotesEntry, Told, told_of}
 use specs.Following.{NotesAll, NotesBut}

@@ -2,7 +2,7 @@
 use Rattle.pg_ledger.specs
 use Rattle.std.proofs.Common.{ap, append_assoc, arith, Bool, false, get_or, length, List, refl}
 use Rattle.std.proofs.Common.{subst}
-use Rattle.std.proofs.Common.{sym, take, true, ℕ, [], ◌++◌, ◌+◌, ◌<◌, ◌^◌, ◌∙◌, ◌∷◌, ◌≡◌, ◌≤◌}
+use Rattle.std.proofs.Common.{sym, take, true, ℕ, [], ◌++◌, ◌+◌, ◌<◌, ◌^◌, ◌∙◌, ◌∷◌, ◌≡◌}
 use Rattle.std.specs.Prelude.{◌||◌, not}
 use Rattle.std.proofs.lemmas.Bool.{false≢true}
 use Rattle.std.specs.List.{filter, flat_map}
@@ -14,7 +14,7 @@ use Rattle.policy_audit.specs.declared.event.Event.{Event}
 use Rattle.policy_audit.specs.declared.event.Event.TheVariants as event
 use Rattle.policy_audit.specs.declared.entry.Entry.{Entry}
 use Rattle.policy_audit.specs.Admission.{allow_list, names_allowed}
-use Rattle.policy_audit.specs.History.{entered, events, first_of, History, is_accepted, is_entered}
+use Rattle.policy_audit.specs.History.{entered, events, first_of, History, is_accepted}
 use Rattle.policy_audit.specs.History.{is_restart, just}
 use Rattle.policy_audit.specs.Own.{running_scopes, scopes_started, starts}
 use Rattle.policy_audit.proofs.ScopesNow.{one_rising, rising, rising_is, rising_stands}

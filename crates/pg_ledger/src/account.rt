@@ -1,6 +1,6 @@
 //! Which scopes run, who may connect and how many events were refused, as the audit of a life tells
 //! it.
-ghost use Rattle.std.specs.Prelude.{◌≡◌, ◌<◌, ◌+◌, ◌^◌, IfOk, OnOk, OnErr};
+ghost use Rattle.std.specs.Prelude.{◌≡◌, ◌<◌, ◌+◌, ◌^◌, OnOk, OnErr};
 ghost use Rattle.dist_types.specs.Listing.{Rises, placed};
 ghost use Rattle.pg_ledger.specs.Telling.{NotesEntry, NotesEvent, NotesNames, nothing};
 

@@ -1,5 +1,5 @@
 //! Bytes that are written one after another.
-ghost use Rattle.std.specs.Prelude.{◌≡◌, ◌≢◌, ◌++◌, ℕ, List, All, IfOk, OnOk, decimal, true, []};
+ghost use Rattle.std.specs.Prelude.{◌≡◌, ◌≢◌, ◌++◌, All, IfOk, OnOk, decimal, true, []};
 ghost use Rattle.pg_page.specs.Escaping.{IsInert, Written, shown, shown_byte, label_byte, labelled};
 
 use itoa::Buffer;

@@ -1,5 +1,5 @@
 //! A node as the lines of a script see it.
-ghost use Rattle.std.specs.Prelude.{◌≡◌, ◌++◌, ◌+◌, ◌⊎◌, ℕ, Bool, true, false, IfOk, IfErr, IfSome, OnOk, Err};
+ghost use Rattle.std.specs.Prelude.{◌≡◌, ◌++◌, ◌+◌, ℕ, Bool, true, false, IfOk, IfErr, IfSome, OnOk};
 ghost use Rattle.policy_audit.specs.History.{audited};
 ghost use Rattle.std.specs.Option.{IfNone};
 ghost use Rattle.policy_audit.specs.Pages.{IsPageBehind, page_size};

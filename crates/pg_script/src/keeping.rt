@@ -1,5 +1,5 @@
 //! The run of a whole script on a node that forgets.
-ghost use Rattle.std.specs.Prelude.{◌≡◌, ◌≢◌, ◌↔◌, ◌++◌, IfErr, IfSome, OnOk, Err};
+ghost use Rattle.std.specs.Prelude.{◌≡◌, ◌≢◌, ◌↔◌, IfErr, IfSome, Err};
 ghost use Rattle.pg_script.specs.Playing.{opened_with, MayOpen, IsBadOpening};
 ghost use Rattle.pg_script.specs.Runs.{KeepsAs};
 ghost use Rattle.pg_script.specs.declared.script.RunFault.TheVariants as faults;

@@ -1,5 +1,5 @@
 //! What a connection is told unasked: the peers that come and go, and that the node has begun anew.
-ghost use Rattle.std.specs.Prelude.{◌≡◌, ◌<◌, ◌≤◌, ◌-◌, ◌==◌, [], None, Some, false, true, length, nat_lt, position, IfOk, OnOk, OnErr};
+ghost use Rattle.std.specs.Prelude.{◌≡◌, ◌<◌, ◌≤◌, ◌-◌, ◌==◌, [], None, Some, false, true, length, nat_lt, position, OnOk, OnErr};
 ghost use Rattle.std.specs.List.{list_any};
 ghost use Rattle.policy_audit.specs.History.{creation, entered};
 ghost use Rattle.pg_session.specs.Notices.{Known, TellsNews, is_named, has_gone};

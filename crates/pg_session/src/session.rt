@@ -1,5 +1,5 @@
 //! The seat of one connection: what it asks, and what it has of the node.
-ghost use Rattle.std.specs.Prelude.{◌≡◌, ◌⊎◌, [], false, true, not, length, IfOk, OnOk, OnErr, IsTrue, Some, None};
+ghost use Rattle.std.specs.Prelude.{◌≡◌, [], false, true, not, length, IfOk, OnOk, OnErr, IsTrue, Some, None};
 ghost use Rattle.std.specs.List.{list_any};
 ghost use Rattle.dist_types.specs.Difference.{is_empty};
 ghost use Rattle.policy_audit.specs.History.{creation};

@@ -1,5 +1,5 @@
 -- A message of which parts have come at one end of a wire, and not the last.
-use Rattle.std.specs.Prelude.{◌≡◌, ℕ, ◌+◌, ◌<◌, ◌≤◌, List, ◌++◌, None, Some, drop, length}
+use Rattle.std.specs.Prelude.{◌≡◌, ℕ, ◌+◌, ◌<◌, ◌≤◌, ◌++◌, None, Some, drop, length}
 use Rattle.std.specs.Prelude.{slice_get, take, IsTrue}
 use Rattle.link_frames.specs.declared.message.Message.{Message}
 use Rattle.link_frames.specs.Parts.{Begun, begun_by, parts}
@@ -11,7 +11,7 @@ use Rattle.frame_laws.specs.Sent.{out, bodies_of, delivered}
 use Rattle.frame_laws.specs.Spoken.{frames_said}
 use Rattle.pg_world.specs.declared.side.Side.{Side}
 use Rattle.pg_world.specs.World.{Wire, Nodes, node_at, link_at, other, under_way}
-use Rattle.pg_world.specs.Sound.{bodies, shared}
+use Rattle.pg_world.specs.Sound.{bodies}
 
 -- link b of B keeps this, and link a of A is the other end: it is the first parts of one message
 -- that A owed there, from a place on. They are the last that came; and what is under way goes on

@@ -1,5 +1,5 @@
 //! What the types of nodes and steps say of them.
-ghost use Rattle.std.specs.Prelude.{◌≡◌, [], IsTrue, IsFalse, ◌↔◌, ◌≢◌};
+ghost use Rattle.std.specs.Prelude.{[], IsTrue, IsFalse, ◌≢◌};
 ghost use Rattle.frame_laws.specs.Written.{IsWritten};
 ghost use Rattle.pg_world.specs.Sound.{IsWrittenStep};
 ghost use Rattle.pg_world.specs.Starting.{IsNew};

@@ -1,5 +1,5 @@
 //! A node of a world.
-ghost use Rattle.std.specs.Prelude.{◌≡◌, ◌≤◌, ℕ, cond, Some, None, IfSome, IfOk, IfErr, OnOk, length};
+ghost use Rattle.std.specs.Prelude.{◌≡◌, ◌≤◌, ℕ, cond, Some, None, IfSome, length};
 ghost use Rattle.node_core.specs.Reading.{IsAnswer, event_of};
 ghost use Rattle.node_core.specs.Step.{IsStepped};
 ghost use Rattle.policy_audit.specs.History.{audited};

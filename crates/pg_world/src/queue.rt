@@ -1,6 +1,6 @@
 //! What a node's answer makes of the frames under way to it, or from it. What grows has grown
 //! before the node's step.
-ghost use Rattle.std.specs.Prelude.{◌≡◌, ◌+◌, ◌<◌, ◌≤◌, ◌++◌, IsTrue, IfOk, OnOk, OnErr, length, vec_len, vec_capacity};
+ghost use Rattle.std.specs.Prelude.{◌≡◌, ◌+◌, ◌<◌, ◌≤◌, ◌++◌, IsTrue, IfOk, OnOk, length, vec_len, vec_capacity};
 ghost use Rattle.policy_audit.specs.Owed.{waiting, is_kept};
 ghost use Rattle.policy_audit.specs.Policy.{is_full};
 ghost use Rattle.pg_world.specs.Queues.{Answers, plain, frames_in, count_handed, joined_by, leaves, left_by, is_gone, cut_by, oldest};

@@ -1,5 +1,5 @@
 //! A world.
-ghost use Rattle.std.specs.Prelude.{vec_capacity, ◌≡◌, [], ◌<◌, ◌≤◌, IsTrue, IsFalse, IfOk, IfErr, IfSome, OnOk, OnErr, length, ℕ, Some, slice_get, ◌≢◌};
+ghost use Rattle.std.specs.Prelude.{vec_capacity, ◌≡◌, [], ◌<◌, ◌≤◌, IsTrue, IsFalse, IfOk, IfErr, IfSome, OnOk, length, ℕ, Some, slice_get, ◌≢◌};
 ghost use Rattle.std.specs.Option.{option_copied};
 ghost use Rattle.policy_audit.specs.History.{History};
 ghost use Rattle.pg_world.specs.World.{world, histories, DifferInName, ShareAName};

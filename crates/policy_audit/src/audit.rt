@@ -1,5 +1,5 @@
 //! The list of all entries of a node.
-ghost use Rattle.std.specs.Prelude.{◌≡◌, ◌+◌, ◌<◌, ◌≤◌, ◌^◌, List, [], ◌∷◌, true, false, OnOk, OnErr, OnSome, IfErr, IfSome, IfNone, length, max};
+ghost use Rattle.std.specs.Prelude.{◌≡◌, ◌+◌, ◌<◌, ◌≤◌, ◌^◌, [], ◌∷◌, true, false, OnOk, OnErr, OnSome, IfErr, IfSome, IfNone, length, max};
 ghost use Rattle.std.specs.Option.{option_copied};
 ghost use Rattle.policy_audit.specs.declared.entry.Entry.{Entry};
 ghost use Rattle.policy_audit.specs.declared.audit.AuditFault.TheVariants as faults;

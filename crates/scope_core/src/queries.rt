@@ -1,5 +1,5 @@
 //! What is asked of the table of one scope. No answer changes it.
-ghost use Rattle.std.specs.Prelude.{◌≡◌, ◌≤◌, ℕ, List, min, IfSome, IfOk, length, All};
+ghost use Rattle.std.specs.Prelude.{◌≡◌, ◌≤◌, min, IfSome, IfOk, length, All};
 ghost use Rattle.std.specs.Option.{IfNone};
 ghost use Rattle.dist_types.specs.declared.pid.Pid.{Pid};
 ghost use Rattle.dist_types.specs.Listing.{mentions, IsPidListing, IsRowListing, IsGroupListing};

@@ -1,5 +1,5 @@
 //! How often each row of a node is counted, in a hashed map.
-ghost use Rattle.std.specs.Prelude.{◌≡◌, ◌++◌, ◌+◌, ◌-◌, ◌<◌, ◌∷◌, [], ℕ, cond, not, take, length, true, false, IsTrue, IsSome, IfSome, IfOk, OnOk, OnErr, None, Some};
+ghost use Rattle.std.specs.Prelude.{◌≡◌, ◌++◌, ◌+◌, ◌-◌, ◌<◌, ◌∷◌, [], cond, not, take, length, true, false, IsTrue, IsSome, IfSome, IfOk, OnOk, OnErr, None, Some};
 ghost use Rattle.std.specs.Option.{IfNone, option_map, unwrap_or};
 ghost use Rattle.std.specs.List.{AllByRecursion, IsDistinct};
 ghost use Rattle.std.specs.Map.{lookup, set_value, keys_of};

@@ -1,5 +1,5 @@
 //! Where a message is cut into parts, and those that aren't.
-ghost use Rattle.std.specs.Prelude.{◌≡◌, IfSome};
+ghost use Rattle.std.specs.Prelude.{IfSome};
 ghost use Rattle.link_frames.specs.Parts.{HasParts};
 
 use crate::parts::{Numbered, body, message_part, pg, rows, says};

@@ -1,5 +1,5 @@
 //! What a step of a world was answered, as a line.
-ghost use Rattle.std.specs.Prelude.{◌≡◌, ◌++◌, OnOk, codes};
+ghost use Rattle.std.specs.Prelude.{◌≡◌, ◌++◌, OnOk};
 ghost use Rattle.world_script.specs.StepLines.{answer_line, fault_answer, fault_name};
 
 use dist_types::OutOfMemory;

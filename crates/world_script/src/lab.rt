@@ -1,6 +1,5 @@
 //! A world as the lines of a script see it.
-ghost use Rattle.std.specs.Prelude.{◌≡◌, ◌≢◌, ◌++◌, ◌∷◌, [], List, ℕ, None, Some, IsTrue, IsFalse, IfOk, IfErr, OnOk};
-ghost use Rattle.policy_audit.specs.History.{past};
+ghost use Rattle.std.specs.Prelude.{◌≡◌, ◌≢◌, ◌++◌, [], List, ℕ, None, Some, IsTrue, IsFalse, IfOk, IfErr, OnOk};
 ghost use Rattle.pg_text.specs.Lines.{is_quiet};
 ghost use Rattle.pg_world.specs.World.{histories, world};
 ghost use Rattle.world_script.specs.declared.world_line.WorldLine.{WorldLine as Line};

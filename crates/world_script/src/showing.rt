@@ -1,5 +1,5 @@
 //! Who lists whom in a group.
-ghost use Rattle.std.specs.Prelude.{◌≡◌, ◌++◌, [], OnOk, slice_get};
+ghost use Rattle.std.specs.Prelude.{◌≡◌, ◌++◌, [], OnOk};
 ghost use Rattle.std.specs.Option.{option_copied, option_map_or};
 ghost use Rattle.world_script.specs.Showing.{pids_in, node_text, shown_text, shown_line};
 

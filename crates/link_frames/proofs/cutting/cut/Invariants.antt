@@ -1,6 +1,6 @@
 use Rattle.link_frames.specs
 use Rattle.dist_types.specs.Listing.{max_rows}
-use Rattle.std.specs.Prelude.{All, length, map, ℕ, ◌*◌, ◌++◌, ◌+◌, ◌-◌, ◌<◌, ◌^◌, ◌≡◌, ◌≤◌}
+use Rattle.std.specs.Prelude.{All, length, map, ◌*◌, ◌++◌, ◌+◌, ◌-◌, ◌≡◌, ◌≤◌}
 use specs.Parts.{before_last, HasSome, message2_bytes, parts_from}
 use specs.Stream.{max_body}
 use Rattle.link_frames.proofs.cutting.cut.Given as goal

@@ -1,10 +1,10 @@
 use Rattle.pg_script.proofs
 use Rattle.pg_script.specs
-use Rattle.std.proofs.Common.{ap, Bool, Err, inl, inr, length, refl, rules, sym, ℕ, ◌<◌, ◌∙◌, ◌≡◌}
+use Rattle.std.proofs.Common.{ap, Bool, Err, inl, inr, length, refl, rules, ℕ, ◌<◌, ◌∙◌}
 use Rattle.std.specs.Io.BufRead.{drop_through, strip_last}
 use Rattle.std.proofs.lemmas.Option.{IfSome_then}
 use Rattle.std.proofs.lemmas.Result.{err_from_is_err_and}
-use specs.Transcript.{line_left, line_text, Met, met_left, met_text, met_usually}
+use specs.Transcript.{line_text, Met, met_left, met_text, met_usually}
 use specs.Playing.{forgotten_to, Playing}
 use proofs.Played.{came, if_known, played_end, played_next, played_part, played_start, played_told}
 use Rattle.pg_script.proofs.keeping.keep_lines.Goals as goal
