@@ -75,7 +75,7 @@ pub fn play_keeping<R: BufRead, W: Write, K: Keeper>(
         KeepsAs keep opening script (W.contents writer.old) (W.contents writer.new) result) }
 {
     match Console::open(alloc, opening) {
-        Ok(mut console) => keep_all(alloc, &mut console, keep, reader, line, writer, keeper),
+        Ok(mut console) => keep_all(&mut console, keep, reader, line, writer, keeper),
         Err(OpenFault::BadLimit | OpenFault::BadLinks) => Err(KeepFault::Run(RunFault::BadOpening)),
         Err(OpenFault::OutOfMemory) => Err(KeepFault::Run(RunFault::Memory)),
     }
@@ -83,7 +83,6 @@ pub fn play_keeping<R: BufRead, W: Write, K: Keeper>(
 
 /// Plays the lines of a script, and gives the keeper all entries.
 fn keep_all<R: BufRead, W: Write, K: Keeper>(
-    alloc: Global,
     console: &mut Console,
     keep: u32,
     reader: &mut R,
@@ -96,8 +95,8 @@ fn keep_all<R: BufRead, W: Write, K: Keeper>(
         → IfSome (R.remaining reader.old) (λ script.
         KeepsAs keep o script (W.contents writer.old) (W.contents writer.new) result) }
 {
-    let played = keep_lines(alloc, console, keep, reader, line, writer, keeper);
-    if keep_rest(alloc, console, keeper).is_err() {
+    let played = keep_lines(console, keep, reader, line, writer, keeper);
+    if keep_rest(*line.allocator(), console, keeper).is_err() {
         return Err(KeepFault::Archive);
     }
     played
@@ -105,7 +104,6 @@ fn keep_all<R: BufRead, W: Write, K: Keeper>(
 
 /// Plays the lines of a script, up to the first that can't be read.
 fn keep_lines<R: BufRead, W: Write, K: Keeper>(
-    alloc: Global,
     console: &mut Console,
     keep: u32,
     reader: &mut R,
@@ -118,6 +116,7 @@ fn keep_lines<R: BufRead, W: Write, K: Keeper>(
         → IfSome (R.remaining reader.old) (λ script.
         KeepsAs keep o script (W.contents writer.old) (W.contents writer.new) result) }
 {
+    let alloc = *line.allocator();
     let mut out = Vec::new(alloc);
     let mut gone = Vec::new(alloc);
     for turn in 0..TURNS {

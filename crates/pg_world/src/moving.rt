@@ -34,7 +34,7 @@ pub(crate) fn make_step(
             to,
             seat,
             challenge,
-        } => dial(alloc, nodes, wires, from, to, seat, challenge),
+        } => dial(nodes, wires, from, to, seat, challenge),
         WorldStep::Accept {
             wire,
             seat,
@@ -69,7 +69,6 @@ fn restart(nodes: &mut [Node], node: usize, seat: u32) -> Result<WorldReply, Wor
 
 /// A node dials another. The name is copied and the wire has its room before the node's step.
 fn dial(
-    alloc: Global,
     nodes: &mut [Node],
     wires: &mut Vec<Wire>,
     from: usize,
@@ -86,6 +85,7 @@ fn dial(
     if nodes[from].is_full() {
         return Err(ENTRIES_FULL);
     }
+    let alloc = *wires.allocator();
     let Ok(name) = name_and_room(alloc, &nodes[to], wires) else {
         return Err(OUT_OF_MEMORY);
     };
