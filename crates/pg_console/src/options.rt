@@ -16,43 +16,54 @@ const SCRIPTS: &str = "\
 Commands of a script, one a line; a word with .. may come any number of times:
   node       restart | cookie COOKIE | cookie_for NAME COOKIE | allow NAME..
   scopes     start SCOPE | stop SCOPE
-  processes  spawn | exit PROCESS | join SCOPE GROUP PROCESS.. | leave SCOPE GROUP PROCESS..
-  queries    members SCOPE GROUP | local_members SCOPE GROUP | groups SCOPE | local_groups SCOPE
-  monitors   monitor SCOPE GROUP | monitor_scope SCOPE | demonitor REF | updates REF
-  links      dial NAME CHALLENGE | opened CHALLENGE | frame LINK HEX | take LINK | lost LINK | disconnect NAME
+  processes  spawn | exit PROCESS | join SCOPE GROUP PROCESS.. |
+             leave SCOPE GROUP PROCESS..
+  queries    members SCOPE GROUP | local_members SCOPE GROUP |
+             groups SCOPE | local_groups SCOPE
+  monitors   monitor SCOPE GROUP | monitor_scope SCOPE | demonitor REF |
+             updates REF
+  links      dial NAME CHALLENGE | opened CHALLENGE | frame LINK HEX |
+             take LINK | lost LINK | disconnect NAME
   console    seat SEAT | size | audit ENTRY
 
 Example:
   printf 'start pg\\nspawn\\njoin pg g b@h/1/1\\nmembers pg g\\n' | pg_console run b@h password
 
-Status: 0 at the end of the script; 1 at a line that is no command, at a fault of a stream, or for want of memory;
-2 at a fault of the command line. docs/FORMATS.md has the answers and the frames.";
+Status: 0 at the end of the script; 1 at a line that is no command, at a fault
+of a stream, or for want of memory; 2 at a fault of the command line.
+docs/FORMATS.md has the answers and the frames.";
 
 /// The lines of a script of world steps, behind the help of the parser.
 const WORLDS: &str = "\
-Lines of a script; the nodes come first, and a word in brackets may be left out:
+Lines of a script; the nodes come first, and a word in brackets may be left
+out:
   nodes  node NAME COOKIE [hidden] [creation N] [entries N] [links N]
          at NAME COMMAND.. | restart NAME | seat SEAT | show SCOPE GROUP
-  wires  dial FROM TO CHALLENGE | accept WIRE CHALLENGE | hand WIRE SIDE | deliver WIRE SIDE | cut WIRE SIDE | settle
+  wires  dial FROM TO CHALLENGE | accept WIRE CHALLENGE | hand WIRE SIDE |
+         deliver WIRE SIDE | cut WIRE SIDE | settle
 COMMAND is one of `run`, and SIDE is dialler or acceptor.
 
 Example:
   printf 'node a@h x\\nnode b@h x\\ndial a@h b@h 1\\naccept 0 2\\nsettle\\n' | pg_console world
 
-Status: 0 at the end of the script; 1 at a line that can't be read, at a fault of a stream, or for want of memory outside a step;
-2 where two nodes have one name. docs/FORMATS.md has the lines and their answers.";
+Status: 0 at the end of the script; 1 at a line that can't be read, at a fault
+of a stream, or for want of memory outside a step; 2 where two nodes have one
+name. docs/FORMATS.md has the lines and their answers.";
 
 /// What an archive is and needs, behind the help of the parser.
 const ARCHIVES: &str = "\
-An archive has no cookies, so they are given: that of the node itself, and for each peer that was given one of its own. Where one
-name is given several, they are taken in turn, anew with each life or, with --through-lives, through all of them, and the last from
-then on.
+An archive has no cookies, so they are given: that of the node itself, and for
+each peer that was given one of its own. Where one name is given several, they
+are taken in turn, anew with each life or, with --through-lives, through all of
+them, and the last from then on.
 
 Example:
-  printf 'start pg\\nspawn\\n' | pg_console run --archive entries b@h password && pg_console replay --cookie b@h=password entries
+  printf 'start pg\\nspawn\\n' | pg_console run --archive entries b@h password
+  pg_console replay --cookie b@h=password entries
 
-Status: 0 where all agree; 1 at the first line that doesn't, that can't be read, or for want of memory; 2 at a fault of the
-command line. docs/FORMATS.md has the lines.";
+Status: 0 where all agree; 1 at the first line that doesn't, that can't be read,
+or for want of memory; 2 at a fault of the command line. docs/FORMATS.md has the
+lines.";
 
 /// Why NAME or COOKIE is refused.
 #[derive(Clone, Copy, Debug, thiserror::Error)]

@@ -6,21 +6,26 @@ use std::alloc::Global;
 
 /// What stands behind the help of the parser.
 const COMMANDS: &str = "\
-Commands, one a line, on standard input and on each control connection; a word with .. may come any number of times:
-  node       cookie COOKIE | cookie_for NAME COOKIE | allow NAME.. | disconnect NAME | dial NAME=HOST:PORT |
-             undial NAME | reopen | nodes
+Commands, one a line, on standard input and on each control connection;
+a word with .. may come any number of times:
+  node       cookie COOKIE | cookie_for NAME COOKIE | allow NAME.. |
+             disconnect NAME | dial NAME=HOST:PORT | undial NAME | reopen | nodes
   scopes     start SCOPE | stop SCOPE
-  processes  spawn | exit PROCESS | join SCOPE GROUP PROCESS.. | leave SCOPE GROUP PROCESS..
-  queries    members SCOPE GROUP | local_members SCOPE GROUP | groups SCOPE | local_groups SCOPE
+  processes  spawn | exit PROCESS | join SCOPE GROUP PROCESS.. |
+             leave SCOPE GROUP PROCESS..
+  queries    members SCOPE GROUP | local_members SCOPE GROUP |
+             groups SCOPE | local_groups SCOPE
   monitors   monitor SCOPE GROUP | monitor_scope SCOPE | demonitor REF
-  reports    self | status | links | dials | scopes | allowed | clients | refusals
+  reports    self | status | links | dials | scopes | allowed | clients |
+             refusals
   others     size | audit ENTRY | help | quit | drain
 
 Example:
   pg_node b@h --cookie-file cookie --listen 127.0.0.1:4001 --control node.sock
 
-Status: 0 at the end of standard input, at quit or at drain; 1 at a fault of a file, a socket or standard output, or for want of memory;
-2 at a fault of the command line. docs/FORMATS.md has the answers.";
+Status: 0 at the end of standard input, at quit or at drain; 1 at a fault of a
+file, a socket or standard output, or for want of memory; 2 at a fault of the
+command line. docs/FORMATS.md has the answers.";
 
 /// The arguments of the program.
 pub fn command<'a>(alloc: Global) -> Result<Command<'a>, ClapError> {
