@@ -1,10 +1,12 @@
 #!/usr/bin/env bash
-# A node's events taken by `NodeCore::step` itself, beside OTP's own pg where `escript` is installed: both in one process and by
-# the clock, from this one run, with the ratio. Each figure is the least of some rounds, and has in it the making of the event and
-# the letting go of its answer. The program is no crate of the gate, so its source isn't named as one: it is built in a folder of
-# its own over what the crates keep of their proofs (build pg_console first, by bin/pg_console), and proved, which takes minutes.
-# NODE_SPEED may name a file where the built program is kept, and taken from at the next run. With ONE=1 both are measured by
-# processor time on the last processor, OTP with one scheduler and without the second node, whose timers want a clock that goes on.
+# A node's events taken by `NodeCore::step` itself, beside OTP's own pg where `escript` is
+# installed: both in one process and by the clock, from this one run, with the ratio. Each figure is
+# the least of some rounds, and has in it the making of the event and the letting go of its answer.
+# The program is no crate of the gate, so its source isn't named as one: it is built in a folder of
+# its own over what the crates keep of their proofs (build pg_console first, by bin/pg_console), and
+# proved, which takes minutes. NODE_SPEED may name a file where the built program is kept, and taken
+# from at the next run. With ONE=1 both are measured by processor time on the last processor, OTP
+# with one scheduler and without the second node, whose timers want a clock that goes on.
 set -eu
 root=$(cd "$(dirname "$0")/.." && pwd)
 folder=$(mktemp -d)
@@ -24,8 +26,8 @@ build() {
   cp "$folder/crates/node_speed/out/node_speed" "$program"
 }
 
-# Prints a line of both: this key's, under this title; of OTP that of the key $3, where it has another. Of OTP it is the bare call, where
-# there is one with lines, too.
+# Prints a line of both: this key's, under this title; of OTP that of the key $3, where it has
+# another. Of OTP it is the bare call, where there is one with lines, too.
 line() {
   awk -v key="$1" -v title="$2" -v theirs="${3:-$1}" '
     FILENAME == ARGV[1] && $1 == key { own = $2 / 1000 }

@@ -1,8 +1,9 @@
 #!/usr/bin/env bash
-# Processor time of a node's events through `pg_console run`, beside OTP's own pg by the clock where `escript` is
-# installed, both from this one run, with the ratio. Each figure is the least of RUNS runs (7 if not given), and has the
-# reading of lines and the writing of answers in it; OTP's has them in members and Syncs, and beside it stands the bare
-# call. PG_CONSOLE may name another program than the built one.
+# Processor time of a node's events through `pg_console run`, beside OTP's own pg by the clock where
+# `escript` is installed, both from this one run, with the ratio. Each figure is the least of RUNS
+# runs (7 if not given), and has the reading of lines and the writing of answers in it; OTP's has
+# them in members and Syncs, and beside it stands the bare call. PG_CONSOLE may name another program
+# than the built one.
 set -eu
 here=$(cd "$(dirname "$0")" && pwd)
 program=${PG_CONSOLE:-$here/../crates/pg_console/out/pg_console}
@@ -22,7 +23,8 @@ feed() {
   answered=$answer
 }
 
-# Plays a script on a new node: sets `spent`, the nanoseconds of what is measured, and `grown`, its memory in KiB.
+# Plays a script on a new node: sets `spent`, the nanoseconds of what is measured, and `grown`, its
+# memory in KiB.
 play() {
   local part before after
   answered= spent=0 grown=0
@@ -56,8 +58,8 @@ write_script() {
   count=$(awk -f "$here/node_events.awk" -v folder="$folder/script" -v what="$1" -v size="$2")
 }
 
-# The least processor time of a script, in microseconds an operation, beside OTP's figure of the same key, and OTP's for
-# the call alone where it has both.
+# The least processor time of a script, in microseconds an operation, beside OTP's figure of the
+# same key, and OTP's for the call alone where it has both.
 time_of() {
   local key=$1 title=$2 least= run
   write_script "$3" "$4"

@@ -1,9 +1,11 @@
 #!/usr/bin/env bash
-# `Pass::call` of one thread beside `NodeCore::step`, and threads that call one node at once beside threads that make the same steps
-# under a bare lock, and beside OTP's own pg with as many processes, where `escript` is installed: by the clock, from this one run, with the load of the machine before it. Each figure is
-# the least of some rounds, and has in it the making of the events and the letting go of answers. The program is no crate of the
-# gate, so its source isn't named as one: it is built in a folder of its own, without proofs, in a minute or two.
-# THREADS_SPEED may name a file where the built program is kept, and taken from at the next run.
+# `Pass::call` of one thread beside `NodeCore::step`, and threads that call one node at once beside
+# threads that make the same steps under a bare lock, and beside OTP's own pg with as many
+# processes, where `escript` is installed: by the clock, from this one run, with the load of the
+# machine before it. Each figure is the least of some rounds, and has in it the making of the events
+# and the letting go of answers. The program is no crate of the gate, so its source isn't named as
+# one: it is built in a folder of its own, without proofs, in a minute or two. THREADS_SPEED may
+# name a file where the built program is kept, and taken from at the next run.
 set -eu
 root=$(cd "$(dirname "$0")/.." && pwd)
 me=bench/node_threads.sh

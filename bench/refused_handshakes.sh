@@ -1,6 +1,7 @@
 #!/usr/bin/env bash
-# Processor time a line of `pg_console run`, for 2,000 and for 20,000 handshakes that are refused at their digest,
-# five lines each, the least of five runs. Nothing may grow with the history, so the two figures agree.
+# Processor time a line of `pg_console run`, for 2,000 and for 20,000 handshakes that are refused at
+# their digest, five lines each, the least of five runs. Nothing may grow with the history, so the
+# two figures agree.
 set -eu
 program=$(cd "$(dirname "$0")/.." && pwd)/crates/pg_console/out/pg_console
 [ -x "$program" ] || { echo "build it first, by bin/pg_console" >&2; exit 1; }

@@ -1,8 +1,9 @@
 #!/usr/bin/env bash
-# The table of a scope beside 60 peers, of this tree and of an earlier revision, by turns on one processor: bench/rows.sh [REVISION].
-# Both with a limit of 65,536 rows a node, so that there is room beside 4,096.
-# Each figure is the least of some rounds, in microseconds of processor time. Both programs are built without proofs, in a minute each, and without the
-# checks that a proof makes needless. ROWS_KEPT may name a folder where they are kept, and taken from at the next run.
+# The table of a scope beside 60 peers, of this tree and of an earlier revision, by turns on one
+# processor: bench/rows.sh [REVISION]. Both with a limit of 65,536 rows a node, so that there is
+# room beside 4,096. Each figure is the least of some rounds, in microseconds of processor time.
+# Both programs are built without proofs, in a minute each, and without the checks that a proof
+# makes needless. ROWS_KEPT may name a folder where they are kept, and taken from at the next run.
 set -eu
 root=$(cd "$(dirname "$0")/.." && pwd)
 me=bench/rows.sh

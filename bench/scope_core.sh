@@ -1,6 +1,6 @@
 #!/usr/bin/env bash
-# Builds and runs bench/scope_core over the crates of this repository, in a folder of its own: it is no crate of the gate,
-# so its source isn't named as one.
+# Builds and runs bench/scope_core over the crates of this repository, in a folder of its own: it is
+# no crate of the gate, so its source isn't named as one.
 set -eu
 root=$(cd "$(dirname "$0")/.." && pwd)
 folder=$(mktemp -d)
