@@ -18,21 +18,23 @@ pub(crate) fn free_name(
 ) -> io::Result<String> {
     let Mark { creation, number } = first;
     let name = format!(in alloc; "{path}.{creation}.{number}")?;
-    if is_free(files, name.as_str()) {
+    if is_free(files, name.as_str())? {
         return Ok(name);
     }
     for copy in 2..MOST_NAMES {
         let name = format!(in alloc; "{path}.{creation}.{number}.{copy}")?;
-        if is_free(files, name.as_str()) {
+        if is_free(files, name.as_str())? {
             return Ok(name);
         }
     }
     Err(io::Error::from(ErrorKind::AlreadyExists))
 }
 
-fn is_free(files: &HostRuntime, name: &str) -> bool {
+/// Whether nothing has the name. An error where that can't be told, as of a name that is too long.
+fn is_free(files: &HostRuntime, name: &str) -> io::Result<bool> {
     match fs::symlink_metadata(files, name) {
-        Ok(_) => false,
-        Err(error) => error.kind() == ErrorKind::NotFound,
+        Ok(_) => Ok(false),
+        Err(error) if error.kind() == ErrorKind::NotFound => Ok(true),
+        Err(error) => Err(error),
     }
 }

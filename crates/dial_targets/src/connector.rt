@@ -76,8 +76,10 @@ impl Connector {
             };
             let made = goal.connect(rt, time);
             let mut state = self.state.lock(rt);
-            state.wanted = None;
-            state.made = Some(made);
+            // One that nobody wants any more is closed.
+            if state.wanted.take().is_some() {
+                state.made = Some(made);
+            }
             drop(state);
             self.moved.notify_all();
         }
@@ -112,6 +114,7 @@ impl Connector {
         let look = Duration::from_millis(LOOK);
         for _ in rt.forever() {
             if stop.is_stopping(rt) {
+                self.take_back(rt);
                 return None;
             }
             let state = self.state.lock(rt);
@@ -126,6 +129,13 @@ impl Connector {
             }
         }
         unreachable!()
+    }
+
+    /// Asks for none any more. One that was made is closed.
+    fn take_back<R: Wait>(&self, rt: &R) {
+        let mut state = self.state.lock(rt);
+        state.wanted = None;
+        state.made = None;
     }
 
     /// Asks for a connection. One that was made for an earlier wish is closed.

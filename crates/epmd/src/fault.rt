@@ -18,7 +18,7 @@ pub enum EpmdFault {
     /// It ends before it is whole.
     #[error("an answer of EPMD that is cut short")]
     Short,
-    /// No node of that name is registered, or it can't be.
+    /// No node of that name is registered; or, where one asks to be, its name isn't taken.
     #[error("EPMD doesn't have the name")]
     Refused,
     /// It speaks of another node.

@@ -10,7 +10,7 @@ use std::io;
 use std::os::unix::fs::PermissionsExt;
 
 /// The bits of a file's mode that let its group write it, or others do anything with it.
-const OTHERS: u32 = 0o037;
+const OTHERS: u32 = 0o027;
 
 /// Why a file with such a mode isn't taken for a secret.
 pub const IS_OPEN: &str = "others can read this file, or its group write it (chmod 600)";

@@ -48,7 +48,7 @@ impl<R: Wait + Clock> LinkInput<'_, R> {
         };
         if self.progress.is_up() {
             if guard.is_some() {
-                self.outlet.has_come_up(self.at.rt)?;
+                self.outlet.has_come_up();
             }
             self.stage = Stage::Up(0);
             return self.stream.set_read_timeout(Some(self.looks.time));

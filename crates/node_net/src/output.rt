@@ -5,6 +5,7 @@ use link_notes::Ending;
 use node_threads::LinkOut;
 use std::io::{self, ErrorKind, Write};
 use std::net::{Shutdown, TcpStream};
+use std::sync::atomic::{AtomicBool, Ordering};
 use std::sync::{Mutex, Wait};
 use std::thread;
 use std::time::{Clock, Duration, Instant};
@@ -17,21 +18,15 @@ const TICK: [u8; 4] = [0; 4];
 /// handshake that it hasn't begun, and the first one of its batch.
 const ACK: [u8; 3] = [0, 17, b'a'];
 
-/// What was written.
-#[derive(Clone, Copy, Debug)]
-struct Written {
-    /// Whether messages may go out: nothing of the handshake is owed any more.
-    is_up: bool,
-    last: Instant,
-}
-
-/// The way out of a link, shared by both directions. The lock is held for a whole batch of frames,
-/// or a tick.
+/// The way out of a link, shared by both directions.
 #[derive(Drop)]
 pub(crate) struct Outlet<'a> {
     stream: &'a TcpStream,
     pulse: Duration,
-    written: Mutex<Written>,
+    /// Whether messages may go out: nothing of the handshake is owed any more.
+    is_up: AtomicBool,
+    /// When something was written last. The lock is held for a whole batch of frames, or a tick.
+    written: Mutex<Instant>,
 }
 
 impl<'a> Outlet<'a> {
@@ -43,28 +38,22 @@ impl<'a> Outlet<'a> {
     ) -> io::Result<Outlet<'a>> {
         stream.set_nodelay(true)?;
         stream.set_write_timeout(Some(look(limits.tick)))?;
-        let written = Written {
-            is_up: false,
-            last: Instant::now(rt)?,
-        };
         Ok(Outlet {
             stream,
             pulse: limits.pulse(),
-            written: Mutex::new(written),
+            is_up: AtomicBool::new(false),
+            written: Mutex::new(Instant::now(rt)?),
         })
     }
 
-    /// A link that this end has dialled is up.
-    pub(crate) fn has_come_up<R: Wait + Clock>(&self, rt: &R) -> io::Result<()> {
-        let mut written = self.written.lock(rt);
-        written.is_up = true;
-        written.last = Instant::now(rt)?;
-        Ok(())
+    /// A link that this end has dialled is up. Nothing waits here for a write that is under way.
+    pub(crate) fn has_come_up(&self) {
+        self.is_up.store(true, Ordering::SeqCst);
     }
 
     /// Whether the link has come up.
-    pub(crate) fn was_up<R: Wait>(&self, rt: &R) -> bool {
-        self.written.lock(rt).is_up
+    pub(crate) fn was_up(&self) -> bool {
+        self.is_up.load(Ordering::SeqCst)
     }
 
     /// Writes a batch of frames, and notes where nobody reads them.
@@ -83,9 +72,9 @@ impl<'a> Outlet<'a> {
     fn write_batch<R: Wait + Clock>(&self, at: &HostedLink<'_, R>, batch: &[u8]) -> io::Result<()> {
         let mut written = self.written.lock(at.rt);
         at.write_all(self.stream, batch)?;
-        written.last = Instant::now(at.rt)?;
-        if !written.is_up {
-            written.is_up = batch.starts_with(&ACK);
+        *written = Instant::now(at.rt)?;
+        if batch.starts_with(&ACK) {
+            self.has_come_up();
         }
         Ok(())
     }
@@ -95,9 +84,9 @@ impl<'a> Outlet<'a> {
         let Some(mut written) = self.written.try_lock() else {
             return Ok(());
         };
-        if written.is_up && written.last.elapsed(at.rt)? >= self.pulse {
+        if self.was_up() && written.elapsed(at.rt)? >= self.pulse {
             at.write_all(self.stream, &TICK)?;
-            written.last = Instant::now(at.rt)?;
+            *written = Instant::now(at.rt)?;
         }
         Ok(())
     }

@@ -166,7 +166,7 @@ fn serve_entered<R: Threads + Wait + Clock + Sync>(
         is_native: origin.is_from_native(),
     };
     let lane = serve_opened(home, lane, input, origin, start);
-    (lane, Served::of(outlet.was_up(rt)))
+    (lane, Served::of(outlet.was_up()))
 }
 
 /// Serves the link that was opened, by its kind.

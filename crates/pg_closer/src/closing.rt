@@ -230,9 +230,16 @@ impl<'a> Closer<'a> {
             let may_write = self.look(rt, node);
             match self.take(rt, may_write) {
                 Task::Write(page) => self.write(rt, node, &page),
-                Task::Close(life) => self.close_one(rt, node, life),
+                // A file that is to be opened anew gets what is left, too.
+                Task::Close(life) => {
+                    self.look(rt, node);
+                    self.close_one(rt, node, life);
+                }
                 Task::Look => {}
-                Task::End => return,
+                Task::End => {
+                    self.look(rt, node);
+                    return;
+                }
             }
         }
         unreachable!()

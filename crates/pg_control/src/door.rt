@@ -127,8 +127,11 @@ fn open_in_turn<'a, R: Files + Net>(
         if !found.file_type().is_socket() {
             return Err(place.fault("there is a file that is no socket"));
         }
-        if UnixStream::connect(rt, path).is_ok() {
-            return Err(place.fault("another program answers there"));
+        match UnixStream::connect(rt, path) {
+            Ok(_) => return Err(place.fault("another program answers there")),
+            // Nobody answers at a socket that refuses; of others nothing is known.
+            Err(error) if error.kind() == ErrorKind::ConnectionRefused => {}
+            Err(error) => return Err(place.fault(error)),
         }
     }
     let first = format!(in alloc; "{path}.new")?;

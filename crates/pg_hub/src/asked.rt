@@ -47,7 +47,7 @@ impl Asked for Hub {
             let Some(promise) = self.promise_of_an_end(rt, seat) else {
                 return;
             };
-            let call = self.let_through(rt, promise);
+            let call = self.let_through(rt, seat, promise);
             let had_one = !self.signals.is_quitting() && self.leave_one(rt, seat);
             self.has_called(rt, call);
             if !had_one {
@@ -65,7 +65,7 @@ impl Asked for Hub {
         out: &mut Vec<u8>,
     ) -> Result<Next, OutOfMemory> {
         let promise = self.promise_of_line(rt, seat, line);
-        let call = self.let_through(rt, promise);
+        let call = self.let_through(rt, seat, promise);
         // From here to its answer a line waits for no client.
         self.crowd.enter();
         let answered = self.answer_line(rt, seat, line, out);

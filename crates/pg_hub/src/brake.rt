@@ -10,16 +10,20 @@ ghost use Rattle.pg_hub.specs.Brake.{moves, announces};
 use crate::hub::Hub;
 use crate::promises::{MOST, Promises};
 use dist_types::MAX_ROWS;
+use node_core::NodeCore;
 use node_threads::Shared;
 use pg_session::Session;
 use pg_text::first_word;
 use std::marker::Model;
 use std::sync::atomic::{AtomicUsize, Ordering};
 use std::sync::{CondvarTimeouts, Mutex, Wait};
-use std::time::Clock;
+use std::time::{Clock, Duration};
 
 /// How many scopes there are at most, for each of which an exit may owe a link a frame.
 const EACH_SCOPE: usize = 64;
+
+/// The milliseconds for which a call waits at most while the node drains.
+const DRAINING: u64 = 100;
 
 /// What lets calls through.
 #[derive(Drop)]
@@ -80,14 +84,14 @@ impl Promise {
     }
 
     /// That of the end of a connection's next process or monitor.
-    pub(crate) fn of_an_end(session: &Session) -> Promise {
-        Promise {
-            frames: if session.has_processes() {
-                frames_of_an_exit(session.rows()).min(MOST)
-            } else {
-                0
-            },
-        }
+    pub(crate) fn of_an_end(session: &Session, core: &NodeCore) -> Promise {
+        let frames = if session.has_processes() {
+            let rows = session.rows().min(own_rows(core));
+            frames_of_an_exit(rows).min(MOST)
+        } else {
+            0
+        };
+        Promise { frames }
     }
 }
 
@@ -132,6 +136,20 @@ fn named_in(line: &[u8]) -> usize
     spaces.saturating_sub(2)
 }
 
+/// How many rows the node's own processes have in all scopes.
+fn own_rows(core: &NodeCore) -> usize {
+    let mut rows: usize = 0;
+    for index in 0..usize::MAX {
+        let Some(scope) = core.scope(index) else {
+            break;
+        };
+        if let Some(table) = core.table(scope) {
+            rows = rows.saturating_add(table.own_total());
+        }
+    }
+    rows
+}
+
 /// Whether a command moves processes.
 fn moves(word: &[u8]) -> bool
     ensures { result ≡ moves word.now }
@@ -169,20 +187,24 @@ impl Hub {
     /// How many rows the processes of a seat have at most.
     fn rows_of<R: Wait>(&self, rt: &R, seat: usize) -> usize {
         let house = self.house.read(rt);
-        match house.sessions.get(seat) {
+        let rows = match house.sessions.get(seat) {
             Some(session) => session.lock(rt).rows(),
             None => 0,
-        }
+        };
+        rows.min(own_rows(self.node.shared.lock(rt).core()))
     }
 
-    /// Lets a call through: at once, or when so few frames wait for each link whose writer gets on
-    /// that the call can't end it; after the time for which a writer may stand still in any case.
-    pub fn let_through<R: Wait + Clock>(&self, rt: &R, promise: Promise) -> LetThrough
+    /// Lets a call of a seat through: at once, or when so few frames wait for each link whose
+    /// writer gets on that the call can't end it; after the time for which a writer may stand still
+    /// in any case.
+    pub fn let_through<R: Wait + Clock>(&self, rt: &R, seat: usize, promise: Promise) -> LetThrough
         ensures { result ≡ promise }
     {
         let Promise { frames } = promise;
         if frames > 0 && !self.has_room(rt, frames) {
+            self.readers.hold(seat, true);
             self.wait_for_links(rt, frames);
+            self.readers.hold(seat, false);
         }
         LetThrough { frames }
     }
@@ -212,7 +234,7 @@ impl Hub {
             return;
         }
         self.brake.held.fetch_add(1, Ordering::SeqCst);
-        let patience = self.notes.writers.patience(rt);
+        let patience = self.patience(rt);
         let (shared, wait) = self
             .node
             .moved
@@ -224,6 +246,17 @@ impl Hub {
         }
         drop(shared);
         self.brake.held.fetch_sub(1, Ordering::SeqCst);
+    }
+
+    /// For how long a call waits at most: as long as a writer may stand still, but not while the
+    /// node drains.
+    fn patience<R: Wait>(&self, rt: &R) -> Duration {
+        let patience = self.notes.writers.patience(rt);
+        if self.signals.is_draining() {
+            patience.min(Duration::from_millis(DRAINING))
+        } else {
+            patience
+        }
     }
 
     /// Looks at the links, and lets a call through if it finds room: whether it did. None waits

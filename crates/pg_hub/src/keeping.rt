@@ -117,10 +117,14 @@ impl Hub {
         (!self.signals.is_quitting()).then_some(now)
     }
 
-    /// Whether the node keeps no more entries than it is to.
+    /// Whether the node keeps no more entries than it is to, or can't do with fewer before more
+    /// come: nobody who hasn't been told of the oldest page is told of it before.
     pub fn is_settled<R: Wait>(&self, rt: &R) -> bool {
         let shared = self.node.shared.lock(rt);
-        kept(shared.core()) <= self.keeping.entries.max(PAGE)
+        let kept = kept(shared.core());
+        let lag = self.readers.most_lag(shared.core().audit().len() as u32);
+        let rests = lag <= self.keeping.rest() && kept.saturating_sub(lag) < PAGE;
+        kept <= self.keeping.entries.max(PAGE) || rests
     }
 
     /// Whether the node may keep still more for a file that is slower than entries come: as many
@@ -202,7 +206,9 @@ impl Hub {
         let patience = self.keeping.patience();
         for seat in 0..self.seats as usize {
             let lag = self.readers.lag(seat, entries);
-            if lag <= self.keeping.rest() || self.readers.count_look(seat) < LOOKS {
+            // One whose call waits for a slow peer is told no more than that.
+            let rests = lag <= self.keeping.rest() || self.readers.is_held(seat);
+            if rests || self.readers.count_look(seat) < LOOKS {
                 continue;
             }
             if lag > patience / 4 * 3 && self.readers.mark_behind(seat) {

@@ -21,6 +21,8 @@ struct Reader {
     is_to_ask: AtomicBool,
     /// How many looks in a row it has been found to be told too little.
     looks: AtomicU32,
+    /// Whether a call of its own waits for links, and its news for that.
+    is_held: AtomicBool,
     /// Whether it is ended since it doesn't read.
     is_behind: AtomicBool,
 }
@@ -50,6 +52,7 @@ impl Readers {
                 monitors: AtomicU32::new(0),
                 is_to_ask: AtomicBool::new(false),
                 looks: AtomicU32::new(0),
+                is_held: AtomicBool::new(false),
                 is_behind: AtomicBool::new(false),
             })?;
         }
@@ -175,6 +178,22 @@ impl Readers {
                 .fetch_add(1, Ordering::SeqCst)
                 .saturating_add(1),
             None => 0,
+        }
+    }
+
+    /// A call of the connection of the seat waits for links from now on, or no more.
+    pub(crate) fn hold(&self, seat: usize, is_held: bool) {
+        if let Some(reader) = self.seats.get(seat) {
+            reader.looks.store(0, Ordering::SeqCst);
+            reader.is_held.store(is_held, Ordering::SeqCst);
+        }
+    }
+
+    /// Whether a call of the connection of the seat waits for links.
+    pub(crate) fn is_held(&self, seat: usize) -> bool {
+        match self.seats.get(seat) {
+            Some(reader) => reader.is_held.load(Ordering::SeqCst),
+            None => false,
         }
     }
 

@@ -33,7 +33,8 @@ impl Hub {
     pub(crate) fn promise_of_an_end<R: Wait>(&self, rt: &R, seat: usize) -> Option<Promise> {
         let house = self.house.read(rt);
         let session = house.sessions.get(seat)?.lock(rt);
-        Some(Promise::of_an_end(&session))
+        let shared = self.node.shared.lock(rt);
+        Some(Promise::of_an_end(&session, shared.core()))
     }
 
     /// Ends one thing that a connection had. The lock is free behind each, so that others are

@@ -1,7 +1,7 @@
 //! Nodes of one name: each ends the link of the other to this node, which alone sees both.
 use dist_types::{NodeName, OutOfMemory, TryClone};
 use node_core::NodeCore;
-use policy_audit::{Entry, Reply, Verdict};
+use policy_audit::{Reply, Verdict};
 use std::alloc::Global;
 
 /// Of how many peers it is known how they came up last.
@@ -14,22 +14,29 @@ struct Peer {
     /// Its creation, and the one before.
     last: u32,
     before: Option<u32>,
-    is_told: bool,
+    telling: Telling,
+}
+
+/// Whether two nodes have been found to have a name.
+#[derive(Clone, Copy, PartialEq, Eq, Drop)]
+enum Telling {
+    Unfound,
+    Due,
+    Told,
 }
 
 impl Peer {
-    /// The peer has come up with this creation: whether that is one from before the last one, for
-    /// the first time. A node that begins anew never has an earlier creation again.
-    fn comes_up(&mut self, creation: u32) -> bool {
+    /// The peer has come up with this creation. Where that is one from before the last one, two
+    /// nodes have the name: a node that begins anew never has an earlier creation again.
+    fn comes_up(&mut self, creation: u32) {
         if creation == self.last {
-            return false;
+            return;
         }
-        let is_back = self.before == Some(creation);
+        if self.before == Some(creation) && self.telling == Telling::Unfound {
+            self.telling = Telling::Due;
+        }
         self.before = Some(self.last);
         self.last = creation;
-        let is_news = is_back && !self.is_told;
-        self.is_told |= is_back;
-        is_news
     }
 }
 
@@ -51,8 +58,8 @@ impl Twins {
         }
     }
 
-    /// Looks at what is new in the audit: a name that two nodes have, if one is found. Where memory
-    /// is wanting, none is.
+    /// Looks at what is new in the audit: a name that two nodes have, if one was found that hasn't
+    /// been told. Where memory is wanting, it is told at a later look.
     pub fn follow(&mut self, alloc: Global, core: &NodeCore) -> Option<NodeName> {
         if self.creation != core.creation() {
             self.creation = core.creation();
@@ -60,24 +67,22 @@ impl Twins {
         }
         let seen = self.entries;
         self.entries = core.audit().len();
-        let mut found = None;
         for entry in core.audit().after(seen) {
-            if let Some(name) = self.look(alloc, entry) {
-                found = name.try_clone(alloc).ok();
+            if let Verdict::Accepted(Reply::Up { peer, creation, .. }) = &entry.verdict {
+                // A peer that isn't known for want of memory is known when it comes up again.
+                self.come_up(alloc, peer, *creation).ok();
             }
         }
-        found
+        self.take_due(alloc)
     }
 
-    /// The name of a peer that comes up with an entry, if two nodes have it.
-    fn look<'a>(&mut self, alloc: Global, entry: &'a Entry) -> Option<&'a NodeName> {
-        match &entry.verdict {
-            Verdict::Accepted(Reply::Up { peer, creation, .. }) => {
-                let are_two = self.come_up(alloc, peer, *creation).unwrap_or(false);
-                are_two.then_some(peer)
-            }
-            _ => None,
-        }
+    /// A name that is to be told, which is told then.
+    fn take_due(&mut self, alloc: Global) -> Option<NodeName> {
+        let mut peers = self.peers.iter_mut();
+        let peer = peers.find(|peer| peer.telling == Telling::Due)?;
+        let name = peer.name.try_clone(alloc).ok()?;
+        peer.telling = Telling::Told;
+        Some(name)
     }
 
     fn come_up(
@@ -85,9 +90,10 @@ impl Twins {
         alloc: Global,
         name: &NodeName,
         creation: u32,
-    ) -> Result<bool, OutOfMemory> {
+    ) -> Result<(), OutOfMemory> {
         if let Some(peer) = self.peers.iter_mut().find(|peer| peer.name == *name) {
-            return Ok(peer.comes_up(creation));
+            peer.comes_up(creation);
+            return Ok(());
         }
         if self.peers.len() >= MOST {
             self.peers.remove(0);
@@ -96,9 +102,9 @@ impl Twins {
             name: name.try_clone(alloc)?,
             last: creation,
             before: None,
-            is_told: false,
+            telling: Telling::Unfound,
         };
         self.peers.push(peer)?;
-        Ok(false)
+        Ok(())
     }
 }

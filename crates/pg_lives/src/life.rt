@@ -139,7 +139,7 @@ fn wait_for_end<'s, E: 's, R: Host + 's>(
     let hub = site.hub;
     let mut watch = Watch::new();
     let mut threads = LinkThreads::none();
-    let mut warnings = Warnings::new();
+    let mut warnings = Warnings::new(lanes.met().refused_atoms);
     threads.make(scope, rt, site, lanes);
     for _ in rt.forever() {
         let told = watch.noticed;

@@ -85,14 +85,17 @@ pub(crate) struct Warnings {
 }
 
 impl Warnings {
-    pub(crate) fn new() -> Warnings {
+    /// Those of a life, before which stock nodes were told groups as atoms so often in vain.
+    pub(crate) fn new(refused_atoms: u64) -> Warnings {
+        let mut too_many_atoms = Warning::new("too_many_atoms", ATOMS);
+        too_many_atoms.told = refused_atoms;
         Warnings {
             no_thread: Warning::new("no_thread", NO_THREAD),
             full: Warning::new("full", FULL),
             reflected: Warning::new("reflected", REFLECTED),
             stock_node: Warning::new("stock_node", STOCK),
             no_stock_node: Warning::new("no_stock_node", NATIVE),
-            too_many_atoms: Warning::new("too_many_atoms", ATOMS),
+            too_many_atoms,
         }
     }
 

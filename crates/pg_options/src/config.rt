@@ -39,18 +39,20 @@ struct File<'a> {
     is_open: bool,
 }
 
-/// The words of the command line, and behind them, as words, what the file of `--config` says that
-/// it doesn't.
+/// The words of the command line and, behind the program's own name, as words, what the file of
+/// `--config` says that they don't.
 pub fn with_config<R: Files>(
     rt: &R,
     alloc: Global,
     matches: &ArgMatches<'_>,
     words: &[String],
 ) -> Result<Vec<String>, Fault> {
-    let mut all = words.to_vec(alloc)?;
+    let name = words.len().min(1);
+    let mut all = words[..name].to_vec(alloc)?;
     if let Some(path) = matches.get_str("config") {
         add_file(rt, alloc, matches, path, &mut all)?;
     }
+    all.append(&mut words[name..].to_vec(alloc)?)?;
     Ok(all)
 }
 

@@ -5,7 +5,7 @@ use crate::queues::Queues;
 use anyhow::{Result, bail};
 use dial_targets::PeerKind;
 use dist_types::NodeName;
-use epmd::{Alive, AskFault, NodeKind, register};
+use epmd::{Alive, AskFault, EpmdFault, NodeKind, register};
 use node_net::{Arrivals, Host};
 use pg_log::{Level, Log, number, text};
 use pg_options::OtpOptions;
@@ -24,6 +24,9 @@ const CONNECT: u64 = 500;
 
 /// The milliseconds that EPMD has for its answer.
 const ANSWER: u64 = 7_000;
+
+/// Why EPMD registers no node that asks properly.
+const TAKEN: &str = "EPMD doesn't take the name: another program may have it";
 
 /// Where stock nodes connect. It is open until the end of the program.
 #[derive(Drop)]
@@ -157,6 +160,8 @@ impl Registration {
                     is_told = true;
                 }
             }
+            // EPMD sees the connection end before the next one comes.
+            self.state.lock(rt).stream = None;
             if self.rest(rt) {
                 return;
             }
@@ -245,13 +250,16 @@ impl Registration {
     }
 
     fn log_fault<R: Wait + Clock>(&self, rt: &R, log: &Log, fault: &AskFault) {
-        if let Ok(reason) = format!(in self.alloc; "{fault}") {
-            let fields = [
-                number("epmd", u64::from(self.epmd)),
-                text("reason", reason.as_str()),
-            ];
-            log.tell(rt, Level::Warn, "not_registered", &fields);
+        if matches!(fault, AskFault::Answer(EpmdFault::Refused)) {
+            self.log_reason(rt, log, TAKEN);
+        } else if let Ok(reason) = format!(in self.alloc; "{fault}") {
+            self.log_reason(rt, log, reason.as_str());
         }
+    }
+
+    fn log_reason<R: Wait + Clock>(&self, rt: &R, log: &Log, reason: &str) {
+        let fields = [number("epmd", u64::from(self.epmd)), text("reason", reason)];
+        log.tell(rt, Level::Warn, "not_registered", &fields);
     }
 }
 

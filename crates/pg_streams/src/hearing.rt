@@ -9,7 +9,7 @@ use std::time::{Clock, Duration, Instant};
 /// The milliseconds for which somebody is heard out at most.
 const HEARING: u64 = 300;
 
-/// The most threads that hear somebody out, of one door.
+/// The most threads that hear somebody out at once.
 const MOST: usize = 8;
 
 /// How many bytes are read at a time.
