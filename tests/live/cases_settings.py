@@ -49,7 +49,7 @@ def errors_of(done):
 def settings_in_a_file(field):
     """`--config` says options by their names; the command line goes first; what is wrong in the
     file is told with its line."""
-    cookie = field.cookie_file(mode=0o440)
+    cookie = field.cookie_file(mode=0o450)
     file = os.path.join(field.folder, "node.toml")
     write(
         file,
@@ -57,7 +57,7 @@ def settings_in_a_file(field):
         'allow = ["b@h", "c@h"]\nhidden = true\nlog-level = "warn"\n',
     )
     done = run_node(
-        field, "a@h", "--config", file, "--creation", "6", input=b"self\nallowed\nstatus\n"
+        field, "--config", file, "--creation", "6", "--", "a@h", input=b"self\nallowed\nstatus\n"
     )
     lines = done.stdout.decode().splitlines()
     expect("what it says", ["self a@h 6", "allowed b@h c@h"], lines[:2])

@@ -39,6 +39,23 @@ def archive_behind_a_deaf_client(field):
 
 
 @case
+def archive_moved_before_the_end(field):
+    """All that a node keeps goes to the file that `reopen` asks for, also where the end comes at
+    once."""
+    path = os.path.join(field.folder, "archive")
+    a = field.node("a@h", "--audit", path)
+    control = field.control(a)
+    start(control)
+    fill(control, new_pid(control), 1000)
+    os.rename(path, f"{path}.0")
+    asked(control, "reopen")
+    expect("the status after quit", 0, a.quit())
+    with open(path, encoding="ascii") as file:
+        numbers = [json.loads(line).get("entry") for line in file]
+    expect("the entries in the new file", [*range(1, 1003)], [n for n in numbers if n])
+
+
+@case
 def archive_moved_where_none_can_be_made(field):
     """Where the file can't be opened anew that is said, and entries wait: once it can they follow
     there, without another `reopen`, and none goes to the file that was moved."""
