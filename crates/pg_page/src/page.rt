@@ -13,7 +13,8 @@ const STYLE: &str = "</title>\n<style>\n\
 body { font: 16px/1.4 system-ui, sans-serif; margin: 1em; max-width: 70em }\n\
 .wide { overflow-x: auto }\n\
 table { border-collapse: collapse }\n\
-th, td { border: 1px solid; padding: .2em .5em; min-width: 4.5em; text-align: left; vertical-align: top; overflow-wrap: anywhere }\n\
+th, td { border: 1px solid; padding: .2em .5em; min-width: 4.5em; text-align: left; \
+vertical-align: top; overflow-wrap: anywhere }\n\
 pre { white-space: pre-wrap; overflow-wrap: anywhere }\n\
 </style>\n</head>\n<body>\n";
 
