@@ -17,6 +17,8 @@
 //! A link of version 2 brings the rows of a Sync, a Join or a Leave in parts. They are kept with
 //! the link, and count once the last has come. On a link of version 1 a message is one part.
 ghost use Rattle.std.specs.Prelude.{◌≡◌, ◌==◌, ◌&&◌, not, List, ℕ, true, Some, None, MatchResult};
+ghost use Rattle.std.specs.List.{list_all};
+ghost use Rattle.dist_types.specs.Listing.{same};
 ghost use Rattle.link_frames.specs.declared.part.Message2.TheVariants as messages;
 ghost use Rattle.link_frames.specs.declared.fault.MessageFault.TheVariants as unread;
 ghost use Rattle.link_frames.specs.Parts.{whole};
@@ -38,6 +40,7 @@ use crate::peer_rows::{PeerRows, drop_change, hear, hear_or_test};
 use crate::running::{Running, place_of};
 use dist_types::{Body, Scope};
 use link_frames::{Message, Message2, MessageFault, PartKind, Rows, decode, decode_v2};
+use link_states::Up;
 use policy_audit::Rule;
 use std::alloc::Global;
 
@@ -321,8 +324,16 @@ fn are_of_peer(link: &Link, rows: &Rows) -> bool
     ensures { result ≡ are_of_peer link.now.state rows.now }
 {
     match link.state() {
-        LinkState::Up(up) => rows.as_slice().iter().all(|row| row.pid.node == *up.peer()
-            && row.pid.creation == up.creation()),
+        LinkState::Up(up) => are_from(up, rows),
         _ => false,
     }
+}
+
+/// Whether each row's process is of the peer, with the creation that it gave.
+fn are_from(up: &Up, rows: &Rows) -> bool
+    ensures { result ≡ list_all (λ r. same r.pid.node up.now.peer
+        && r.pid.creation == up.now.creation) rows.now }
+{
+    rows.as_slice().iter().all(|row| row.pid.node == *up.peer()
+        && row.pid.creation == up.creation())
 }

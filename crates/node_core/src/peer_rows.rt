@@ -35,15 +35,16 @@ pub fn hear(
 ) -> Result<Vec<Change>, CoreFault>
     requires { All (λ r. r.pid.node ≡ said.peer.now) said.rows.now }
     ensures ok { OnOk result (HasBecome running.old running.new
-        (count_after said.kind running.old.table said.peer.now said.rows.now)
-        (heard_after said.kind said.link running.old.heard.items) running.old.told.items) }
+        (count_after said.entry.kind running.old.table said.entry.peer.now said.entry.rows.now)
+        (heard_after said.entry.kind said.entry.link running.old.heard.items)
+        running.old.told.items) }
     ensures change { IfOk result (λ changes.
         IsChangeIn scope (count_of running.old.table) (count_of running.new.table) changes.items) }
     ensures refused { IfErr result
-        (IsRowFault (table_refusal running.old.table said.peer.now said.kind said.rows.now
-        said.limit)) }
-    ensures holds { OnOk result (table_refusal running.old.table said.peer.now said.kind
-        said.rows.now said.limit ≡ None) }
+        (IsRowFault (table_refusal running.old.table said.entry.peer.now said.entry.kind
+        said.entry.rows.now said.entry.limit)) }
+    ensures holds { OnOk result (table_refusal running.old.table said.entry.peer.now said.entry.kind
+        said.entry.rows.now said.entry.limit ≡ None) }
     ensures same { OnErr result (HasBecome running.old running.new (count_of running.old.table)
         running.old.heard.items running.old.told.items) }
 {
@@ -64,13 +65,14 @@ fn hear_rows(
 ) -> Result<Vec<Change>, CoreFault>
     requires { All (λ r. r.pid.node ≡ said.peer.now) said.rows.now }
     ensures ok { OnOk result (HasBecome running.old running.new
-        (count_after_sync running.old.table said.peer.now said.rows.now)
-        (with_number said.link running.old.heard.items) running.old.told.items) }
+        (count_after_sync running.old.table said.entry.peer.now said.entry.rows.now)
+        (with_number said.entry.link running.old.heard.items) running.old.told.items) }
     ensures change { IfOk result (λ changes.
         IsChangeIn scope (count_of running.old.table) (count_of running.new.table) changes.items) }
     ensures refused { IfErr result
-        (IsRowFault (cond (nat_le (length said.rows.now) said.limit) None (Some Rule.RowsFull))) }
-    ensures holds { OnOk result (cond (nat_le (length said.rows.now) said.limit) None
+        (IsRowFault (cond (nat_le (length said.entry.rows.now) said.entry.limit) None
+        (Some Rule.RowsFull))) }
+    ensures holds { OnOk result (cond (nat_le (length said.entry.rows.now) said.entry.limit) None
         (Some Rule.RowsFull) ≡ None) }
     ensures same { OnErr result (HasBecome running.old running.new (count_of running.old.table)
         running.old.heard.items running.old.told.items) }
@@ -96,16 +98,16 @@ fn add_rows(
 ) -> Result<Vec<Change>, CoreFault>
     requires { All (λ r. r.pid.node ≡ said.peer.now) said.rows.now }
     ensures ok { OnOk result (HasBecome running.old running.new
-        (count_after_add running.old.table said.rows.now) running.old.heard.items
+        (count_after_add running.old.table said.entry.rows.now) running.old.heard.items
         running.old.told.items) }
     ensures change { IfOk result (λ changes.
         IsChangeIn scope (count_of running.old.table) (count_of running.new.table) changes.items) }
     ensures refused { IfErr result
-        (IsRowFault (cond (nat_le (node_total running.old.table said.peer.now
-        + length said.rows.now) said.limit) None (Some Rule.RowsFull))) }
+        (IsRowFault (cond (nat_le (node_total running.old.table said.entry.peer.now
+        + length said.entry.rows.now) said.entry.limit) None (Some Rule.RowsFull))) }
     ensures holds { OnOk result
-        (cond (nat_le (node_total running.old.table said.peer.now + length said.rows.now)
-        said.limit) None (Some Rule.RowsFull) ≡ None) }
+        (cond (nat_le (node_total running.old.table said.entry.peer.now
+        + length said.entry.rows.now) said.entry.limit) None (Some Rule.RowsFull) ≡ None) }
     ensures same { OnErr result (HasBecome running.old running.new (count_of running.old.table)
         running.old.heard.items running.old.told.items) }
 {
@@ -126,14 +128,14 @@ fn take_rows(
 ) -> Result<Vec<Change>, CoreFault>
     requires { All (λ r. r.pid.node ≡ said.peer.now) said.rows.now }
     ensures ok { OnOk result (HasBecome running.old running.new
-        (count_after_take running.old.table said.rows.now) running.old.heard.items
+        (count_after_take running.old.table said.entry.rows.now) running.old.heard.items
         running.old.told.items) }
     ensures change { IfOk result (λ changes.
         IsChangeIn scope (count_of running.old.table) (count_of running.new.table) changes.items) }
     ensures refused { IfErr result
-        (IsRowFault (cond (are_counted running.old.table said.rows.now) None
+        (IsRowFault (cond (are_counted running.old.table said.entry.rows.now) None
         (Some Rule.NotListed))) }
-    ensures holds { OnOk result (cond (are_counted running.old.table said.rows.now) None
+    ensures holds { OnOk result (cond (are_counted running.old.table said.entry.rows.now) None
         (Some Rule.NotListed) ≡ None) }
     ensures same { OnErr result (HasBecome running.old running.new (count_of running.old.table)
         running.old.heard.items running.old.told.items) }
@@ -170,16 +172,17 @@ pub fn hear_or_test(
 ) -> Result<Vec<Change>, CoreFault>
     requires { All (λ r. r.pid.node ≡ said.peer.now) said.rows.now }
     ensures ok { OnOk result (HasBecome running.old running.new
-        (count_with last said.kind running.old.table said.peer.now said.rows.now)
-        (heard_with last said.kind said.link running.old.heard.items) running.old.told.items) }
+        (count_with last said.entry.kind running.old.table said.entry.peer.now said.entry.rows.now)
+        (heard_with last said.entry.kind said.entry.link running.old.heard.items)
+        running.old.told.items) }
     ensures change { IfOk result (λ changes.
         IsChangeIn running.old.scope (count_of running.old.table) (count_of running.new.table)
         changes.items) }
     ensures refused { IfErr result
-        (IsRowFault (table_refusal running.old.table said.peer.now said.kind said.rows.now
-        said.limit)) }
-    ensures holds { OnOk result (table_refusal running.old.table said.peer.now said.kind
-        said.rows.now said.limit ≡ None) }
+        (IsRowFault (table_refusal running.old.table said.entry.peer.now said.entry.kind
+        said.entry.rows.now said.entry.limit)) }
+    ensures holds { OnOk result (table_refusal running.old.table said.entry.peer.now said.entry.kind
+        said.entry.rows.now said.entry.limit ≡ None) }
     ensures same { OnErr result (HasBecome running.old running.new (count_of running.old.table)
         running.old.heard.items running.old.told.items) }
 {
@@ -205,10 +208,10 @@ fn tested(
         IsChangeIn running.old.scope (count_of running.old.table) (count_of running.new.table)
         changes.items) }
     ensures refused { IfErr result
-        (IsRowFault (table_refusal running.old.table said.peer.now said.kind said.rows.now
-        said.limit)) }
-    ensures holds { OnOk result (table_refusal running.old.table said.peer.now said.kind
-        said.rows.now said.limit ≡ None) }
+        (IsRowFault (table_refusal running.old.table said.entry.peer.now said.entry.kind
+        said.entry.rows.now said.entry.limit)) }
+    ensures holds { OnOk result (table_refusal running.old.table said.entry.peer.now said.entry.kind
+        said.entry.rows.now said.entry.limit ≡ None) }
 {
     match table_refusal(running, said) {
         Some(rule) => Err(CoreFault::Refused(rule)),
@@ -219,8 +222,8 @@ fn tested(
 /// The rule that rows of a peer break by the table of the scope. It takes no memory.
 fn table_refusal(running: &mut Running, said: PeerRows<'_>) -> Option<Rule>
     requires { All (λ r. r.pid.node ≡ said.peer.now) said.rows.now }
-    ensures value { result ≡ table_refusal running.old.table said.peer.now said.kind said.rows.now
-        said.limit }
+    ensures value { result ≡ table_refusal running.old.table said.entry.peer.now said.entry.kind
+        said.entry.rows.now said.entry.limit }
     ensures same { running.new ≡ running.old }
 {
     let (peer, rows, limit) = (said.peer, said.rows, said.limit as usize);

@@ -1,5 +1,5 @@
 use Rattle.node_core.proofs
-use proofs.Words.{ap, get_or-set_same, get_or_default, length, refl, Rule, sym, ◌<◌, ◌∙◌}
+use proofs.Words.{ap, get_or-set_same, length, refl, Rule, sym, ◌<◌, ◌∙◌}
 use proofs.Answering.{accepts, refuses}
 use proofs.KeptOn.{link_at, not_kept}
 use proofs.Taking.{emptied, taken_now}
@@ -21,9 +21,6 @@ returns g c =
     let at = link_at h t.sound.played links t.links c.args.number c.in-Some.place
     c.index_mut.result.now found in
     let within : c.in-Some.place < length links = at.2 in
-    let frames = c.in_ok-copies.ensures ∙ c.frames.ensures
-    ∙ ap (λ x. x.frames) (c.index.ensures ∙ get_or_default links c.in-Some.place
-    c.index.result.now c.index_mut.result.now within) in
     let handed = c.hand_over-frames.ensures.frames ∙ ap (λ x. x.frames) c.index_mut.ensures.value in
     let new = c.hand_over-frames.ensures.left
     ∙ ap (λ x. emptied x c.hand_over-frames.new.self.room) c.index_mut.ensures.value in
