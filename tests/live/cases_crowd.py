@@ -290,12 +290,19 @@ def control_files(field):
 
 @case
 def socket_of_another(field):
-    """A node that ends leaves the socket alone that another one made at its path meanwhile."""
+    """A node that ends leaves the socket alone that another one made at its path meanwhile, and one
+    that begins a socket at which it can't tell whether anybody answers."""
     a = field.node("a@h", port=None)
     os.remove(a.control_path)
     again = field.node("a@h", port=None)
     expect("the status after quit", 0, a.quit())
     expect("an answer at the path", "size 0", Control(again.control_path).ask("size"))
+    expect("the status after another quit", 0, again.quit())
+    other, sender = (field.keep(socket.socket(socket.AF_UNIX, socket.SOCK_DGRAM)) for _ in range(2))
+    other.bind(a.control_path)
+    expect("the status beside it", 1, field.start("a@h", port=None).status())
+    sender.sendto(b"still here", a.control_path)
+    expect("what comes at the socket", b"still here", other.recv(100))
 
 
 class Flood:
