@@ -4,6 +4,7 @@ use crate::ended_life::EndedLife;
 use crate::page_queue::PageQueue;
 use crate::recorder::Recorder;
 use crate::reserve::Reserve;
+use crate::tasks::{State, Task};
 use anyhow::{Error, Result, anyhow};
 use node_threads::CloseRule;
 use pg_archive::Life;
@@ -23,68 +24,6 @@ const FEWEST: usize = 64;
 
 /// The entries of a page.
 const PAGE: u64 = PAGE_SIZE as u64;
-
-struct State {
-    /// Pages of the life that is written, and of the one behind it.
-    pages: PageQueue,
-    later: PageQueue,
-    /// The creation of the life that is written.
-    creation: u32,
-    /// How many pages found no room here.
-    lost: u64,
-    /// Whether the file took what it was given last.
-    may_write: bool,
-    life: Option<EndedLife>,
-    is_closing: bool,
-    has_ended: bool,
-    /// The life that runs won't be closed.
-    is_left: bool,
-    /// Why a life wasn't closed.
-    fault: Option<CloseRule>,
-}
-
-impl Drop for State {
-    fn drop(self) {
-        let State {
-            pages: _,
-            later: _,
-            creation: _,
-            lost: _,
-            may_write: _,
-            life: _,
-            is_closing: _,
-            has_ended: _,
-            is_left: _,
-            fault: _,
-        } = self;
-    }
-}
-
-impl State {
-    /// What is to be done next. Pages can be written only where no write is failing.
-    fn next(&mut self, may_write: bool) -> Task {
-        if may_write {
-            if let Some(page) = self.pages.take() {
-                return Task::Write(page);
-            }
-        }
-        match self.life.take() {
-            Some(life) => Task::Close(life),
-            None if self.has_ended => Task::End,
-            None => Task::Look,
-        }
-    }
-}
-
-/// What is to be done.
-#[derive(Drop)]
-enum Task {
-    Write(Page),
-    Close(EndedLife),
-    /// To see whether the file is to be opened anew, or takes what it didn't.
-    Look,
-    End,
-}
 
 /// Closes one life after another, and writes what they keep no more.
 pub struct Closer<'a> {
@@ -161,7 +100,7 @@ impl<'a> Closer<'a> {
             return are_some;
         }
         for page in pages {
-            add_page(&mut state, creation, page);
+            state.add(creation, page);
         }
         drop(state);
         self.moved.notify_all();
@@ -387,19 +326,6 @@ impl<'a> Closer<'a> {
             Some(archive) => archive.lock(rt).check(),
             None => Ok(()),
         }
-    }
-}
-
-/// Puts a page behind those of its life. Where as many wait as may, the oldest is lost.
-fn add_page(state: &mut State, creation: u32, page: Page) {
-    let queue = if state.creation == creation {
-        &mut state.pages
-    } else {
-        &mut state.later
-    };
-    match queue.add(page) {
-        Ok(None) => {}
-        _ => state.lost = state.lost.saturating_add(1),
     }
 }
 

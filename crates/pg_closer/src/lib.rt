@@ -8,6 +8,7 @@ mod ended_life;
 mod page_queue;
 mod recorder;
 mod reserve;
+mod tasks;
 
 pub use archived::Archived;
 pub use closing::{Closer, not_closed};
