@@ -206,7 +206,7 @@ impl Hub {
         let patience = self.keeping.patience();
         for seat in 0..self.seats as usize {
             let lag = self.readers.lag(seat, entries);
-            // One whose call waits for a slow peer is told no more than that.
+            // Nobody is told while a call of its own waits for a slow peer.
             let rests = lag <= self.keeping.rest() || self.readers.is_held(seat);
             if rests || self.readers.count_look(seat) < LOOKS {
                 continue;
