@@ -5,7 +5,7 @@ use Words.{all_append, AllByRecursion, ap, append-nil, arith, Ascends, BTreeMap}
 use Words.{change_unless_empty, cond, counted_in, entries_of, false, flat_map, group_rows}
 use Words.{GroupChange, how_many, how_many_append, is_gt, is_row, IsDifference, IsHashed, IsProper}
 use Words.{key_cmp, key_of, keys_of, length, Less, List, map, mentions, Pid, pid_cmp, pid_of}
-use Words.{pids_total, ProcessKey, refl, replicate, Rises, Row, row_in, same, same_decides}
+use Words.{pids_total, Option, ProcessKey, refl, replicate, Rises, Row, row_in, same, same_decides}
 use Words.{same_row, SmallMap, spread, spread_ascends, spread_counts, subst, suc, sym, tally}
 use Words.{text_cmp, texts_total, tied_itself, times_joined, times_left, true, zero, [], ℕ, ◌++◌}
 use Words.{◌-◌, ◌==◌, ◌∙◌, ◌∷◌, ◌≡◌}
@@ -133,7 +133,7 @@ module _ (node : List ℕ) where
   -- ---- where the map and the index hold the same rows
 
   module _ (es : List (Row × ℕ)) (groups : BTreeMap (List ℕ) (SmallMap ProcessKey ℕ))
-      (processes : BTreeMap ProcessKey (SmallMap (List ℕ) (Unit {0})))
+      (processes : Option (BTreeMap ProcessKey (SmallMap (List ℕ) (Unit {0}))))
       (is : IsHashed node es groups processes)
       (sorted : IsStrictlySortedBy text_cmp (keys_of groups.entries))
       (members : AllByRecursion SortedMembers groups.entries) where

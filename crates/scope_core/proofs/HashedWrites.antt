@@ -3,7 +3,7 @@ use Rattle.scope_core.proofs
 use proofs.Words
 use Words.{ap, append-nil, AreCounted, arith, bare_rows, Bool, BTreeMap, cond, Counted, counted_in}
 use Words.{drop, eq_by_cmp, false, find_in, get_or, has_groups, has_members, has_row, is_row}
-use Words.{is_some, is_there, IsHashed, key_cmp, key_of, length, length-append, List, list_any}
+use Words.{is_some, is_there, IsHashed, key_cmp, key_of, length, length-append, List, list_any, Names}
 use Words.{lookup, map-append, None, not, Option, or_right, Pid, ProcessKey, refl, Row, row_at}
 use Words.{row_in, same_decides, same_pid, same_pid_decides, same_row, same_row_decides, set_value}
 use Words.{SmallMap, Some, stands, suc, sym, take, take-append-drop, take-append-le, take_all}
@@ -134,7 +134,13 @@ abbrev ByGroup : Type 0
 ByGroup = BTreeMap (List ℕ) (SmallMap ProcessKey ℕ)
 
 abbrev ByProcess : Type 0
-ByProcess = BTreeMap ProcessKey (SmallMap (List ℕ) (Unit {0}))
+ByProcess = Option (BTreeMap ProcessKey (SmallMap (List ℕ) (Unit {0})))
+
+-- the same, said in other words
+pub names_as : (ps : ByProcess) (says also : ProcessKey → List ℕ → Bool)
+    → ((k : ProcessKey) (g : List ℕ) → says k g ≡ also k g) → Names says ps → Names also ps
+names_as None says also is names = tt
+names_as (Some m) says also is names = λ k g. names k g ∙ is k g
 
 -- a row gets a count, or is taken out
 pub hashed_write : {node : List ℕ} {es : Entries} {groups : ByGroup} {processes : ByProcess}
@@ -144,16 +150,15 @@ pub hashed_write : {node : List ℕ} {es : Entries} {groups : ByGroup} {processe
     → ((g : List ℕ) (k : ProcessKey) → find_in text_cmp key_cmp gs g k
     ≡ cond (eq_by_cmp text_cmp row.group g && eq_by_cmp key_cmp (key_of row.pid) k) o
     (find_in text_cmp key_cmp groups g k))
-    → ((k : ProcessKey) (g : List ℕ) → is_some (find_in key_cmp text_cmp ps k g)
-    ≡ cond (eq_by_cmp key_cmp (key_of row.pid) k && eq_by_cmp text_cmp row.group g) (is_some o)
-    (is_some (find_in key_cmp text_cmp processes k g))) → IsHashed node fs gs ps
+    → Names (λ k g. cond (eq_by_cmp key_cmp (key_of row.pid) k && eq_by_cmp text_cmp row.group g)
+    (is_some o) (has_row es (row_at node g k))) ps → IsHashed node fs gs ps
 hashed_write {node = node} {es = es} was row own o fs gs ps once is group process = record {
   once = once;
   own = own_from node fs (λ r h. grind (arith, is r, own_at, same_row_decides));
   by_group = λ g k. group g k
       ∙ (λ i. cond (one_place node g k row own i) o (was.by_group g k i)) ∙ sym (is _);
-  by_process = λ k g. process k g
-      ∙ named_after node g k row own o _ es fs (was.by_process k g) (is (row_at node g k));
+  by_process = names_as ps _ _
+      (λ k g. named_after node g k row own o _ es fs refl (is (row_at node g k))) process;
 }
 
 -- ---- rows that are put in with no count

@@ -23,6 +23,8 @@ pub mod GroupRows
 pub mod GroupIndex
 pub mod RowEntries
 pub mod ProcessRows
+pub mod Popped
+pub mod Found
 pub mod GroupNodes
 pub mod Indexed
 pub mod Kept

@@ -1,7 +1,7 @@
 -- What a call ensures, where its result is known.
 use Rattle.scope_core.proofs.Words
-use Words.{Err, false, IfNone, IfOk, IfSome, is_some, IsOk, None, Ok, OnErr, OnOk, Option, refl}
-use Words.{Result, Some, sym, true, ◌≡◌}
+use Words.{Bool, Err, false, IfNone, IfOk, IfSome, is_some, IsOk, None, not, Ok, OnErr, OnOk}
+use Words.{Option, refl, Result, Some, sym, true, ◌≡◌}
 use Rattle.std.specs.Result.{is_err}
 
 pub on_err : {T E P : Type 0} (r : Result T E) → P → OnErr r P
@@ -53,6 +53,19 @@ pub if_both : {T E : Type 0} {P Q R : T → Type 0} (r : Result T E) → ((x : T
     → IfOk r P → IfOk r Q → IfOk r R
 if_both (Ok x) f p q = f x p q
 if_both (Err e) f p q = tt
+
+-- where a test says whether there is nothing
+pub none_said : {A P : Type 0} (o : Option A) (b : Bool) → is_some o ≡ not b → b ≡ true → IfNone o P
+    → P
+none_said None b e is p = p
+none_said (Some x) true e is p = absurd (let x : true ≡ false = e in cc)
+none_said (Some x) false e is p = absurd (let x : false ≡ true = is in cc)
+
+pub some_said : {A : Type 0} {P : A → Type 0} (o : Option A) (b : Bool) → is_some o ≡ not b
+    → b ≡ false → IfSome o P → (x : A) × P x
+some_said None true e is p = absurd (let x : true ≡ false = is in cc)
+some_said None false e is p = absurd (let x : false ≡ true = e in cc)
+some_said (Some x) b e is p = (x, p)
 
 pub none_weaker : {A P Q : Type 0} (o : Option A) → (P → Q) → IfNone o P → IfNone o Q
 none_weaker None f p = f p

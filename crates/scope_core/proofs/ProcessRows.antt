@@ -2,10 +2,10 @@
 use Rattle.scope_core.proofs
 use proofs.Words
 use Words.{AllByRecursion, ap, append-nil, arith, Ascends, BTreeMap, changes_left_by, cond, Counted}
-use Words.{counted_in, exact_bytes, false, found, GroupChange, has_row, how_many_replicate}
+use Words.{counted_in, exact_bytes, false, find_in, found, get, GroupChange, has_row, how_many_replicate}
 use Words.{is_among, is_eq, is_row, is_some, IsDifference, IsDistinct, IsHashed, IsProper, key_cmp}
-use Words.{key_of, keys_of, length, Less, List, lookup, map, None, one_of_many, Pid, pid_cmp}
-use Words.{pids_total, ProcessKey, refl, replicate, Rises, Row, row_in, same, same_decides}
+use Words.{key_of, keys_of, length, Less, List, lookup, map, None, one_of_many, Option, Pid, pid_cmp}
+use Words.{pids_total, ProcessKey, refl, replicate, Rises, Row, row_in, same, same_decides, Some}
 use Words.{same_pid, same_pid_decides, same_row, same_sym, SmallMap, spread_ascends, subst, sym}
 use Words.{tally, text_cmp, texts_total, times_joined, times_left, total, true, [], ℕ, ◌-◌, ◌∙◌}
 use Words.{◌∷◌, ◌≡◌}
@@ -20,6 +20,18 @@ pub in_keys : {V : Type 0} (g : List ℕ) (es : List (List ℕ × V))
     → is_some (lookup (λ h. is_eq (text_cmp g h)) es) ≡ is_among g (keys_of es)
 in_keys g [] = refl
 in_keys g (e ∷ es) = grind (arith, in_keys g es, one_text, same_sym)
+
+-- so is each group under which a process is found
+pub found_among : (g : List ℕ) (k : ProcessKey)
+    (groups : BTreeMap (List ℕ) (SmallMap ProcessKey ℕ))
+    → is_some (find_in text_cmp key_cmp groups g k) ≡ true
+    → is_among g (keys_of groups.entries) ≡ true
+found_among g k groups there = sym (in_keys g groups.entries) ∙ by (get text_cmp groups g) there
+  where
+    by : (o : Option (SmallMap ProcessKey ℕ)) → is_some (found key_cmp o k) ≡ true
+        → is_some o ≡ true
+    by None h = h
+    by (Some m) h = refl
 
 pub sorted_rises : (gs : List (List ℕ)) → IsStrictlySortedBy text_cmp gs → Rises text_cmp gs
 unfolding IsStrictlySortedBy
@@ -75,11 +87,11 @@ module _ (rows : List Counted) (p : Pid) where
   none_joined g q [] = refl
   none_joined g q (h ∷ gs) = grind (arith, none_joined g q gs)
 
--- ---- where these are the groups of the process, in order
+-- ---- where the groups of the process are among these, which are in order
 
 module _ (es : List (Row × ℕ)) (once : IsDistinct same_row (keys_of es)) (p : Pid)
     (gs : List (List ℕ)) (rises : Rises text_cmp gs)
-    (is : (g : List ℕ) → is_among g gs ≡ has_row es (row_in g p)) where
+    (all : (g : List ℕ) → has_row es (row_in g p) ≡ true → is_among g gs ≡ true) where
   abbrev rows : List Counted
   rows = counted_in es
 
@@ -87,7 +99,7 @@ module _ (es : List (Row × ℕ)) (once : IsDistinct same_row (keys_of es)) (p :
   all_times : (g : List ℕ) (q : Pid)
       → cond (is_among g gs) (cond (same_pid p q) (tally (is_row g p) rows) 0) 0
       ≡ cond (same_pid q p) (tally (is_row g q) rows) 0
-  all_times g q = grind (arith, is g, count_is (row_in g p) es once, same_pid_decides)
+  all_times g q = grind (arith, all g, count_is (row_in g p) es once, same_pid_decides)
 
   -- the changes are each difference in which the process leaves all groups
   pub process_leaves : (before after : List ℕ → Pid → ℕ) → ((g : List ℕ) (q : Pid)
@@ -109,7 +121,8 @@ only_one k j (e ∷ f ∷ es) l there other = grind arith
 pub none_beside : {node : List ℕ} {es : List (Row × ℕ)}
     {groups : BTreeMap (List ℕ) (SmallMap ProcessKey ℕ)}
     {processes : BTreeMap ProcessKey (SmallMap (List ℕ) (Unit {0}))}
-    → IsHashed node es groups processes → (q : Pid) → q.node ≡ node → length processes.entries ≡ 1
+    → IsHashed node es groups (Some processes) → (q : Pid) → q.node ≡ node
+    → length processes.entries ≡ 1
     → is_some (lookup (λ k. is_eq (key_cmp (key_of q) k)) processes.entries) ≡ true
     → (g : List ℕ) (p : Pid) → same_pid p q ≡ false → tally (is_row g p) (counted_in es) ≡ 0
 none_beside {node} {es} {groups} {processes} h q own one there g p other =

@@ -2,10 +2,11 @@
 use Rattle.scope_core.proofs
 use proofs.Words
 use Words.{AllByRecursion, ap, append_assoc, arith, BTreeMap, Counted, counted_cmp, counted_in}
-use Words.{entries_in, false, find_in, is_some, IsHashed, key_cmp, keys_of, Less, List, lookup}
-use Words.{None, ProcessKey, refl, Rises, Row, row_at, rows_total, same_row, same_row_decides}
+use Words.{entries_in, false, find_in, IsHashed, key_cmp, keys_of, Less, List, lookup}
+use Words.{Names, None, Option, ProcessKey, refl, Rises, Row, row_at, rows_total, same_row, same_row_decides}
 use Words.{SmallMap, stands, subst, sym, text_cmp, tied_itself, [], ℕ, ◌++◌, ◌∙◌, ◌∷◌, ◌≡◌}
 use proofs.HashedRows.{rows_equal, stands_is}
+use proofs.HashedWrites.{names_as}
 use proofs.Rising.{all_mapped}
 use Rattle.std.specs.List.{IsDistinct}
 
@@ -56,12 +57,11 @@ module _ (rows rest more : List Counted) (c : Counted) (es : Entries)
 
 pub hashed_of : (node : List ℕ) (rows : List Counted) (es : Entries)
     (groups : BTreeMap (List ℕ) (SmallMap ProcessKey ℕ))
-    (processes : BTreeMap ProcessKey (SmallMap (List ℕ) (Unit {0})))
+    (processes : Option (BTreeMap ProcessKey (SmallMap (List ℕ) (Unit {0}))))
     → AllByRecursion (λ c. c.row.pid.node ≡ node) rows → Rises counted_cmp rows
     → es ≡ entries_in rows → ((g : List ℕ) (k : ProcessKey) → find_in text_cmp key_cmp groups g k
     ≡ lookup (same_row (row_at node g k)) (entries_in rows))
-    → ((k : ProcessKey) (g : List ℕ) → is_some (find_in key_cmp text_cmp processes k g)
-    ≡ stands (row_at node g k) rows) → IsHashed node es groups processes
+    → Names (λ k g. stands (row_at node g k) rows) processes → IsHashed node es groups processes
 hashed_of node rows es groups processes own rises made by_group by_process =
     let there = λ (r : Row).
     ap (stands r) (sym (back_again rows)) ∙ stands_is r (entries_in rows) in
@@ -69,5 +69,5 @@ hashed_of node rows es groups processes own rises made by_group by_process =
       once = rising_once rows rises;
       own = all_mapped _ _ rows own;
       by_group = by_group;
-      by_process = λ k g. by_process k g ∙ there (row_at node g k);
+      by_process = names_as processes _ _ (λ k g. there (row_at node g k)) by_process;
     })

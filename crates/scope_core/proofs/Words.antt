@@ -71,6 +71,7 @@ pub use specs.Calls.{IsSyncFault, no_count}
 pub use specs.Copies.{is_held, is_keyed, keyed, keyed_maps, process_keys}
 pub use specs.GroupNodes.{AreInOrder, IsNameGap, named_groups, node_names, nodes_of, times_named}
 pub use specs.HashedRows.{counted_in, entries_in, group_rows, has_row, IsHashed, key_cmp, key_of}
+pub use specs.HashedRows.{Names}
 pub use specs.HashedRows.{NodeCounts, NodeTable, pid_of, row_at, rows_at, same_node_row, stands}
 pub use specs.HashedRows.{with_process, Writes}
 pub use specs.Indexed.{Covers, has_groups, has_members, is_named, is_there}

@@ -1,5 +1,5 @@
 -- The rows of one node, in a map with two indexes.
-use Rattle.std.specs.Prelude.{◌≡◌, ℕ, Bool, ◌&&◌, ◌==◌, cond, List, map, Option}
+use Rattle.std.specs.Prelude.{◌≡◌, ℕ, Bool, ◌&&◌, ◌==◌, cond, List, map, Option, None, Some}
 use Rattle.std.specs.declared.cmp.Ordering.{Ordering}
 use Rattle.std.specs.Ordering.{nat_cmp, ordering_then}
 use Rattle.std.specs.Option.{is_some}
@@ -83,13 +83,20 @@ has_row es r = is_some (lookup (same_row r) es)
 abbrev pub stands : Row → List Counted → Bool
 stands r rows = list_any (λ c. same_row c.row r) rows
 
--- each row stands once, all are the node's, and both indexes hold exactly them
+-- the index holds a group for a process exactly where this says so, if it is kept
+abbrev pub Names : (ProcessKey → List ℕ → Bool)
+    → Option (BTreeMap ProcessKey (SmallMap (List ℕ) (Unit {0}))) → Type 0
+Names says None = Unit {0}
+Names says (Some processes) = (k : ProcessKey) (g : List ℕ)
+    → is_some (find_in key_cmp text_cmp processes k g) ≡ says k g
+
+-- each row stands once, all are the node's, and both indexes hold exactly them, that by process
+-- where it is kept
 pub record IsHashed (node : List ℕ) (es : List (Row × ℕ))
     (groups : BTreeMap (List ℕ) (SmallMap ProcessKey ℕ))
-    (processes : BTreeMap ProcessKey (SmallMap (List ℕ) (Unit {0}))) : Type 0 where
+    (processes : Option (BTreeMap ProcessKey (SmallMap (List ℕ) (Unit {0})))) : Type 0 where
   pub once : IsDistinct same_row (keys_of es)
   pub own : AllByRecursion (λ e. e.0.pid.node ≡ node) es
   pub by_group : (g : List ℕ) (k : ProcessKey)
       → find_in text_cmp key_cmp groups g k ≡ lookup (same_row (row_at node g k)) es
-  pub by_process : (k : ProcessKey) (g : List ℕ)
-      → is_some (find_in key_cmp text_cmp processes k g) ≡ has_row es (row_at node g k)
+  pub by_process : Names (λ k g. has_row es (row_at node g k)) processes

@@ -13,7 +13,7 @@ ghost use Rattle.scope_core.specs.Indexed.{has_groups, has_members};
 use crate::counted::{Counted, Gone};
 use crate::lowering::can_lower;
 use crate::nested_map::{pop, set, take};
-use crate::node_indexes::{forget, groups_of, name, processes_of};
+use crate::node_indexes::{forget, group_of, groups_of, name, processes_of};
 use crate::process_key::ProcessKey;
 use crate::row_counts::RowCounts;
 use crate::small_map::SmallMap;
@@ -29,8 +29,9 @@ pub struct HashedRows {
     pub(crate) counts: RowCounts,
     /// For each group its processes, with the same counts.
     pub(crate) groups: BTreeMap<Group, SmallMap<ProcessKey, u32>>,
-    /// For each process its groups.
-    pub(crate) processes: BTreeMap<ProcessKey, SmallMap<Group, ()>>,
+    /// For each process its groups, where they are kept: an own process exits, and takes its rows
+    /// with it, while a peer says of each of its rows that it goes.
+    pub(crate) processes: Option<BTreeMap<ProcessKey, SmallMap<Group, ()>>>,
 }
 
 impl Model for HashedRows {
@@ -48,14 +49,24 @@ impl Model for HashedRows {
 }
 
 impl HashedRows {
-    /// Just these rows of the node, which are in order.
-    pub fn of(alloc: Global, node: NodeName, rows: Vec<Counted>) -> Result<HashedRows, OutOfMemory>
+    /// Just these rows of the node, which are in order. They are found by their process, too, where
+    /// `by_process` says so.
+    pub fn of(
+        alloc: Global,
+        node: NodeName,
+        rows: Vec<Counted>,
+        by_process: bool,
+    ) -> Result<HashedRows, OutOfMemory>
         requires own { AllByRecursion (λ c. c.row.pid.node ≡ node) rows.items }
         requires rises { Rises counted_cmp rows.items }
         ensures { IfOk result (λ made. made ≡ record { node = node; rows = rows.items }) }
     {
         let groups = groups_of(alloc, &rows)?;
-        let processes = processes_of(alloc, &rows)?;
+        let processes = if by_process {
+            Some(processes_of(alloc, &rows)?)
+        } else {
+            None
+        };
         Ok(HashedRows {
             alloc,
             counts: RowCounts::of(alloc, node, rows)?,
@@ -290,7 +301,19 @@ impl HashedRows {
         ensures node { self.new.node ≡ self.old.node }
     {
         let key = ProcessKey::of(pid);
-        let Some((group, ends_process)) = pop(&mut self.processes, &key) else {
+        let Some(processes) = &mut self.processes else {
+            // The groups of the node are gone over.
+            let group = group_of(&self.groups, &key)?;
+            let from = self.counts.take(group, pid).unwrap();
+            let ends_group = take(&mut self.groups, &from.group, &key);
+            let ends_process = group_of(&self.groups, &key).is_none();
+            return Some(Gone {
+                from,
+                ends_group,
+                ends_process,
+            });
+        };
+        let Some((group, ends_process)) = pop(processes, &key) else {
             return None;
         };
         let ends_group = take(&mut self.groups, &group, &key);

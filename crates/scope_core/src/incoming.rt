@@ -1,5 +1,5 @@
 //! Rows that come, counted, and what they change.
-ghost use Rattle.std.specs.Prelude.{◌≡◌, ◌≢◌, ◌-◌, ◌∷◌, [], true, drop, length, IfSome, IfOk};
+ghost use Rattle.std.specs.Prelude.{◌≡◌, ◌≢◌, ◌-◌, ◌∷◌, [], drop, length, IfSome, IfOk};
 ghost use Rattle.std.specs.List.{AllByRecursion, HoldsAt};
 ghost use Rattle.std.specs.List.Sorted.{IsPermutation};
 ghost use Rattle.std.specs.declared.cmp.Ordering.TheVariants.{Less, Equal};
@@ -11,22 +11,28 @@ ghost use Rattle.scope_core.specs.Added.{Adds, HasRoomFor};
 ghost use Rattle.scope_core.specs.Beyond.{times_beyond, picked};
 
 use crate::counted::Counted;
-use dist_types::{OutOfMemory, Row, TryClone, copies_of};
+use crate::group_nodes::GroupNodes;
+use dist_types::{Group, OutOfMemory, Row, TryClone, copies_of};
 use std::alloc::Global;
 use std::cmp::Ordering;
 
-/// The rows in order, each with its count.
-pub fn counted_rows(alloc: Global, rows: &[Row]) -> Result<Vec<Counted>, OutOfMemory>
+/// The rows in order, each with its count. The names of their groups are those that stand here, so
+/// that all nodes share them, or else the rows' own.
+pub fn counted_rows(
+    alloc: Global,
+    names: Option<&GroupNodes>,
+    rows: &[Row],
+) -> Result<Vec<Counted>, OutOfMemory>
     requires { HasRoomFor rows.now [] }
     ensures added { IfOk result (λ counted. Adds rows.now [] counted.items) }
     ensures kept { IfOk result (λ counted. IsKept counted.items) }
 {
     // A node states its rows in order.
-    if let Some(counted) = counted_in_order(alloc, rows)? {
+    if let Some(counted) = counted_in_order(alloc, names, rows)? {
         return Ok(counted);
     }
-    let copies = copies_in_order(alloc, rows)?;
-    match counted_of(alloc, copies)? {
+    let sorted = copies_in_order(alloc, rows)?;
+    match counted_in_order(alloc, names, &sorted)? {
         Some(counted) => Ok(counted),
         // They are in order now.
         None => Err(OutOfMemory),
@@ -48,7 +54,11 @@ fn copies_in_order(alloc: Global, rows: &[Row]) -> Result<Vec<Row>, OutOfMemory>
 }
 
 /// Rows with their counts, unless one stands behind a higher one.
-fn counted_in_order(alloc: Global, rows: &[Row]) -> Result<Option<Vec<Counted>>, OutOfMemory>
+fn counted_in_order(
+    alloc: Global,
+    names: Option<&GroupNodes>,
+    rows: &[Row],
+) -> Result<Option<Vec<Counted>>, OutOfMemory>
     requires { HasRoomFor rows.now [] }
     ensures added { IfOk result (λ found.
         IfSome found (λ counted. Adds rows.now [] counted.items)) }
@@ -57,10 +67,14 @@ fn counted_in_order(alloc: Global, rows: &[Row]) -> Result<Option<Vec<Counted>>,
     let mut counted = Vec::with_capacity(alloc, rows.len())?;
     for row in rows {
         match order_behind(&counted, row) {
-            Ordering::Less => counted.push(Counted {
-                row: row.try_clone(alloc)?,
-                count: 1,
-            })?,
+            Ordering::Less => {
+                let group = name_of(alloc, names, &counted, &row.group)?;
+                let pid = row.pid.try_clone(alloc)?;
+                counted.push(Counted {
+                    row: Row { group, pid },
+                    count: 1,
+                })?;
+            }
             Ordering::Equal => count_again(&mut counted),
             Ordering::Greater => return Ok(None),
         }
@@ -68,35 +82,24 @@ fn counted_in_order(alloc: Global, rows: &[Row]) -> Result<Option<Vec<Counted>>,
     Ok(Some(counted))
 }
 
-/// The same of rows that needn't be copied.
-fn counted_of(alloc: Global, rows: Vec<Row>) -> Result<Option<Vec<Counted>>, OutOfMemory>
-    requires { HasRoomFor rows.items [] }
-    ensures added { IfOk result (λ found.
-        IfSome found (λ counted. Adds rows.items [] counted.items)) }
-    ensures kept { IfOk result (λ found. IfSome found (λ counted. IsKept counted.items)) }
+/// The name of a group as the last row has it, or as it stands here, where either is the same.
+fn name_of(
+    alloc: Global,
+    names: Option<&GroupNodes>,
+    counted: &[Counted],
+    group: &Group,
+) -> Result<Group, OutOfMemory>
+    ensures { IfOk result (λ name. name ≡ group.now) }
 {
-    let mut counted = Vec::with_capacity(alloc, rows.len())?;
-    for row in rows {
-        if !count_next(&mut counted, row)? {
-            return Ok(None);
+    if let Some(last) = counted.last() {
+        if last.row.group == *group {
+            return last.row.group.try_clone(alloc);
         }
     }
-    Ok(Some(counted))
-}
-
-/// Counts one row more, unless a higher one stands there.
-fn count_next(counted: &mut Vec<Counted>, row: Row) -> Result<bool, OutOfMemory>
-    requires kept { IsKept counted.old.items }
-    requires room { HasRoomFor (row ∷ []) counted.old.items }
-    ensures { IfOk result (λ next. next ≡ true → Adds (row ∷ []) counted.old.items counted.new.items
-        × IsKept counted.new.items) }
-{
-    match order_behind(counted, &row) {
-        Ordering::Less => counted.push(Counted { row, count: 1 })?,
-        Ordering::Equal => count_again(counted),
-        Ordering::Greater => return Ok(false),
+    match names.and_then(|names| names.stored(group)) {
+        Some(stored) => stored.try_clone(alloc),
+        None => group.try_clone(alloc),
     }
-    Ok(true)
 }
 
 /// How the last row stands to another: below it, where there is none.

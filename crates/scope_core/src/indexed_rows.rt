@@ -60,6 +60,11 @@ impl IndexedRows {
         self.index.stored(group)
     }
 
+    /// The names of the groups that have a process.
+    pub fn names(&self) -> &GroupNodes {
+        &self.index
+    }
+
     /// No node has more rows than it may.
     pub fn few(&self)
         ensures { (n : List ℕ) → tally (is_of_node n) self.now ≤ max_rows }
@@ -162,12 +167,14 @@ impl IndexedRows {
         Ok(pids)
     }
 
-    /// Puts rows of a node in. These groups change, and no other.
+    /// Puts rows of a node in. These groups change, and no other. Where the node has no rows yet,
+    /// `by_process` says whether they are to be found by their process, too.
     pub fn join(
         &mut self,
         node: &NodeName,
         more: Vec<Counted>,
         changes: &[GroupChange],
+        by_process: bool,
     ) -> Result<(), OutOfMemory>
         requires list { IsNodeList node.now more.items }
         requires rises { Rises counted_cmp more.items }
@@ -183,7 +190,7 @@ impl IndexedRows {
             settle_all(&self.lists, &mut self.index, changes, node);
             return Err(OutOfMemory);
         }
-        let joined = self.lists.join(node, more);
+        let joined = self.lists.join(node, more, by_process);
         // The rows that came in are all there.
         if joined.is_err() {
             settle_all(&self.lists, &mut self.index, changes, node);
@@ -191,7 +198,7 @@ impl IndexedRows {
         joined
     }
 
-    /// Puts rows in place of those of a node. Only these groups change.
+    /// Puts rows of a peer in place of those it had. Only these groups change.
     pub fn replace(
         &mut self,
         node: &NodeName,
@@ -208,7 +215,7 @@ impl IndexedRows {
             settle_all(&self.lists, &mut self.index, changes, node);
             return Err(OutOfMemory);
         }
-        let replaced = self.lists.replace(node, rows);
+        let replaced = self.lists.replace(node, rows, false);
         settle_all(&self.lists, &mut self.index, changes, node);
         replaced
     }

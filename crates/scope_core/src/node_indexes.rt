@@ -1,6 +1,6 @@
 //! The two indexes of a node's rows, made of rows in order, and where one row comes or goes.
-ghost use Rattle.std.specs.Prelude.{◌≡◌, ◌≤◌, ◌<◌, ◌&&◌, ℕ, List, length, cond, true, false, None, Some, IsTrue, IsSome, IfSome, IfOk, OnOk, OnErr};
-ghost use Rattle.std.specs.Option.{is_some};
+ghost use Rattle.std.specs.Prelude.{◌≡◌, ◌≤◌, ◌<◌, ◌&&◌, ℕ, Bool, List, length, cond, true, false, None, Some, IsTrue, IsSome, IfSome, IfOk, OnOk, OnErr};
+ghost use Rattle.std.specs.Option.{is_some, IfNone};
 ghost use Rattle.std.specs.Ordering.{eq_by_cmp, is_eq};
 ghost use Rattle.std.specs.declared.cmp.Ordering.TheVariants.{Less};
 ghost use Rattle.std.specs.List.{AllByRecursion, AllWithin, HoldsAt, IsDistinct, list_any};
@@ -13,7 +13,7 @@ ghost use Rattle.scope_core.specs.declared.process_key.ProcessKey.{ProcessKey};
 ghost use Rattle.scope_core.specs.Table.{counted_cmp};
 ghost use Rattle.scope_core.specs.SmallMap.{find, find_in};
 ghost use Rattle.scope_core.specs.Copies.{process_keys, keyed, keyed_maps, is_keyed, is_held};
-ghost use Rattle.scope_core.specs.HashedRows.{key_cmp, key_of, row_at, stands, entries_in};
+ghost use Rattle.scope_core.specs.HashedRows.{key_cmp, key_of, row_at, stands, entries_in, Names};
 
 use crate::counted::Counted;
 use crate::nested_map::{put, take};
@@ -205,11 +205,29 @@ fn names_in(
     Ok(SmallMap::Many(map_of(alloc, groups)?))
 }
 
+/// A group that the process is in, if there is one.
+pub fn group_of<'a>(
+    groups: &'a BTreeMap<Group, SmallMap<ProcessKey, u32>>,
+    key: &ProcessKey,
+) -> Option<&'a Group>
+    ensures found { IfSome result (λ g.
+        IsSome (find_in text_cmp key_cmp groups.now g.now key.now)) }
+    ensures none { IfNone result ((g : List ℕ)
+        → find_in text_cmp key_cmp groups.now g key.now ≡ None) }
+{
+    for (group, members) in groups.iter() {
+        if members.get(key).is_some() {
+            return Some(group);
+        }
+    }
+    None
+}
+
 /// Puts a new row into both indexes, or into none of them.
 pub fn name(
     alloc: Global,
     groups: &mut BTreeMap<Group, SmallMap<ProcessKey, u32>>,
-    processes: &mut BTreeMap<ProcessKey, SmallMap<Group, ()>>,
+    processes: &mut Option<BTreeMap<ProcessKey, SmallMap<Group, ()>>>,
     row: &Row,
     count: u32,
 ) -> Result<(), OutOfMemory>
@@ -218,44 +236,66 @@ pub fn name(
         → find_in text_cmp key_cmp groups.new g k
         ≡ cond (eq_by_cmp text_cmp row.now.group g && eq_by_cmp key_cmp (key_of row.now.pid) k)
         (Some count) (find_in text_cmp key_cmp groups.old g k)) }
-    ensures processes { OnOk result ((k : ProcessKey) (g : List ℕ)
-        → find_in key_cmp text_cmp processes.new k g
-        ≡ cond (eq_by_cmp key_cmp (key_of row.now.pid) k && eq_by_cmp text_cmp row.now.group g)
-        (Some tt) (find_in key_cmp text_cmp processes.old k g)) }
+    ensures processes { OnOk result ((names : ProcessKey → List ℕ → Bool)
+        → Names names processes.old → Names (λ k g.
+        cond (eq_by_cmp key_cmp (key_of row.now.pid) k && eq_by_cmp text_cmp row.now.group g)
+        true (names k g)) processes.new) }
     ensures same_groups { OnErr result ((g : List ℕ) (k : ProcessKey)
         → find_in text_cmp key_cmp groups.new g k ≡ find_in text_cmp key_cmp groups.old g k) }
-    ensures same_processes { OnErr result ((k : ProcessKey) (g : List ℕ)
-        → find_in key_cmp text_cmp processes.new k g ≡ find_in key_cmp text_cmp processes.old k g) }
+    ensures same_processes { OnErr result ((names : ProcessKey → List ℕ → Bool)
+        → Names names processes.old → Names names processes.new) }
 {
     let key = ProcessKey::of(&row.pid);
-    let group = row.group.try_clone(alloc)?;
     put(alloc, groups, &row.group, key, count)?;
-    let named = put(alloc, processes, &key, group, ());
+    let named = name_process(alloc, processes, &key, &row.group);
     if named.is_err() {
         take(groups, &row.group, &key);
     }
     named
 }
 
+/// Puts a group to those of a process, where these are kept.
+fn name_process(
+    alloc: Global,
+    processes: &mut Option<BTreeMap<ProcessKey, SmallMap<Group, ()>>>,
+    key: &ProcessKey,
+    group: &Group,
+) -> Result<(), OutOfMemory>
+    ensures ok { OnOk result ((names : ProcessKey → List ℕ → Bool)
+        → Names names processes.old → Names (λ k g.
+        cond (eq_by_cmp key_cmp key.now k && eq_by_cmp text_cmp group.now g) true (names k g))
+        processes.new) }
+    ensures same { OnErr result ((names : ProcessKey → List ℕ → Bool)
+        → Names names processes.old → Names names processes.new) }
+{
+    let Some(processes) = processes else {
+        return Ok(());
+    };
+    let group = group.try_clone(alloc)?;
+    put(alloc, processes, key, group, ())
+}
+
 /// Takes a row out of both indexes. Answers whether nothing is left of its group.
 pub fn forget(
     groups: &mut BTreeMap<Group, SmallMap<ProcessKey, u32>>,
-    processes: &mut BTreeMap<ProcessKey, SmallMap<Group, ()>>,
+    processes: &mut Option<BTreeMap<ProcessKey, SmallMap<Group, ()>>>,
     group: &Group,
     key: &ProcessKey,
 ) -> bool
     ensures groups { (g : List ℕ) (k : ProcessKey) → find_in text_cmp key_cmp groups.new g k
         ≡ cond (eq_by_cmp text_cmp group.now g && eq_by_cmp key_cmp key.now k) None
         (find_in text_cmp key_cmp groups.old g k) }
-    ensures processes { (k : ProcessKey) (g : List ℕ) → find_in key_cmp text_cmp processes.new k g
-        ≡ cond (eq_by_cmp key_cmp key.now k && eq_by_cmp text_cmp group.now g) None
-        (find_in key_cmp text_cmp processes.old k g) }
+    ensures processes { (names : ProcessKey → List ℕ → Bool)
+        → Names names processes.old → Names (λ k g.
+        cond (eq_by_cmp key_cmp key.now k && eq_by_cmp text_cmp group.now g) false (names k g))
+        processes.new }
     ensures none { IsTrue result → (k : ProcessKey)
         → find_in text_cmp key_cmp groups.new group.now k ≡ None }
     ensures some { result ≡ false → (k : ProcessKey)
         × IsSome (find_in text_cmp key_cmp groups.new group.now k) }
 {
-    let is_last = take(groups, group, key);
-    take(processes, key, group);
-    is_last
+    if let Some(processes) = processes {
+        take(processes, key, group);
+    }
+    take(groups, group, key)
 }

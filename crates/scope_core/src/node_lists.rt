@@ -115,8 +115,14 @@ impl NodeLists {
         }
     }
 
-    /// Puts rows of a node in.
-    pub fn join(&mut self, node: &NodeName, more: Vec<Counted>) -> Result<(), OutOfMemory>
+    /// Puts rows of a node in. Where it has none yet, `by_process` says whether they are to be
+    /// found by their process.
+    pub fn join(
+        &mut self,
+        node: &NodeName,
+        more: Vec<Counted>,
+        by_process: bool,
+    ) -> Result<(), OutOfMemory>
         requires list { IsNodeList node.now more.items }
         requires rises { Rises counted_cmp more.items }
         requires few { tally (is_of_node node.now) self.old + tally (is_of_node node.now) more.items
@@ -126,23 +132,29 @@ impl NodeLists {
     {
         // Many beside none are put in at once.
         if more.len() > 1 && self.total_of(node) == 0 {
-            return self.replace(node, more);
+            return self.replace(node, more, by_process);
         }
         let Some(list) = self.lists.get_mut(node) else {
-            return self.replace(node, more);
+            return self.replace(node, more, by_process);
         };
         list.join(&more)
     }
 
-    /// Puts rows in place of those of a node.
-    pub fn replace(&mut self, node: &NodeName, rows: Vec<Counted>) -> Result<(), OutOfMemory>
+    /// Puts rows in place of those of a node, to be found by their process where `by_process` says
+    /// so.
+    pub fn replace(
+        &mut self,
+        node: &NodeName,
+        rows: Vec<Counted>,
+        by_process: bool,
+    ) -> Result<(), OutOfMemory>
         requires list { IsNodeList node.now rows.items }
         requires rises { Rises counted_cmp rows.items }
         ensures ok { OnOk result (Joins rows.items (without_node node.now self.old) self.new) }
         ensures same { OnErr result (self.new ≡ self.old) }
     {
         let name = node.try_clone(self.alloc)?;
-        let list = NodeRows::of(self.alloc, node.try_clone(self.alloc)?, rows)?;
+        let list = NodeRows::of(self.alloc, node.try_clone(self.alloc)?, rows, by_process)?;
         self.lists.insert(name, list)?;
         Ok(())
     }

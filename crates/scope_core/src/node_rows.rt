@@ -36,14 +36,19 @@ impl Model for NodeRows {
 }
 
 impl NodeRows {
-    /// Just these rows of the node.
-    pub fn of(alloc: Global, node: NodeName, counted: Vec<Counted>) -> Result<NodeRows, OutOfMemory>
+    /// Just these rows of the node, to be found by their process, too, where `by_process` says so.
+    pub fn of(
+        alloc: Global,
+        node: NodeName,
+        counted: Vec<Counted>,
+        by_process: bool,
+    ) -> Result<NodeRows, OutOfMemory>
         requires list { IsNodeList node counted.items }
         requires rises { Rises counted_cmp counted.items }
         ensures { IfOk result (λ made. made ≡ record { node = node; rows = counted.items }) }
     {
         let total = total_of(&counted);
-        let rows = HashedRows::of(alloc, node, counted)?;
+        let rows = HashedRows::of(alloc, node, counted, by_process)?;
         Ok(NodeRows { rows, total })
     }
 

@@ -99,8 +99,11 @@ impl HashedRows {
         ensures { IsTrue result → (g : List ℕ) (p : Pid)
             → same_pid p pid.now ≡ false → tally (is_row g p) self.now.rows ≡ 0 }
     {
-        match self.processes.get(&ProcessKey::of(pid)) {
-            Some(groups) => groups.len() >= MANY && self.processes.len() == 1,
+        let Some(processes) = &self.processes else {
+            return false;
+        };
+        match processes.get(&ProcessKey::of(pid)) {
+            Some(groups) => groups.len() >= MANY && processes.len() == 1,
             None => false,
         }
     }
@@ -115,11 +118,14 @@ impl HashedRows {
             → ((g : List ℕ) (p : Pid) → after g p - before g p ≡ 0)
             → IsDifference before after changes.items) }
     {
-        let Some(groups) = self.processes.get(&ProcessKey::of(pid)) else {
+        let Some(processes) = &self.processes else {
+            return self.left_under(&self.groups, pid);
+        };
+        let Some(groups) = processes.get(&ProcessKey::of(pid)) else {
             return Ok(Vec::new(self.alloc));
         };
         // Where the node has no other process, no count is looked up.
-        if self.processes.len() == 1 {
+        if processes.len() == 1 {
             return self.all_left();
         }
         self.left_from(groups, pid)
@@ -143,15 +149,28 @@ impl HashedRows {
                 let left = self.copies(group, pid)?;
                 one_change(self.alloc, group, left, Vec::new(self.alloc))
             }
-            SmallMap::Many(map) => {
-                let mut changes = Vec::with_capacity(self.alloc, map.len())?;
-                for (group, _) in map {
-                    let left = self.copies(group, pid)?;
-                    push_change(self.alloc, &mut changes, group, left, Vec::new(self.alloc))?;
-                }
-                Ok(changes)
-            }
+            SmallMap::Many(map) => self.left_under(map, pid),
         }
+    }
+
+    /// The changes where a process leaves the groups that are the keys of a map.
+    fn left_under<V>(
+        &self,
+        groups: &BTreeMap<Group, V>,
+        pid: &Pid,
+    ) -> Result<Vec<GroupChange>, OutOfMemory>
+        requires { pid.now.node ≡ self.now.node }
+        ensures changes { IfOk result (λ changes. changes.items
+            ≡ changes_left_by self.now.rows pid.now (keys_of groups.now.entries)) }
+        ensures ordered { IfOk result (λ _.
+            IsStrictlySortedBy text_cmp (keys_of groups.now.entries)) }
+    {
+        let mut changes = Vec::with_capacity(self.alloc, groups.len())?;
+        for (group, _) in groups {
+            let left = self.copies(group, pid)?;
+            push_change(self.alloc, &mut changes, group, left, Vec::new(self.alloc))?;
+        }
+        Ok(changes)
     }
 
     /// Copies of a process, as many as it is counted in a group.

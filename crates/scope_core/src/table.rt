@@ -86,9 +86,9 @@ impl ScopeTable {
         }
         let sorted = in_order(self.alloc, pids)?;
         let fresh = rows_in(self.alloc, group, &sorted)?;
-        let counted = counted_rows(self.alloc, &fresh)?;
+        let counted = counted_rows(self.alloc, None, &fresh)?;
         let changes = one_change(self.alloc, group, Vec::new(self.alloc), sorted)?;
-        self.rows.join(&self.own, counted, &changes)?;
+        self.rows.join(&self.own, counted, &changes, true)?;
         self.listings.forget_changed(&changes);
         self.own_rows += pids.len();
         Ok(changes)
@@ -114,7 +114,7 @@ impl ScopeTable {
         }
         self.rows.few();
         let rows = rows_in(self.alloc, group, &left)?;
-        let gone = counted_rows(self.alloc, &rows)?;
+        let gone = counted_rows(self.alloc, None, &rows)?;
         let changes = one_change(self.alloc, group, left, Vec::new(self.alloc))?;
         self.rows.take_rows(&gone);
         self.listings.forget_changed(&changes);
@@ -168,7 +168,7 @@ impl ScopeTable {
             return Ok(Vec::new(self.alloc));
         }
         let held = self.rows.in_order(self.alloc, peer)?;
-        let counted = counted_rows(self.alloc, rows)?;
+        let counted = counted_rows(self.alloc, Some(self.rows.names()), rows)?;
         let left = beyond(self.alloc, &held, &counted)?;
         let joined = beyond(self.alloc, &counted, &held)?;
         let changes = changes_of(self.alloc, &left, &joined)?;
@@ -201,9 +201,9 @@ impl ScopeTable {
         if self.rows.total_of(peer) + rows.len() > limit as usize {
             return Err(TableFault::RowsFull);
         }
-        let counted = counted_rows(self.alloc, rows)?;
+        let counted = counted_rows(self.alloc, Some(self.rows.names()), rows)?;
         let changes = changes_joined(self.alloc, &counted)?;
-        self.rows.join(peer, counted, &changes)?;
+        self.rows.join(peer, counted, &changes, false)?;
         self.listings.forget_changed(&changes);
         self.own_rows += share_of(&self.own, peer, rows.len());
         Ok(changes)
@@ -226,7 +226,7 @@ impl ScopeTable {
             return Err(TableFault::NotListed);
         }
         self.rows.few();
-        let counted = counted_rows(self.alloc, rows)?;
+        let counted = counted_rows(self.alloc, Some(self.rows.names()), rows)?;
         let changes = changes_left(self.alloc, &counted)?;
         self.rows.take_listed(peer, rows, &counted);
         self.listings.forget_changed(&changes);

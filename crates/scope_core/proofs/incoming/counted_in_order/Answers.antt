@@ -3,7 +3,7 @@ use proofs.Words.{Adds, ap, AreCounted, arith, Counted, counted_cmp, drop, drop_
 use proofs.Words.{Rises, subst, sym, [], ◌++◌, ◌+◌, ◌∙◌, ◌∷◌, ◌≡◌}
 use proofs.Counting.{added_next, has_room, new_last, new_tally}
 use proofs.incoming.counted_in_order.Goals.{in-Equal}
-use proofs.incoming.counted_in_order.Goals.{in-Less+in_ok-try_clone-in-Less+in_ok-push-in-Less}
+use proofs.incoming.counted_in_order.Goals.{in-Less+in_ok-group-in-Less+in_ok-pid-in-Less+in_ok-push-in-Less}
 use proofs.incoming.counted_in_order.Goals as goal
 
 pub loop-row-preserved : goal.loop-row-preserved
@@ -17,7 +17,7 @@ loop-row-preserved c =
     let next : drop i rows ≡ row ∷ drop (i + 1) rows = grind (arith, drop_more) in
     let all : Rises counted_cmp new × AreCounted new × Adds (row ∷ []) old new =
     elim c.match-order_behind.branch [
-      | in-Less+in_ok-try_clone-in-Less+in_ok-push-in-Less w ↦
+      | in-Less+in_ok-group-in-Less+in_ok-pid-in-Less+in_ok-push-in-Less w ↦
           let one : new ≡ old ++ record { row = row; count = 1 } ∷ [] = grind arith in
           let behind = rw c.deref.ensures.value at (c.order_behind.ensures.behind w.in-Less.is) in
           let kept = new_last row old was.rises was.counted behind in (

@@ -8,6 +8,9 @@ returns-then-is_err-clause-same_groups c =
     let row = c.args.row.now in
     let put = rw c.of-key.ensures at c.in_ok-put.ensures.ok in
     let took = rw c.of-key.ensures at c.take.ensures.taken in
-    on_err_weaker c.put-named.result (λ same g k. put_back row.group g (key_of row.pid) k
+    on_err_weaker c.name_process-named.result (λ same g k. put_back row.group g (key_of row.pid) k
     (find_in text_cmp key_cmp c.args.groups.now) c.args.count _ _ c.requires (put g k) (took g k))
-    c.put-named.ensures.same
+    c.name_process-named.ensures.same
+
+pub returns-else-is_err-clause-processes : goal.returns-else-is_err-clause-processes
+returns-else-is_err-clause-processes c = rw c.of-key.ensures at c.name_process-named.ensures.ok

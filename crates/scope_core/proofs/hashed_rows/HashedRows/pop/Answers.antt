@@ -1,7 +1,6 @@
 use Rattle.scope_core.proofs
 use proofs.Words.{ap, Counted, counted_in, length, length-map, NodeCounts, NodeTable, None, refl}
 use proofs.Words.{Row, row_at, sym, take, take-map, ℕ, ◌-◌, ◌∙◌}
-use proofs.HashedRows.{some_cond}
 use proofs.HashedWrites.{hashed_write}
 use proofs.hashed_rows.HashedRows.pop.Goals as goal
 
@@ -10,7 +9,7 @@ invariant_of-self-2 c =
     let row = row_at c.self.inside.counts.node c.in-Some.row.group c.in-Some.row.process in
     rw (ap (λ (t : NodeCounts). t.node) c.pop.ensures.shorter)
     (hashed_write c.self.invariant row refl None _ _ _ c.pop.ensures.once c.in-Some.ensures.written
-    c.forget.ensures.groups (λ k g. some_cond _ _ _ _ (c.forget.ensures.processes k g)))
+    c.forget.ensures.groups (c.forget.ensures.processes _ c.self.invariant.by_process))
 
 pub returns : goal.returns
 returns c =

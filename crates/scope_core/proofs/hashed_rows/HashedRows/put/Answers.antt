@@ -1,7 +1,7 @@
 use Rattle.scope_core.proofs
-use proofs.Words.{ap, arith, is_some, length, NodeCounts, Some, sym, take, true, ◌-◌, ◌∙◌, ◌≡◌}
+use proofs.Words.{ap, arith, length, NodeCounts, Some, sym, take, true, ◌-◌, ◌∙◌, ◌≡◌}
 use proofs.Outcomes.{from_err, from_not_err}
-use proofs.HashedRows.{some_cond, stands_is}
+use proofs.HashedRows.{stands_is}
 use proofs.HashedWrites.{counted_more, hashed_write, taken_back}
 use proofs.hashed_rows.HashedRows.put.Goals as goal
 
@@ -31,7 +31,7 @@ invariant_of-self-then-is_err c =
       once = c.self.invariant.once;
       own = c.self.invariant.own;
       by_group = λ g k. groups g k ∙ c.self.invariant.by_group g k;
-      by_process = λ k g. ap is_some (processes k g) ∙ c.self.invariant.by_process k g;
+      by_process = processes _ c.self.invariant.by_process;
     })
 
 pub invariant_of-self-else-is_err : goal.invariant_of-self-else-is_err
@@ -44,7 +44,7 @@ invariant_of-self-else-is_err c =
     rw (ap (λ (t : NodeCounts). t.node) c.in_ok-push_new.ensures.ok)
     (hashed_write c.self.invariant c.args.row.now own (Some c.args.count) _ _ _
     c.in_ok-push_new.ensures.once (c.in_ok-push_new.ensures.written fresh) groups
-    (λ k g. some_cond _ _ _ _ (processes k g)))
+    (processes _ c.self.invariant.by_process))
 
 pub returns-clause-fresh : goal.returns-clause-fresh
 returns-clause-fresh c =

@@ -1,6 +1,6 @@
 use Rattle.scope_core.proofs
 use proofs.Words.{None}
-use proofs.HashedRows.{some_cond, taken_counted, taken_tally}
+use proofs.HashedRows.{taken_counted, taken_tally}
 use proofs.HashedWrites.{hashed_write, none_left}
 use proofs.hashed_rows.HashedRows.remove.Goals as goal
 
@@ -11,7 +11,7 @@ invariant_of-self c =
     let groups = rw c.of-key.ensures at c.forget.ensures.groups in
     let processes = rw c.of-key.ensures at c.forget.ensures.processes in
     rw c.take.ensures.node (hashed_write c.self.invariant row own None _ _ _ c.take.ensures.once
-    c.take.ensures.written groups (λ k g. some_cond _ _ _ _ (processes k g)))
+    c.take.ensures.written groups (processes _ c.self.invariant.by_process))
 
 pub returns-clause-tallies : goal.returns-clause-tallies
 returns-clause-tallies c = λ test. rw (← c.self.view_is)
@@ -32,7 +32,7 @@ returns-clause-last c =
     let gs = c.forget.new.groups in
     let hashed =
     hashed_write c.self.invariant row own None _ gs c.forget.new.processes c.take.ensures.once
-    c.take.ensures.written groups (λ k g. some_cond _ _ _ _ (processes k g)) in
+    c.take.ensures.written groups (processes _ c.self.invariant.by_process) in
     rw (← c.self.view_is, c.take.ensures.node) (λ counted.
     none_left _ row.group _ gs c.forget.result hashed.by_group
     (taken_counted row c.self.inside.counts.entries c.take.new.self.entries

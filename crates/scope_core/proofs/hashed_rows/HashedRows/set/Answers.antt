@@ -1,8 +1,8 @@
 use Rattle.scope_core.proofs
-use proofs.Words.{ap, cond, counted_in, has_row, is_some, lookup, NodeTable, row_at, same_row}
+use proofs.Words.{ap, cond, counted_in, has_row, is_some, lookup, NodeTable, refl, row_at, same_row}
 use proofs.Words.{set_value, Some, stands, sym, tally, true, ◌+◌, ◌∙◌, ◌≡◌}
 use proofs.HashedRows.{count_is, own_at, set_bare, set_tally, stands_is}
-use proofs.HashedWrites.{at_row, hashed_write, named_still, set_counted}
+use proofs.HashedWrites.{at_row, hashed_write, named_still, names_as, set_counted}
 use Rattle.scope_core.proofs.hashed_rows.HashedRows.set.Goals.{After-self}
 use proofs.hashed_rows.HashedRows.set.Goals as goal
 
@@ -37,8 +37,8 @@ invariant_of-self c =
     let start = (goal.at.invariant_of-self c).After-self in
     rw c.set.ensures.node (hashed_write c.self.invariant row (own start) (Some c.args.count)
     _ _ _ c.set.ensures.once c.set.ensures.written (rw c.of-key.ensures at c.set-2.ensures)
-    (λ k g. named_still c.self.inside.counts.node g k row (own start)
-    c.self.inside.counts.entries _ (c.self.invariant.by_process k g) (there start)))
+    (names_as c.self.inside.processes _ _ (λ k g. named_still c.self.inside.counts.node g k row
+    (own start) c.self.inside.counts.entries _ refl (there start)) c.self.invariant.by_process))
 
 pub returns-clause-tallies : goal.returns-clause-tallies
 returns-clause-tallies c = λ test.

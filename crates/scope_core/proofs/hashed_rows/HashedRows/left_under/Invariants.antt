@@ -1,10 +1,10 @@
 use Rattle.scope_core.proofs
-use proofs.Words.{changes_left_by, entries_of, keys_of, ◌++◌, ◌≡◌}
-use proofs.hashed_rows.HashedRows.left_from.Given as goal
+use proofs.Words.{changes_left_by, keys_of, ◌++◌, ◌≡◌}
+use proofs.hashed_rows.HashedRows.left_under.Given as goal
 
 -- with those of the groups to come, all changes are there
 abbrev pub invariant-loop-group : goal.invariant-loop-group
-invariant-loop-group l =
+invariant-loop-group g l =
     let rows = l.fn.self.rows in
     l.changes.items ++ changes_left_by rows l.pid (keys_of l.group-iterator)
-    ≡ changes_left_by rows l.pid (keys_of (entries_of l.groups))
+    ≡ changes_left_by rows l.pid (keys_of l.groups.entries)
