@@ -18,6 +18,7 @@ use crate::kept::Kept;
 use crate::link::Link;
 use crate::linking::{changes_without, cut_link};
 use crate::links::remove;
+use crate::messaging::Route;
 use crate::peer_rows::note;
 use crate::running::{ROWS_OF_VERSION_1, Running};
 use crate::slow::MAX_WAITING;
@@ -27,38 +28,33 @@ use policy_audit::{OutFrame, Rule};
 use std::alloc::Global;
 
 impl Kept {
-    /// A Discover for the scope at a place. The link ends where too many frames would wait for it.
+    /// A Discover for a scope that runs. The link ends where too many frames would wait for it.
     #[tactic(auto, unfolding(crate::specs::Step::Answers))]
-    pub fn discovered(
-        &mut self,
-        place: usize,
-        at: usize,
-        number: u32,
-        scope: &Scope,
-    ) -> Result<Answered, CoreFault>
+    pub fn discovered(&mut self, route: Route, scope: &Scope) -> Result<Answered, CoreFault>
         ghost call: { Call }
-        requires { IsSoundMessage call self.old place at number (messages.Discover scope.now) }
+        requires { IsSoundMessage call self.old route.place route.at route.number
+            (messages.Discover scope.now) }
         ensures { (body : List ℕ)
-            → frame_taken call.past.opening number call.past.entries body
+            → frame_taken call.past.opening route.number call.past.entries body
             ≡ Some (messages.Discover scope.now)
-            → Answers call (events.Frame number body) self.new result }
+            → Answers call (events.Frame route.number body) self.new result }
     {
-        let link = &self.links[place];
-        let running = &self.scopes[at];
+        let link = &self.links[route.place];
+        let running = &self.scopes[route.at];
         let parted = link.takes_parts();
         if !can_be_told(running, parted) {
             return Err(CoreFault::Refused(Rule::RowsFull));
         }
-        let owed = discover_owes(running, number, parted);
+        let owed = discover_owes(running, route.number, parted);
         if link.frames().len() + owed > MAX_WAITING {
-            let changes = changes_without(self.alloc, &self.scopes, &self.links[place])?;
-            cut_link(&mut self.scopes, &self.links[place]);
-            remove(&mut self.links, number);
+            let changes = changes_without(self.alloc, &self.scopes, &self.links[route.place])?;
+            cut_link(&mut self.scopes, &self.links[route.place]);
+            remove(&mut self.links, route.number);
             return Ok(Answered::changed(changes));
         }
-        let link = &mut self.links[place];
-        let running = &mut self.scopes[at];
-        let frames = ready_to_answer(self.alloc, link, running, number, scope, parted)?;
+        let link = &mut self.links[route.place];
+        let running = &mut self.scopes[route.at];
+        let frames = ready_to_answer(self.alloc, link, running, route.number, scope, parted)?;
         link.answer(frames);
         Ok(Answered::done(self.alloc))
     }

@@ -44,6 +44,17 @@ use link_states::Up;
 use policy_audit::Rule;
 use std::alloc::Global;
 
+/// Where a message goes.
+#[derive(Debug, Clone, Copy)]
+pub struct Route {
+    /// The place of its link.
+    pub place: usize,
+    /// The place of its scope.
+    pub at: usize,
+    /// The link's number.
+    pub number: u32,
+}
+
 impl Kept {
     /// A message, or a part of one, that came on the link at a place, which is up.
     #[tactic(auto, unfolding(crate::specs::Step::Answers))]
@@ -69,27 +80,21 @@ impl Kept {
             drop(message);
             return Err(CoreFault::Refused(rule));
         }
-        self.follow(place, at, number, message)
+        self.follow(Route { place, at, number }, message)
     }
 
-    /// A message for the scope at a place, that breaks no rule but those that the table of the
+    /// A message for a scope that runs, that breaks no rule but those that the table of the
     /// scope tells.
     #[tactic(auto, unfolding(crate::specs::Step::Answers))]
-    fn follow(
-        &mut self,
-        place: usize,
-        at: usize,
-        number: u32,
-        message: Message2,
-    ) -> Result<Answered, CoreFault>
+    fn follow(&mut self, route: Route, message: Message2) -> Result<Answered, CoreFault>
         ghost call: { Call }
-        requires { IsSoundMessage call self.old place at number message }
+        requires { IsSoundMessage call self.old route.place route.at route.number message }
         ensures { (body : List ℕ)
-            → frame_taken call.past.opening number call.past.entries body ≡ Some message
-            → Answers call (events.Frame number body) self.new result }
+            → frame_taken call.past.opening route.number call.past.entries body ≡ Some message
+            → Answers call (events.Frame route.number body) self.new result }
     {
         match message {
-            Message2::Discover(scope) => self.discovered(place, at, number, &scope),
+            Message2::Discover(scope) => self.discovered(route, &scope),
             Message2::Part {
                 kind,
                 scope,
@@ -98,42 +103,40 @@ impl Kept {
                 rows,
             } => {
                 if is_only(count, last) {
-                    return self.whole(place, at, number, kind, scope, &rows);
+                    return self.whole(route, kind, scope, &rows);
                 }
-                self.part(place, at, number, kind, scope, count, last, rows)
+                self.part(route, kind, scope, count, last, rows)
             }
-            Message2::Down(scope) => self.downed(place, at, number, scope),
+            Message2::Down(scope) => self.downed(route, scope),
         }
     }
 
-    /// A message that is one part, for the scope at a place.
+    /// A message that is one part.
     #[tactic(auto, unfolding(crate::specs::Step::Answers))]
     fn whole(
         &mut self,
-        place: usize,
-        at: usize,
-        number: u32,
+        route: Route,
         kind: PartKind,
         scope: Scope,
         rows: &Rows,
     ) -> Result<Answered, CoreFault>
         ghost call: { Call }
-        requires { IsSoundMessage call self.old place at number
+        requires { IsSoundMessage call self.old route.place route.at route.number
             (messages.Part kind scope 1 true rows.now) }
         ensures { (body : List ℕ)
-            → frame_taken call.past.opening number call.past.entries body
+            → frame_taken call.past.opening route.number call.past.entries body
             ≡ Some (messages.Part kind scope 1 true rows.now)
-            → Answers call (events.Frame number body) self.new result }
+            → Answers call (events.Frame route.number body) self.new result }
     {
-        let link = &mut self.links[place];
-        let running = &mut self.scopes[at];
+        let link = &mut self.links[route.place];
+        let running = &mut self.scopes[route.at];
         let limit = link.row_limit();
         let Some(peer) = link.up_peer() else {
             unreachable!()
         };
         let rows = rows.as_slice();
         let said = PeerRows {
-            link: number,
+            link: route.number,
             kind,
             peer,
             rows,
@@ -144,14 +147,12 @@ impl Kept {
         Ok(Answered::changed(changes))
     }
 
-    /// A part for the scope at a place, of a message that has others. Where it is refused, all that
+    /// A part of a message that has others. Where it is refused, all that
     /// was kept of the link's message stays.
     #[tactic(auto, unfolding(crate::specs::Step::Answers))]
     fn part(
         &mut self,
-        place: usize,
-        at: usize,
-        number: u32,
+        route: Route,
         kind: PartKind,
         scope: Scope,
         count: u32,
@@ -159,15 +160,15 @@ impl Kept {
         rows: Rows,
     ) -> Result<Answered, CoreFault>
         ghost call: { Call }
-        requires { IsSoundMessage call self.old place at number
+        requires { IsSoundMessage call self.old route.place route.at route.number
             (messages.Part kind scope count last rows) }
         ensures { (body : List ℕ)
-            → frame_taken call.past.opening number call.past.entries body
+            → frame_taken call.past.opening route.number call.past.entries body
             ≡ Some (messages.Part kind scope count last rows)
-            → Answers call (events.Frame number body) self.new result }
+            → Answers call (events.Frame route.number body) self.new result }
     {
-        let link = &mut self.links[place];
-        let running = &mut self.scopes[at];
+        let link = &mut self.links[route.place];
+        let running = &mut self.scopes[route.at];
         let undo = link.gather(kind, scope, count, rows)?;
         let limit = link.row_limit();
         let Some(peer) = link.up_peer() else {
@@ -175,7 +176,7 @@ impl Kept {
         };
         let rows = link.begun_rows();
         let said = PeerRows {
-            link: number,
+            link: route.number,
             kind,
             peer,
             rows,
@@ -193,29 +194,24 @@ impl Kept {
         }
     }
 
-    /// A Down of the scope at a place.
+    /// A Down of the scope.
     #[tactic(auto, unfolding(crate::specs::Step::Answers))]
-    fn downed(
-        &mut self,
-        place: usize,
-        at: usize,
-        number: u32,
-        scope: Scope,
-    ) -> Result<Answered, CoreFault>
+    fn downed(&mut self, route: Route, scope: Scope) -> Result<Answered, CoreFault>
         ghost call: { Call }
-        requires { IsSoundMessage call self.old place at number (messages.Down scope) }
+        requires { IsSoundMessage call self.old route.place route.at route.number
+            (messages.Down scope) }
         ensures { (body : List ℕ)
-            → frame_taken call.past.opening number call.past.entries body
+            → frame_taken call.past.opening route.number call.past.entries body
             ≡ Some (messages.Down scope)
-            → Answers call (events.Frame number body) self.new result }
+            → Answers call (events.Frame route.number body) self.new result }
     {
-        let link = &mut self.links[place];
-        let running = &mut self.scopes[at];
+        let link = &mut self.links[route.place];
+        let running = &mut self.scopes[route.at];
         let Some(peer) = link.up_peer() else {
             unreachable!()
         };
         let changes = drop_change(self.alloc, running, scope, peer)?;
-        cut_off(running, number, peer);
+        cut_off(running, route.number, peer);
         link.clear();
         Ok(Answered::changed(changes))
     }

@@ -11,11 +11,11 @@ pub returns-then-not-can_be_told : goal.returns-then-not-can_be_told
 returns-then-not-can_be_told g c = λ body says.
     let on = c.requires.on in
     refuses on.link.called _ Rule.RowsFull
-    (asked_calm on.link.called.keeps.follows g.call.seat c.args.number body on.link.called.space
-    on.up on.link.here c.index-link.ensures c.args.scope.now c.requires.there
+    (asked_calm on.link.called.keeps.follows g.call.seat c.args.route.number body
+    on.link.called.space on.up on.link.here c.index-link.ensures c.args.scope.now c.requires.there
     c.index-running.ensures c.requires.holds says
     (rw c.takes_parts-parted.ensures at (sym c.can_be_told.ensures ∙ c.if-not-can_be_told.true)))
-    (calm g.call.past c.args.number body on.up Rule.RowsFull refl)
+    (calm g.call.past c.args.route.number body on.up Rule.RowsFull refl)
 
 pub ready_to_answer-requires-clause-few : goal.ready_to_answer-requires-clause-few
 ready_to_answer-requires-clause-few g c =
@@ -31,8 +31,8 @@ returns-in_err-frames g c = λ body says.
     wanted on.link.called _ _ refl
     (follows_with t
     (same_scope t c.args.scope.now c.requires.there c.index_mut-running.ensures.value why.same)
-    (roomed_links t c.args.number on.up on.link.here c.index_mut-link.ensures.value why.roomy))
-    _ c.from_residual-in_err-frames.ensures.1
+    (roomed_links t c.args.route.number on.up on.link.here c.index_mut-link.ensures.value
+    why.roomy)) _ c.from_residual-in_err-frames.ensures.1
 
 -- too many frames would wait
 pub returns-then-frames-owed-gt-MAX_WAITING : goal.returns-then-frames-owed-gt-MAX_WAITING
@@ -47,11 +47,11 @@ returns-then-frames-owed-gt-MAX_WAITING g c = λ body says.
       c.takes_parts-parted.ensures,
     ) at c.if-frames-owed-gt-MAX_WAITING.true in
     accepts_ending on.link.called _ _ refl _ _ _ c.changed.ensures (rw c.remove.ensures
-    (fell_behind keeps.follows keeps.legal g.call.seat c.args.number body on.link.called.space
+    (fell_behind keeps.follows keeps.legal g.call.seat c.args.route.number body on.link.called.space
     on.up on.link.here c.index-link.ensures c.args.scope.now c.requires.there
     c.index-running.ensures says
-    (holds keeps.follows g.call.seat c.args.number body on.link.called.space on.up on.link.here
-    c.index-link.ensures c.args.scope.now c.requires.there c.index-running.ensures
+    (holds keeps.follows g.call.seat c.args.route.number body on.link.called.space on.up
+    on.link.here c.index-link.ensures c.args.scope.now c.requires.there c.index-running.ensures
     c.requires.holds says told)
     many c.in_ok-changes.changes.items
     c.index.ensures c.index-then-frames-owed-gt-MAX_WAITING.ensures
@@ -70,14 +70,14 @@ returns g c = λ body says.
     ) at c.if-frames-owed-gt-MAX_WAITING.false in
     let ready = c.in_ok-frames.ensures in
     accepts_alone on.link.called _ _ refl _ _ _ c.done.ensures
-    (few_enough keeps.follows keeps.legal g.call.seat c.args.number body on.link.called.space
+    (few_enough keeps.follows keeps.legal g.call.seat c.args.route.number body on.link.called.space
     on.up on.link.here c.index-link.ensures c.args.scope.now c.requires.there
     c.index-running.ensures says
-    (holds keeps.follows g.call.seat c.args.number body on.link.called.space on.up on.link.here
-    c.index-link.ensures c.args.scope.now c.requires.there c.index-running.ensures
+    (holds keeps.follows g.call.seat c.args.route.number body on.link.called.space on.up
+    on.link.here c.index-link.ensures c.args.scope.now c.requires.there c.index-running.ensures
     c.requires.holds says told)
     few)
-    (answered_now keeps.follows g.call.seat c.args.number body on.link.called.space on.up
+    (answered_now keeps.follows g.call.seat c.args.route.number body on.link.called.space on.up
     on.link.here c.index-link.ensures c.args.scope.now c.requires.there c.index-running.ensures
     c.requires.holds says told c.index_mut-running.ensures.value c.index_mut-link.ensures.value
     ready.told (rw c.takes_parts-parted.ensures at ready.frames) ready.roomy c.answer.ensures)

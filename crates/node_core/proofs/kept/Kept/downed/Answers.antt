@@ -13,7 +13,7 @@ pub unreachable-requires : goal.unreachable-requires
 unreachable-requires g c =
     let on = c.requires.on in
     has_peer
-    (up_here on.link.called.keeps.follows c.args.number on.up on.link.here
+    (up_here on.link.called.keeps.follows c.args.route.number on.up on.link.here
     c.index_mut-link.ensures.value)
     c.in_default.ensures
 
@@ -24,7 +24,7 @@ returns-in_err-changes g c = λ body says.
     wanted on.link.called _ _ refl
     (follows_with t
     (still_scope t c.args.scope c.requires.there c.index_mut-running.ensures.value)
-    (same_links t c.args.number on.up on.link.here c.index_mut-link.ensures.value refl))
+    (same_links t c.args.route.number on.up on.link.here c.index_mut-link.ensures.value refl))
     _ c.from_residual.ensures.1
 
 pub returns : goal.returns
@@ -33,8 +33,8 @@ returns g c = λ body says.
     let t = on.link.called.keeps.follows in
     let done = c.in_ok-changes.ensures in
     accepts on.link.called _ _ refl _ _ _ (rw done.changes at c.changed.ensures)
-    (unasked g.call.past c.args.number body _ says refl)
-    (downed t g.call.seat c.args.number body on.link.called.space on.up on.link.here
+    (unasked g.call.past c.args.route.number body _ says refl)
+    (downed t g.call.seat c.args.route.number body on.link.called.space on.up on.link.here
     c.index_mut-link.ensures.value c.args.scope c.cut_off.new.running c.requires.there
     c.index_mut-running.ensures.value c.in-Some.ensures says c.requires.holds done.groups
     c.cut_off.ensures c.index_mut-running.ensures.value done.difference

@@ -15,7 +15,7 @@ returns-in_err-undo g c = λ body says.
     wanted on.link.called _ _ refl
     (follows_with t
     (still_scope t c.args.scope c.requires.there c.index_mut-running.ensures.value)
-    (same_links t c.args.number on.up on.link.here c.index_mut-link.ensures.value
+    (same_links t c.args.route.number on.up on.link.here c.index_mut-link.ensures.value
     c.in_err-undo.ensures.same))
     _ c.from_residual.ensures.1
 
@@ -23,7 +23,7 @@ pub unreachable-requires : goal.unreachable-requires
 unreachable-requires g c =
     let on = c.requires.on in
     has_peer
-    (up_here on.link.called.keeps.follows c.args.number on.up on.link.here
+    (up_here on.link.called.keeps.follows c.args.route.number on.up on.link.here
     c.index_mut-link.ensures.value)
     (c.in_default.ensures
     ∙ ap (λ (z : KeptLink). up_peer z.state) c.in_ok-undo.ensures.ok)
@@ -32,7 +32,7 @@ pub hear_or_test-requires : goal.hear_or_test-requires
 hear_or_test-requires g c =
     let on = c.requires.on in
     let t = on.link.called.keeps.follows in
-    let here = up_here t c.args.number on.up on.link.here c.index_mut-link.ensures.value in
+    let here = up_here t c.args.route.number on.up on.link.here c.index_mut-link.ensures.value in
     rw c.begun_rows-rows.ensures
     (gathered_rows here t.sound.played c.args.kind c.args.scope c.args.count c.args.last
     c.args.rows c.requires.holds c.in_ok-undo.ensures.ok c.in-Some.ensures)
@@ -46,10 +46,10 @@ returns-in-Err g c = λ body says.
     fails on.link.called _ _ refl
     (follows_with t
     (same_scope t c.args.scope c.requires.there c.index_mut-running.ensures.value why.same)
-    (same_links t c.args.number on.up on.link.here c.index_mut-link.ensures.value
+    (same_links t c.args.route.number on.up on.link.here c.index_mut-link.ensures.value
     (taken_back kept.ok c.undo.ensures kept.undo)))
     c.in-Err.fault
-    (part_calm t g.call.seat c.args.number body on.link.called.space on.up on.link.here
+    (part_calm t g.call.seat c.args.route.number body on.link.called.space on.up on.link.here
     c.index_mut-link.ensures.value c.args.scope c.hear_or_test.new.running c.requires.there
     c.index_mut-running.ensures.value c.args.last c.args.kind c.args.count c.args.rows says
     c.requires.holds kept.ok c.in-Some.ensures c.in-Err.fault
@@ -63,8 +63,8 @@ returns-in-Ok g c = λ body says.
     let scope = scope_here t c.args.scope c.requires.there c.index_mut-running.ensures.value in
     accepts on.link.called _ _ refl _ _ _
     (rw (done.change.changes, scope.named) at c.changed.ensures)
-    (unasked g.call.past c.args.number body _ says refl)
-    (part_kept t g.call.seat c.args.number body on.link.called.space on.up on.link.here
+    (unasked g.call.past c.args.route.number body _ says refl)
+    (part_kept t g.call.seat c.args.route.number body on.link.called.space on.up on.link.here
     c.index_mut-link.ensures.value c.args.scope c.hear_or_test.new.running c.requires.there
     c.index_mut-running.ensures.value c.args.last c.args.kind c.args.count c.args.rows says
     c.requires.holds c.in_ok-undo.ensures.ok c.in-Some.ensures

@@ -13,7 +13,7 @@ pub unreachable-requires : goal.unreachable-requires
 unreachable-requires g c =
     let on = c.requires.on in
     has_peer
-    (up_here on.link.called.keeps.follows c.args.number on.up on.link.here
+    (up_here on.link.called.keeps.follows c.args.route.number on.up on.link.here
     c.index_mut-link.ensures.value)
     c.in_default.ensures
 
@@ -21,7 +21,7 @@ pub hear-requires : goal.hear-requires
 hear-requires g c =
     let on = c.requires.on in
     let t = on.link.called.keeps.follows in
-    let here = up_here t c.args.number on.up on.link.here c.index_mut-link.ensures.value in
+    let here = up_here t c.args.route.number on.up on.link.here c.index_mut-link.ensures.value in
     rw (c.as_slice-rows.ensures, peer_is here c.in-Some.ensures)
     (its_rows here t.sound.played c.args.kind c.args.scope 1 true c.args.rows.now c.requires.holds)
 
@@ -33,9 +33,9 @@ returns-in_err-changes g c = λ body says.
     failed on.link.called _ _ refl
     (follows_with t
     (same_scope t c.args.scope c.requires.there c.index_mut-running.ensures.value why.same)
-    (same_links t c.args.number on.up on.link.here c.index_mut-link.ensures.value refl))
+    (same_links t c.args.route.number on.up on.link.here c.index_mut-link.ensures.value refl))
     c.in_err-changes.field-0.0
-    (refused_calm t g.call.seat c.args.number body on.link.called.space on.up on.link.here
+    (refused_calm t g.call.seat c.args.route.number body on.link.called.space on.up on.link.here
     c.index_mut-link.ensures.value c.args.scope c.hear.new.running c.requires.there
     c.index_mut-running.ensures.value c.in-Some.ensures c.args.kind 1 true c.args.rows.now says
     c.requires.holds c.in_err-changes.field-0.0
@@ -48,8 +48,8 @@ returns g c = λ body says.
     let t = on.link.called.keeps.follows in
     let done = c.in_ok-changes.ensures in
     accepts on.link.called _ _ refl _ _ _ (rw done.change.changes at c.changed.ensures)
-    (unasked g.call.past c.args.number body _ says refl)
-    (went_on t g.call.seat c.args.number body on.link.called.space on.up on.link.here
+    (unasked g.call.past c.args.route.number body _ says refl)
+    (went_on t g.call.seat c.args.route.number body on.link.called.space on.up on.link.here
     c.index_mut-link.ensures.value c.args.scope c.hear.new.running c.requires.there
     c.index_mut-running.ensures.value c.in-Some.ensures 1 c.args.rows.now true c.args.kind says
     c.requires.holds (rw (c.as_slice-rows.ensures, c.row_limit-limit.ensures) at done.holds)
