@@ -3,15 +3,18 @@
 use Rattle.std.specs.Prelude.{◌≡◌, ℕ, Bool, true, false, List, [], ◌∷◌, Option, Some, None}
 use Rattle.std.specs.List.{flat_map}
 use Rattle.std.specs.Option.{option_map, option_to_list}
-use Rattle.handshake_frames.specs.Reading.{name_frame, challenge_frame, reply_frame, ack_frame, status_of}
+use Rattle.handshake_frames.specs.Reading.{name_frame, challenge_frame, reply_frame, ack_frame}
+use Rattle.handshake_frames.specs.Reading.{status_of}
 use Rattle.admission_rules.specs.Admission.{AdmissionRules}
 use Rattle.link_states.specs.declared.await_name.Named.{Named}
 use Rattle.link_states.specs.declared.await_name.Named.TheVariants as named
 use Rattle.link_states.specs.declared.pending.Pending.{Pending}
 use Rattle.link_states.specs.declared.state_rule.StateRule.{StateRule}
 use Rattle.link_states.specs.declared.state_rule.StateRule.TheVariants as broken
-use Rattle.link_states.specs.Checks.{Check, first_broken, name_checks, answer_checks, reply_checks, status_checks, challenge_checks, ack_checks}
-use Rattle.link_states.specs.Frames.{own_challenge, reply_owed, ack_owed, status_owed, refusal_frames}
+use Rattle.link_states.specs.Checks.{Check, first_broken, name_checks, answer_checks, reply_checks}
+use Rattle.link_states.specs.Checks.{status_checks, challenge_checks, ack_checks}
+use Rattle.link_states.specs.Frames.{own_challenge, reply_owed, ack_owed, status_owed}
+use Rattle.link_states.specs.Frames.{refusal_frames}
 use Rattle.link_states.specs.Named.{named_by}
 use Rattle.link_states.specs.Peer.{found}
 use Rattle.link_states.specs.States.{linked}

@@ -1,6 +1,7 @@
 -- The links of a node are those of its history: each in the state that the policy's words give,
 -- with the frames that wait for it.
-use Rattle.std.specs.Prelude.{◌≡◌, ℕ, Bool, true, false, ◌&&◌, not, List, [], Option, Some, reverse, map}
+use Rattle.std.specs.Prelude.{◌≡◌, ℕ, Bool, true, false, ◌&&◌, not, List, [], Option, Some, reverse}
+use Rattle.std.specs.Prelude.{map}
 use Rattle.std.specs.List.{filter, AllByRecursion}
 use Rattle.dist_types.specs.Flags.{has_bit}
 use Rattle.dist_types.specs.Listing.{same}
@@ -9,7 +10,9 @@ use Rattle.link_frames.specs.Parts.{Begun}
 use Rattle.link_states.specs.States.{Dialled}
 use Rattle.policy_audit.specs.OutFrame.{OutFrame}
 use Rattle.policy_audit.specs.History.{History}
-use Rattle.policy_audit.specs.Sides.{peer_of, given, is_whole, Awaited, AwaitName, AwaitAnswer, AwaitReply, AwaitStatus, AwaitChallenge, AwaitAck, AwaitMessage, awaits}
+use Rattle.policy_audit.specs.Sides.{peer_of, given, is_whole, Awaited, AwaitName, AwaitAnswer}
+use Rattle.policy_audit.specs.Sides.{AwaitReply, AwaitStatus, AwaitChallenge, AwaitAck}
+use Rattle.policy_audit.specs.Sides.{AwaitMessage, awaits}
 use Rattle.policy_audit.specs.Links.{is_open, links}
 use Rattle.policy_audit.specs.Hearing.{begun, link_version}
 use Rattle.policy_audit.specs.Owed.{own_challenge, waiting, is_kept}

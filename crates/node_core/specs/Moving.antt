@@ -1,5 +1,6 @@
 -- Own processes that join and leave groups.
-use Rattle.std.specs.Prelude.{◌≡◌, ℕ, ◌+◌, ◌<◌, ◌==◌, ◌&&◌, cond, not, nat_le, min, false, List, [], ◌∷◌, map, length}
+use Rattle.std.specs.Prelude.{◌≡◌, ℕ, ◌+◌, ◌<◌, ◌==◌, ◌&&◌, cond, not, nat_le, min, false, List, []}
+use Rattle.std.specs.Prelude.{◌∷◌, map, length}
 use Rattle.std.specs.List.{list_all}
 use Rattle.dist_types.specs.declared.pid.Pid.{Pid}
 use Rattle.dist_types.specs.declared.change.GroupChange.{GroupChange}

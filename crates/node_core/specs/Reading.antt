@@ -7,7 +7,8 @@ use Rattle.policy_audit.specs.declared.event.Event.{Event}
 use Rattle.policy_audit.specs.declared.event.Event.TheVariants as event
 use Rattle.policy_audit.specs.declared.reply.Reply.{Reply}
 use Rattle.policy_audit.specs.History.{History}
-use Rattle.policy_audit.specs.Sides.{peer_of, Awaited, AwaitName, AwaitAnswer, AwaitReply, AwaitStatus, AwaitChallenge, AwaitAck, AwaitMessage, awaits}
+use Rattle.policy_audit.specs.Sides.{peer_of, Awaited, AwaitName, AwaitAnswer, AwaitReply}
+use Rattle.policy_audit.specs.Sides.{AwaitStatus, AwaitChallenge, AwaitAck, AwaitMessage, awaits}
 use Rattle.policy_audit.specs.Links.{is_open, is_up}
 use Rattle.policy_audit.specs.Checks.{checks, first_broken}
 use Rattle.policy_audit.specs.Policy.{answer}

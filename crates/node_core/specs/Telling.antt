@@ -12,7 +12,8 @@ use Rattle.node_core.specs.declared.running.Running.{Running}
 use Rattle.policy_audit.specs.Owed.{wide}
 use Rattle.link_frames.specs.Parts.{message2_bytes, parts, HasParts}
 use Rattle.link_frames.specs.Spelling.{HasSpelling}
-use Rattle.node_core.specs.Links.{KeptLink, is_any_in, is_shown, prepared_for, takes_parts, with_frames}
+use Rattle.node_core.specs.Links.{KeptLink, is_any_in, is_shown, prepared_for, takes_parts}
+use Rattle.node_core.specs.Links.{with_frames}
 use Rattle.node_core.specs.Links.{unroomed}
 use Rattle.node_core.specs.ScopeFacts.{is_number}
 

@@ -83,8 +83,8 @@ impl Kept {
         self.follow(Route { place, at, number }, message)
     }
 
-    /// A message for a scope that runs, that breaks no rule but those that the table of the
-    /// scope tells.
+    /// A message for a scope that runs, that breaks no rule but those that the table of the scope
+    /// tells.
     #[tactic(auto, unfolding(crate::specs::Step::Answers))]
     fn follow(&mut self, route: Route, message: Message2) -> Result<Answered, CoreFault>
         ghost call: { Call }
@@ -147,8 +147,8 @@ impl Kept {
         Ok(Answered::changed(changes))
     }
 
-    /// A part of a message that has others. Where it is refused, all that
-    /// was kept of the link's message stays.
+    /// A part of a message that has others. Where it is refused, all that was kept of the link's
+    /// message stays.
     #[tactic(auto, unfolding(crate::specs::Step::Answers))]
     fn part(
         &mut self,

@@ -3,7 +3,8 @@ use Rattle.scope_core.proofs
 use proofs.Words
 use Words.{ap, append-nil, AreCounted, arith, bare_rows, Bool, BTreeMap, cond, Counted, counted_in}
 use Words.{drop, eq_by_cmp, false, find_in, get_or, has_groups, has_members, has_row, is_row}
-use Words.{is_some, is_there, IsHashed, key_cmp, key_of, length, length-append, List, list_any, Names}
+use Words.{is_some, is_there, IsHashed, key_cmp, key_of, length, length-append, List, list_any}
+use Words.{Names}
 use Words.{lookup, map-append, None, not, Option, or_right, Pid, ProcessKey, refl, Row, row_at}
 use Words.{row_in, same_decides, same_pid, same_pid_decides, same_row, same_row_decides, set_value}
 use Words.{SmallMap, Some, stands, suc, sym, take, take-append-drop, take-append-le, take_all}

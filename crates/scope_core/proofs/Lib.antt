@@ -34,3 +34,4 @@ pub mod Pushed
 pub mod Counting
 pub mod Told
 pub mod Copies
+pub mod Short

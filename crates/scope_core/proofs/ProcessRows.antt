@@ -2,9 +2,11 @@
 use Rattle.scope_core.proofs
 use proofs.Words
 use Words.{AllByRecursion, ap, append-nil, arith, Ascends, BTreeMap, changes_left_by, cond, Counted}
-use Words.{counted_in, exact_bytes, false, find_in, found, get, GroupChange, has_row, how_many_replicate}
+use Words.{counted_in, exact_bytes, false, find_in, found, get, GroupChange, has_row}
+use Words.{how_many_replicate}
 use Words.{is_among, is_eq, is_row, is_some, IsDifference, IsDistinct, IsHashed, IsProper, key_cmp}
-use Words.{key_of, keys_of, length, Less, List, lookup, map, None, one_of_many, Option, Pid, pid_cmp}
+use Words.{key_of, keys_of, length, Less, List, lookup, map, None, one_of_many, Option, Pid}
+use Words.{pid_cmp}
 use Words.{pids_total, ProcessKey, refl, replicate, Rises, Row, row_in, same, same_decides, Some}
 use Words.{same_pid, same_pid_decides, same_row, same_sym, SmallMap, spread_ascends, subst, sym}
 use Words.{tally, text_cmp, texts_total, times_joined, times_left, total, true, [], ℕ, ◌-◌, ◌∙◌}

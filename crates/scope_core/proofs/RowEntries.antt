@@ -3,7 +3,8 @@ use Rattle.scope_core.proofs
 use proofs.Words
 use Words.{AllByRecursion, ap, append_assoc, arith, BTreeMap, Counted, counted_cmp, counted_in}
 use Words.{entries_in, false, find_in, IsHashed, key_cmp, keys_of, Less, List, lookup}
-use Words.{Names, None, Option, ProcessKey, refl, Rises, Row, row_at, rows_total, same_row, same_row_decides}
+use Words.{Names, None, Option, ProcessKey, refl, Rises, Row, row_at, rows_total, same_row}
+use Words.{same_row_decides}
 use Words.{SmallMap, stands, subst, sym, text_cmp, tied_itself, [], ℕ, ◌++◌, ◌∙◌, ◌∷◌, ◌≡◌}
 use proofs.HashedRows.{rows_equal, stands_is}
 use proofs.HashedWrites.{names_as}

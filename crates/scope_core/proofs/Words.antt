@@ -6,8 +6,8 @@ use Rattle.dist_types.specs as types
 use Rattle.scope_core.specs
 pub use std.Prelude.{All, Bool, cond, drop, Err, false, IfErr, IfOk, IfSome, IsOk, length, List}
 pub use std.Prelude.{map, min, nat_le, nat_lt, None, not, Ok, OnErr, OnOk, Option, replicate}
-pub use std.Prelude.{Result, slice_get, Some, suc, take, true, Vec, vec_len, zero, [], ℕ, ◌&&◌}
-pub use std.Prelude.{◌++◌, ◌+◌, ◌-◌, ◌<◌, ◌==◌, ◌||◌, ◌∷◌, ◌≡◌, ◌≢◌, ◌≤◌}
+pub use std.Prelude.{Result, slice_get, slice_set, Some, suc, take, true, Vec, vec_len, zero, []}
+pub use std.Prelude.{ℕ, ◌&&◌, ◌++◌, ◌+◌, ◌-◌, ◌<◌, ◌==◌, ◌||◌, ◌∷◌, ◌≡◌, ◌≢◌, ◌≤◌}
 pub use Rattle.std.proofs.Common.{add-one, ap, append_assoc, arith, Bor, get_or, inl, inr}
 pub use Rattle.std.proofs.Common.{length-append, refl, rules, subst, sym, true≢false, ◌∙◌}
 pub use Rattle.std.proofs.Math.ListN.{set}
@@ -17,9 +17,9 @@ pub use lemmas.Bool.Decides.{Decides-eqb, same_from_decides}
 pub use lemmas.Cmp.{eq_by_cmp_equiv, nat_cmp_total, on_total, then_total, tied_itself}
 pub use lemmas.Fn.{always_returns_same}
 pub use lemmas.Grind.{common_steps}
-pub use lemmas.List.{append-nil, drop_more, get_or_default, length-map, length-take-le, length_push}
-pub use lemmas.List.{map-append, replicate_more, take-append-drop, take-append-le, take-map}
-pub use lemmas.List.{take_all, take_more}
+pub use lemmas.List.{append-nil, drop_all, drop_more, get_or_default, length-map, length-take-le}
+pub use lemmas.List.{length_push, map-append, replicate_more, take-append-drop, take-append-le}
+pub use lemmas.List.{take-map, take_all, take_more}
 pub use lemmas.List.Elements.{All-map, filter-append, recursion_from_All}
 pub use lemmas.List.Sorted.{IsPartitionPoint-from_clause, IsPermutation-trans}
 pub use lemmas.List.Sorted.{list_any-IsPermutation, ranks_by, searchable_from_sorted, sorted_far}
@@ -88,4 +88,4 @@ pub use specs.declared.fault.TableFault.TheVariants.{NotJoined, NotListed, OutOf
 pub use specs.declared.node_row.NodeRow.{NodeRow}
 pub use specs.declared.process_key.ProcessKey.{ProcessKey}
 pub use specs.declared.small_map.SmallMap.{SmallMap}
-pub use specs.declared.small_map.SmallMap.TheVariants.{Many, One}
+pub use specs.declared.small_map.SmallMap.TheVariants.{Few, Many, One}

@@ -1,16 +1,17 @@
--- Ordered maps of which most have one entry, and ordered maps of those.
+-- Ordered maps of which most have one entry, or few, and ordered maps of those.
 use Rattle.std.specs.Prelude.{List, [], ◌∷◌, Option, None, Some}
 use Rattle.std.specs.declared.cmp.Ordering.{Ordering}
 use Rattle.std.specs.Ordering.{is_eq}
 use Rattle.std.specs.Map.{lookup}
 use Rattle.std.specs.BTreeMap.{BTreeMap, get}
 use Rattle.scope_core.specs.declared.small_map.SmallMap.{SmallMap}
-use Rattle.scope_core.specs.declared.small_map.SmallMap.TheVariants.{Empty, One, Many}
+use Rattle.scope_core.specs.declared.small_map.SmallMap.TheVariants.{Empty, One, Few, Many}
 
 -- the entries, in the keys' order
 abbrev pub entries_of : {K V : Type 0} → SmallMap K V → List (K × V)
 entries_of Empty = []
 entries_of (One k v) = (k, v) ∷ []
+entries_of (Few es) = es
 entries_of (Many m) = m.entries
 
 -- the value at the key

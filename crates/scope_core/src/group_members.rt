@@ -10,7 +10,6 @@ ghost use Rattle.scope_core.specs.HashedRows.{group_rows, pid_of, key_cmp};
 
 use crate::counted::Counted;
 use crate::process_key::ProcessKey;
-use crate::reads::push_one;
 use crate::small_map::SmallMap;
 use dist_types::{Group, NodeName, OutOfMemory, Pid, Row, TryClone};
 use std::alloc::Global;
@@ -34,6 +33,7 @@ pub fn behind_all<'a>(
     match members {
         SmallMap::Empty => Some(rows),
         SmallMap::One(key, count) => behind(rows, group, *key, *count as usize),
+        SmallMap::Few(map) => behind_few(rows, group, map.entries()),
         SmallMap::Many(map) => {
             let mut rest = rows;
             for (key, count) in map {
@@ -42,6 +42,28 @@ pub fn behind_all<'a>(
             Some(rest)
         }
     }
+}
+
+/// What follows the rows of a group and these processes, if the list begins with them.
+fn behind_few<'a>(
+    rows: &'a [Row],
+    group: &Group,
+    members: &[(ProcessKey, u32)],
+) -> Option<&'a [Row]>
+    ensures begins { IfSome result (λ rest. (node : List ℕ)
+        → AllByRecursion (λ r. r.pid.node ≡ node) rows.now
+        → rows.now ≡ spread (λ e. row_in group.now (pid_of node e.0)) (λ e.
+        e.1) members.now ++ rest.now) }
+    ensures own { IfSome result (λ rest. (node : List ℕ)
+        → AllByRecursion (λ r. r.pid.node ≡ node) rows.now
+        → AllByRecursion (λ r. r.pid.node ≡ node) rest.now) }
+{
+    let mut rest = rows;
+    for member in members {
+        let (key, count) = member;
+        rest = behind(rest, group, *key, *count as usize)?;
+    }
+    Some(rest)
 }
 
 /// What follows so many rows of a group and a process, if the list begins with them.
@@ -79,6 +101,7 @@ pub fn push_counted(
     match members {
         SmallMap::Empty => Ok(()),
         SmallMap::One(key, count) => push_row(alloc, node, group, *key, *count, rows),
+        SmallMap::Few(map) => push_few_counted(alloc, node, group, map.entries(), rows),
         SmallMap::Many(map) => {
             rows.reserve(map.len())?;
             for (key, count) in map {
@@ -87,6 +110,24 @@ pub fn push_counted(
             Ok(())
         }
     }
+}
+
+/// Puts the rows of a group with these processes at the end of a list.
+fn push_few_counted(
+    alloc: Global,
+    node: &NodeName,
+    group: &Group,
+    members: &[(ProcessKey, u32)],
+    rows: &mut Vec<Counted>,
+) -> Result<(), OutOfMemory>
+    ensures { OnOk result (rows.new.items ≡ rows.old.items
+        ++ group_rows node.now group.now members.now) }
+{
+    rows.reserve(members.len())?;
+    for (key, count) in members {
+        push_row(alloc, node, group, *key, *count, rows)?;
+    }
+    Ok(())
 }
 
 /// Puts a row of the node at the end of a list.
@@ -124,6 +165,7 @@ pub fn push_pids(
     match members {
         SmallMap::Empty => Ok(()),
         SmallMap::One(key, count) => push_times(alloc, node, *key, *count, pids),
+        SmallMap::Few(map) => push_few(alloc, node, map.entries(), pids),
         SmallMap::Many(map) => {
             pids.reserve(map.len())?;
             for (key, count) in map {
@@ -132,6 +174,23 @@ pub fn push_pids(
             Ok(())
         }
     }
+}
+
+/// Puts these processes of the node at the end of a list, each as often as it is counted.
+fn push_few(
+    alloc: Global,
+    node: &NodeName,
+    members: &[(ProcessKey, u32)],
+    pids: &mut Vec<Pid>,
+) -> Result<(), OutOfMemory>
+    ensures { OnOk result (pids.new.items ≡ pids.old.items
+        ++ spread (λ e. pid_of node.now e.0) (λ e. e.1) members.now) }
+{
+    pids.reserve(members.len())?;
+    for (key, count) in members {
+        push_times(alloc, node, *key, *count, pids)?;
+    }
+    Ok(())
 }
 
 /// Puts a process of the node at the end of a list, so often.
@@ -146,7 +205,12 @@ fn push_times(
         ++ replicate times (pid_of node.now key)) }
 {
     for _ in 0..times {
-        push_one(pids, key.pid(alloc, node)?)?;
+        let pid = key.pid(alloc, node)?;
+        // As `push_one` has it, whose call costs as much again as the copy.
+        if pids.len() == pids.capacity() {
+            pids.reserve(1)?;
+        }
+        pids.push_reserved(pid);
     }
     Ok(())
 }

@@ -11,16 +11,16 @@ ghost use Rattle.scope_core.specs.Added.{Adds, HasRoomFor};
 ghost use Rattle.scope_core.specs.Beyond.{times_beyond, picked};
 
 use crate::counted::Counted;
-use crate::group_nodes::GroupNodes;
+use crate::indexed_rows::IndexedRows;
 use dist_types::{Group, OutOfMemory, Row, TryClone, copies_of};
 use std::alloc::Global;
 use std::cmp::Ordering;
 
-/// The rows in order, each with its count. The names of their groups are those that stand here, so
+/// The rows in order, each with its count. The names of their groups are those of the table, so
 /// that all nodes share them, or else the rows' own.
 pub fn counted_rows(
     alloc: Global,
-    names: Option<&GroupNodes>,
+    table: Option<&IndexedRows>,
     rows: &[Row],
 ) -> Result<Vec<Counted>, OutOfMemory>
     requires { HasRoomFor rows.now [] }
@@ -28,11 +28,11 @@ pub fn counted_rows(
     ensures kept { IfOk result (λ counted. IsKept counted.items) }
 {
     // A node states its rows in order.
-    if let Some(counted) = counted_in_order(alloc, names, rows)? {
+    if let Some(counted) = counted_in_order(alloc, table, rows)? {
         return Ok(counted);
     }
     let sorted = copies_in_order(alloc, rows)?;
-    match counted_in_order(alloc, names, &sorted)? {
+    match counted_in_order(alloc, table, &sorted)? {
         Some(counted) => Ok(counted),
         // They are in order now.
         None => Err(OutOfMemory),
@@ -56,7 +56,7 @@ fn copies_in_order(alloc: Global, rows: &[Row]) -> Result<Vec<Row>, OutOfMemory>
 /// Rows with their counts, unless one stands behind a higher one.
 fn counted_in_order(
     alloc: Global,
-    names: Option<&GroupNodes>,
+    table: Option<&IndexedRows>,
     rows: &[Row],
 ) -> Result<Option<Vec<Counted>>, OutOfMemory>
     requires { HasRoomFor rows.now [] }
@@ -68,7 +68,7 @@ fn counted_in_order(
     for row in rows {
         match order_behind(&counted, row) {
             Ordering::Less => {
-                let group = name_of(alloc, names, &counted, &row.group)?;
+                let group = name_of(alloc, table, &counted, &row.group)?;
                 let pid = row.pid.try_clone(alloc)?;
                 counted.push(Counted {
                     row: Row { group, pid },
@@ -82,10 +82,10 @@ fn counted_in_order(
     Ok(Some(counted))
 }
 
-/// The name of a group as the last row has it, or as it stands here, where either is the same.
+/// The name of a group as the last row has it, or as the table has it, where either is the same.
 fn name_of(
     alloc: Global,
-    names: Option<&GroupNodes>,
+    table: Option<&IndexedRows>,
     counted: &[Counted],
     group: &Group,
 ) -> Result<Group, OutOfMemory>
@@ -96,7 +96,7 @@ fn name_of(
             return last.row.group.try_clone(alloc);
         }
     }
-    match names.and_then(|names| names.stored(group)) {
+    match table.and_then(|rows| rows.stored(group)) {
         Some(stored) => stored.try_clone(alloc),
         None => group.try_clone(alloc),
     }

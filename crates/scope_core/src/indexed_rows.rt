@@ -60,11 +60,6 @@ impl IndexedRows {
         self.index.stored(group)
     }
 
-    /// The names of the groups that have a process.
-    pub fn names(&self) -> &GroupNodes {
-        &self.index
-    }
-
     /// No node has more rows than it may.
     pub fn few(&self)
         ensures { (n : List ℕ) → tally (is_of_node n) self.now ≤ max_rows }

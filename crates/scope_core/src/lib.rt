@@ -24,6 +24,7 @@ mod queries;
 mod reads;
 mod row_counts;
 mod row_reads;
+mod short_map;
 mod small_map;
 mod table;
 

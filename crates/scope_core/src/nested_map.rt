@@ -10,7 +10,7 @@ use std::alloc::Global;
 use std::collections::BTreeMap;
 
 /// Puts a value at both keys.
-pub fn put<A: Ord + Drop + TryClone, B: Ord + Drop, V: Drop>(
+pub fn put<A: Ord + Drop + TryClone, B: Ord + Drop + TryClone, V: Copy + Drop>(
     alloc: Global,
     map: &mut BTreeMap<A, SmallMap<B, V>>,
     outer: &A,

@@ -19,7 +19,7 @@ use crate::counted::Counted;
 use crate::nested_map::{put, take};
 use crate::process_key::ProcessKey;
 use crate::reads::run_of;
-use crate::small_map::SmallMap;
+use crate::small_map::{SmallMap, map_of};
 use dist_types::{Group, OutOfMemory, Row, TryClone};
 use std::alloc::Global;
 use std::collections::BTreeMap;
@@ -62,20 +62,7 @@ fn members_of(alloc: Global, rows: &[Counted]) -> Result<SmallMap<ProcessKey, u3
     for counted in rows {
         members.push((ProcessKey::of(&counted.row.pid), counted.count))?;
     }
-    Ok(SmallMap::Many(map_of(alloc, members)?))
-}
-
-/// The map of these entries. Of equal keys it has the last value.
-fn map_of<K: Ord + Drop, V: Drop>(
-    alloc: Global,
-    entries: Vec<(K, V)>,
-) -> Result<BTreeMap<K, V>, OutOfMemory>
-    ensures found { IfOk result (λ map. IsDistinct (eq_by_cmp K.cmp) (keys_of entries.items)
-        → (k : K) → get K.cmp map k ≡ lookup (λ q. is_eq (K.cmp k q)) entries.items) }
-    ensures there { IfOk result (λ map. (k : K) → is_some (get K.cmp map k)
-        ≡ is_member (eq_by_cmp K.cmp) (keys_of entries.items) k) }
-{
-    Ok(entries.into_iter().collect(alloc)?)
+    SmallMap::of(alloc, members)
 }
 
 /// For each process its groups.
@@ -202,7 +189,7 @@ fn names_in(
     for name in names {
         groups.push((name.1.try_clone(alloc)?, ()))?;
     }
-    Ok(SmallMap::Many(map_of(alloc, groups)?))
+    SmallMap::of(alloc, groups)
 }
 
 /// A group that the process is in, if there is one.
@@ -232,6 +219,7 @@ pub fn name(
     count: u32,
 ) -> Result<(), OutOfMemory>
     requires { find_in text_cmp key_cmp groups.old row.now.group (key_of row.now.pid) ≡ None }
+    ensures kept { is_some processes.new ≡ is_some processes.old }
     ensures groups { OnOk result ((g : List ℕ) (k : ProcessKey)
         → find_in text_cmp key_cmp groups.new g k
         ≡ cond (eq_by_cmp text_cmp row.now.group g && eq_by_cmp key_cmp (key_of row.now.pid) k)
@@ -261,6 +249,7 @@ fn name_process(
     key: &ProcessKey,
     group: &Group,
 ) -> Result<(), OutOfMemory>
+    ensures kept { is_some processes.new ≡ is_some processes.old }
     ensures ok { OnOk result ((names : ProcessKey → List ℕ → Bool)
         → Names names processes.old → Names (λ k g.
         cond (eq_by_cmp key_cmp key.now k && eq_by_cmp text_cmp group.now g) true (names k g))
@@ -282,6 +271,7 @@ pub fn forget(
     group: &Group,
     key: &ProcessKey,
 ) -> bool
+    ensures kept { is_some processes.new ≡ is_some processes.old }
     ensures groups { (g : List ℕ) (k : ProcessKey) → find_in text_cmp key_cmp groups.new g k
         ≡ cond (eq_by_cmp text_cmp group.now g && eq_by_cmp key_cmp key.now k) None
         (find_in text_cmp key_cmp groups.old g k) }

@@ -149,6 +149,7 @@ impl HashedRows {
                 let left = self.copies(group, pid)?;
                 one_change(self.alloc, group, left, Vec::new(self.alloc))
             }
+            SmallMap::Few(map) => self.left_among(map.entries(), pid),
             SmallMap::Many(map) => self.left_under(map, pid),
         }
     }
@@ -164,6 +165,20 @@ impl HashedRows {
             ≡ changes_left_by self.now.rows pid.now (keys_of groups.now.entries)) }
         ensures ordered { IfOk result (λ _.
             IsStrictlySortedBy text_cmp (keys_of groups.now.entries)) }
+    {
+        let mut changes = Vec::with_capacity(self.alloc, groups.len())?;
+        for (group, _) in groups {
+            let left = self.copies(group, pid)?;
+            push_change(self.alloc, &mut changes, group, left, Vec::new(self.alloc))?;
+        }
+        Ok(changes)
+    }
+
+    /// The changes where a process leaves these groups.
+    fn left_among(&self, groups: &[(Group, ())], pid: &Pid) -> Result<Vec<GroupChange>, OutOfMemory>
+        requires { pid.now.node ≡ self.now.node }
+        ensures { IfOk result (λ changes. changes.items
+            ≡ changes_left_by self.now.rows pid.now (keys_of groups.now)) }
     {
         let mut changes = Vec::with_capacity(self.alloc, groups.len())?;
         for (group, _) in groups {

@@ -1,25 +1,48 @@
-//! Ordered maps of which most have one entry.
-ghost use Rattle.std.specs.Prelude.{◌≡◌, ◌++◌, length, cond, Some, None, false, IsTrue, OnOk, OnErr, IfSome, IsSome};
+//! Ordered maps of which most have one entry, or few.
+ghost use Rattle.std.specs.Prelude.{◌≡◌, length, cond, Some, None, false, IsTrue, OnOk, OnErr, IfOk, IfSome, IsSome};
 ghost use Rattle.std.specs.Ordering.{eq_by_cmp, is_eq};
-ghost use Rattle.std.specs.Option.{option_copied, IfNone};
-ghost use Rattle.std.specs.List.Sorted.{IsStrictlySortedBy};
-ghost use Rattle.std.specs.Map.{keys_of};
+ghost use Rattle.std.specs.Option.{is_some, option_copied, IfNone};
+ghost use Rattle.std.specs.List.{IsDistinct};
+ghost use Rattle.std.specs.Map.{keys_of, lookup};
+ghost use Rattle.std.specs.Set.{is_member};
+ghost use Rattle.std.specs.BTreeMap.{get};
+ghost use Rattle.dist_types.specs.Listing.{Rises};
 ghost use Rattle.scope_core.specs.SmallMap.{entries_of, find};
 
-use dist_types::OutOfMemory;
+use crate::short_map::ShortMap;
+use dist_types::{OutOfMemory, TryClone};
 use std::alloc::Global;
 use std::collections::BTreeMap;
 use std::mem;
 
-/// An ordered map whose entry has no block of its own while it is alone.
+/// The most entries that stand in one list: among more, to make room for one would take longer than
+/// to search a tree.
+const FEW: usize = 64;
+
+/// An ordered map. While an entry is alone it has no block of its own; few stand in one list, and
+/// many in a tree.
 #[derive(Debug, Drop)]
 pub enum SmallMap<K: Ord, V> {
     Empty,
     One(K, V),
+    Few(ShortMap<K, V>),
     Many(BTreeMap<K, V>),
 }
 
 impl<K: Ord + Drop, V: Drop> SmallMap<K, V> {
+    /// The map of these entries. Of equal keys it has the last value.
+    pub fn of(alloc: Global, entries: Vec<(K, V)>) -> Result<SmallMap<K, V>, OutOfMemory>
+        ensures found { IfOk result (λ map. IsDistinct (eq_by_cmp K.cmp) (keys_of entries.items)
+            → (k : K) → find K.cmp map k ≡ lookup (λ q. is_eq (K.cmp k q)) entries.items) }
+        ensures there { IfOk result (λ map. (k : K) → is_some (find K.cmp map k)
+            ≡ is_member (eq_by_cmp K.cmp) (keys_of entries.items) k) }
+    {
+        if entries.len() <= FEW && are_in_order(&entries) {
+            return Ok(SmallMap::Few(ShortMap::of(entries)));
+        }
+        Ok(SmallMap::Many(map_of(alloc, entries)?))
+    }
+
     /// The value at the key.
     pub fn get(&self, key: &K) -> Option<&V>
         ensures { option_copied result ≡ find K.cmp self.now key.now }
@@ -33,6 +56,7 @@ impl<K: Ord + Drop, V: Drop> SmallMap<K, V> {
                     None
                 }
             }
+            SmallMap::Few(map) => map.get(key),
             SmallMap::Many(map) => map.get(key),
         }
     }
@@ -44,6 +68,7 @@ impl<K: Ord + Drop, V: Drop> SmallMap<K, V> {
         match self {
             SmallMap::Empty => 0,
             SmallMap::One(_, _) => 1,
+            SmallMap::Few(map) => map.len(),
             SmallMap::Many(map) => map.len(),
         }
     }
@@ -56,12 +81,16 @@ impl<K: Ord + Drop, V: Drop> SmallMap<K, V> {
         match self {
             SmallMap::Empty => true,
             SmallMap::One(_, _) => false,
+            SmallMap::Few(map) => map.entries().is_empty(),
             SmallMap::Many(map) => map.is_empty(),
         }
     }
 
     /// Puts a value at the key.
     pub fn insert(&mut self, alloc: Global, key: K, value: V) -> Result<(), OutOfMemory>
+    where
+        K: TryClone,
+        V: Copy,
         ensures ok { OnOk result ((k : K) → find K.cmp self.new k
             ≡ cond (eq_by_cmp K.cmp key k) (Some value) (find K.cmp self.old k)) }
         ensures same { OnErr result ((k : K) → find K.cmp self.new k ≡ find K.cmp self.old k) }
@@ -72,6 +101,7 @@ impl<K: Ord + Drop, V: Drop> SmallMap<K, V> {
                 Ok(())
             }
             SmallMap::One(only, held) => self.begin(alloc, only, held, key, value),
+            SmallMap::Few(map) => self.put_beside(alloc, map, key, value),
             SmallMap::Many(map) => {
                 let mut map = map;
                 let inserted = map.insert(key, value);
@@ -97,23 +127,46 @@ impl<K: Ord + Drop, V: Drop> SmallMap<K, V> {
         ensures same { OnErr result ((k : K) → find K.cmp self.new k
             ≡ cond (is_eq (K.cmp k only)) (Some held) None) }
     {
-        if key.cmp(&only).is_eq() {
-            *self = SmallMap::One(key, value);
-            return Ok(());
-        }
-        let mut map = BTreeMap::new(alloc);
-        if map.insert(key, value).is_err() {
+        let Ok(mut entries) = Vec::with_capacity(alloc, 2) else {
             *self = SmallMap::One(only, held);
             return Err(OutOfMemory);
+        };
+        entries.push_reserved((only, held));
+        let mut few = ShortMap::of(entries);
+        let inserted = few.insert(key, value);
+        *self = SmallMap::Few(few);
+        inserted
+    }
+
+    /// Holds few entries, and one more beside them. Where memory is refused, the few alone.
+    fn put_beside(
+        &mut self,
+        alloc: Global,
+        few: ShortMap<K, V>,
+        key: K,
+        value: V,
+    ) -> Result<(), OutOfMemory>
+    where
+        K: TryClone,
+        V: Copy,
+        ensures ok { OnOk result ((k : K) → find K.cmp self.new k
+            ≡ cond (eq_by_cmp K.cmp key k) (Some value) (lookup (λ q. is_eq (K.cmp k q)) few)) }
+        ensures same { OnErr result ((k : K) → find K.cmp self.new k
+            ≡ lookup (λ q. is_eq (K.cmp k q)) few) }
+    {
+        let mut few = few;
+        if few.len() < FEW {
+            let inserted = few.insert(key, value);
+            *self = SmallMap::Few(few);
+            return inserted;
         }
-        match map.insert(only, held) {
-            Ok(_) => {
-                *self = SmallMap::Many(map);
+        match many_of(alloc, &few, key, value) {
+            Ok(many) => {
+                *self = SmallMap::Many(many);
                 Ok(())
             }
-            Err(failed) => {
-                let (only, held) = failed.value;
-                *self = SmallMap::One(only, held);
+            Err(_) => {
+                *self = SmallMap::Few(few);
                 Err(OutOfMemory)
             }
         }
@@ -128,6 +181,7 @@ impl<K: Ord + Drop, V: Drop> SmallMap<K, V> {
         match self {
             SmallMap::Empty => {}
             SmallMap::One(_, held) => *held = value,
+            SmallMap::Few(map) => map.set(key, value),
             SmallMap::Many(map) => {
                 if let Some(held) = map.get_mut(key) {
                     *held = value;
@@ -141,12 +195,17 @@ impl<K: Ord + Drop, V: Drop> SmallMap<K, V> {
         ensures { (k : K) → find K.cmp self.new k
             ≡ cond (eq_by_cmp K.cmp key.now k) None (find K.cmp self.old k) }
     {
-        if let SmallMap::Many(map) = self {
-            map.remove(key);
-            return;
-        }
-        if self.get(key).is_some() {
-            *self = SmallMap::Empty;
+        match self {
+            SmallMap::Empty => {}
+            SmallMap::One(only, _) => {
+                if key.cmp(only).is_eq() {
+                    *self = SmallMap::Empty;
+                }
+            }
+            SmallMap::Few(map) => map.remove(key),
+            SmallMap::Many(map) => {
+                map.remove(key);
+            }
         }
     }
 
@@ -161,6 +220,12 @@ impl<K: Ord + Drop, V: Drop> SmallMap<K, V> {
         match mem::replace(self, SmallMap::Empty) {
             SmallMap::Empty => None,
             SmallMap::One(key, value) => Some((key, value)),
+            SmallMap::Few(map) => {
+                let mut map = map;
+                let first = map.pop_first();
+                *self = SmallMap::Few(map);
+                first
+            }
             SmallMap::Many(map) => {
                 let mut map = map;
                 let first = map.pop_first();
@@ -171,22 +236,41 @@ impl<K: Ord + Drop, V: Drop> SmallMap<K, V> {
     }
 }
 
-impl<K: Ord + Copy, V: Copy> SmallMap<K, V> {
-    /// Puts the entries at the end of a list.
-    pub fn list(&self, entries: &mut Vec<(K, V)>) -> Result<(), OutOfMemory>
-        ensures listed { OnOk result (entries.new.items ≡ entries.old.items
-            ++ entries_of self.now) }
-        ensures ordered { OnOk result (IsStrictlySortedBy K.cmp (keys_of (entries_of self.now))) }
-    {
-        match self {
-            SmallMap::Empty => {}
-            SmallMap::One(key, value) => entries.push((*key, *value))?,
-            SmallMap::Many(map) => {
-                for (key, value) in map {
-                    entries.push((*key, *value))?;
-                }
-            }
-        }
-        Ok(())
+/// Whether each entry's key is above that of the entry before it.
+fn are_in_order<K: Ord, V>(entries: &[(K, V)]) -> bool
+    ensures { IsTrue result → Rises (λ x y. K.cmp x.0 y.0) entries.now }
+{
+    entries.is_sorted_by(|one, next| one.0.cmp(&next.0).is_lt())
+}
+
+/// The map of these entries. Of equal keys it has the last value.
+pub fn map_of<K: Ord + Drop, V: Drop>(
+    alloc: Global,
+    entries: Vec<(K, V)>,
+) -> Result<BTreeMap<K, V>, OutOfMemory>
+    ensures found { IfOk result (λ map. IsDistinct (eq_by_cmp K.cmp) (keys_of entries.items)
+        → (k : K) → get K.cmp map k ≡ lookup (λ q. is_eq (K.cmp k q)) entries.items) }
+    ensures there { IfOk result (λ map. (k : K) → is_some (get K.cmp map k)
+        ≡ is_member (eq_by_cmp K.cmp) (keys_of entries.items) k) }
+{
+    Ok(entries.into_iter().collect(alloc)?)
+}
+
+/// The map of few entries, and of one more.
+fn many_of<K: Ord + Drop + TryClone, V: Copy + Drop>(
+    alloc: Global,
+    few: &ShortMap<K, V>,
+    key: K,
+    value: V,
+) -> Result<BTreeMap<K, V>, OutOfMemory>
+    ensures { IfOk result (λ map. (k : K) → get K.cmp map k
+        ≡ cond (eq_by_cmp K.cmp key k) (Some value) (lookup (λ q. is_eq (K.cmp k q)) few.now)) }
+{
+    let mut copies = Vec::with_capacity(alloc, few.len())?;
+    for entry in few.entries() {
+        copies.push((entry.0.try_clone(alloc)?, entry.1))?;
     }
+    let mut map = map_of(alloc, copies)?;
+    map.insert(key, value)?;
+    Ok(map)
 }

@@ -168,7 +168,7 @@ impl ScopeTable {
             return Ok(Vec::new(self.alloc));
         }
         let held = self.rows.in_order(self.alloc, peer)?;
-        let counted = counted_rows(self.alloc, Some(self.rows.names()), rows)?;
+        let counted = counted_rows(self.alloc, Some(&self.rows), rows)?;
         let left = beyond(self.alloc, &held, &counted)?;
         let joined = beyond(self.alloc, &counted, &held)?;
         let changes = changes_of(self.alloc, &left, &joined)?;
@@ -201,7 +201,7 @@ impl ScopeTable {
         if self.rows.total_of(peer) + rows.len() > limit as usize {
             return Err(TableFault::RowsFull);
         }
-        let counted = counted_rows(self.alloc, Some(self.rows.names()), rows)?;
+        let counted = counted_rows(self.alloc, Some(&self.rows), rows)?;
         let changes = changes_joined(self.alloc, &counted)?;
         self.rows.join(peer, counted, &changes, false)?;
         self.listings.forget_changed(&changes);
@@ -226,7 +226,7 @@ impl ScopeTable {
             return Err(TableFault::NotListed);
         }
         self.rows.few();
-        let counted = counted_rows(self.alloc, Some(self.rows.names()), rows)?;
+        let counted = counted_rows(self.alloc, Some(&self.rows), rows)?;
         let changes = changes_left(self.alloc, &counted)?;
         self.rows.take_listed(peer, rows, &counted);
         self.listings.forget_changed(&changes);

@@ -29,3 +29,7 @@ returns-in-Empty-clause-ordered c = rw c.in-Empty.is tt
 pub returns-in-One-clause-ordered : goal.returns-in-One-clause-ordered
 unfolding IsStrictlySortedBy
 returns-in-One-clause-ordered c = rw c.in-One.is (some_any c.behind.result (tt, tt))
+
+pub returns-in-Few-clause-begins : goal.returns-in-Few-clause-begins
+returns-in-Few-clause-begins c =
+    rw c.in-Few.is (rw c.entries.ensures.entries at c.behind_few.ensures.begins)

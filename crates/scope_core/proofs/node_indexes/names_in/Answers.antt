@@ -1,5 +1,5 @@
 use Rattle.scope_core.proofs
-use proofs.Words.{ap, arith, eq_by_cmp, is_member, map, take_all, text_cmp, ◌∙◌}
+use proofs.Words.{ap, arith, eq_by_cmp, IfOk-weaker, is_member, map, take_all, text_cmp, ◌∙◌}
 use proofs.Making.{alone}
 use proofs.Copies.{named, one_found}
 use proofs.node_indexes.names_in.Goals as goal
@@ -11,9 +11,9 @@ returns-in-len1 c = λ g.
     grind (arith, one_found, ap)
 
 pub returns : goal.returns
-returns c = λ g.
+returns c = IfOk-weaker c.of.result _ _ (λ groups there g.
     let names = c.args.names.now in
-    c.in_ok-map_of.ensures.there g ∙ ap (λ ks. is_member (eq_by_cmp text_cmp) ks g)
+    there g ∙ ap (λ ks. is_member (eq_by_cmp text_cmp) ks g)
     (c.loop-name.invariant
     ∙ ap (map (λ n. n.1)) (take_all c.loop-name.name-index names c.loop-name-test.false))
-    ∙ named g names
+    ∙ named g names) c.of.ensures.there

@@ -2,7 +2,8 @@ use Rattle.scope_core.proofs
 use proofs.Words.{ap, counted_in, NodeCounts, ◌∙◌}
 use proofs.RowEntries.{back_again, hashed_of}
 use proofs.hashed_rows.HashedRows.of.Goals as goal
-use Rattle.scope_core.proofs.hashed_rows.HashedRows.of.Goals.{then-by_process+in_ok-processes_of, else-by_process}
+use Rattle.scope_core.proofs.hashed_rows.HashedRows.of.Goals.{then-by_process+in_ok-processes_of}
+use Rattle.scope_core.proofs.hashed_rows.HashedRows.of.Goals.{else-by_process}
 
 pub invariant_of-result : goal.invariant_of-result
 invariant_of-result c =

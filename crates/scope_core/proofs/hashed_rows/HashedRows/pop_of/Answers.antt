@@ -1,14 +1,16 @@
 use Rattle.scope_core.proofs
 use proofs.Words
 use Words.{ap, AreCounted, cond, counted_in, false, find_in, has_row, is_some, IsHashed, key_cmp}
-use Words.{List, lookup, None, Option, option_map, refl, row_in, same_row, Some, sym, text_cmp, true}
+use Words.{List, lookup, None, Option, option_map, refl, row_in, same_row, Some, sym, text_cmp}
+use Words.{true}
 use Words.{ℕ, ◌∙◌, ◌≡◌}
 use proofs.HashedRows.{some_cond, taken_counted}
 use proofs.HashedWrites.{hashed_write, no_other, none_left, none_of, row_of}
 use proofs.Outcomes.{none_any, none_said, some_said}
 use proofs.Popped.{popped_gone}
 use Rattle.scope_core.specs.declared.counted.Membership.{Membership}
-use Rattle.scope_core.proofs.hashed_rows.HashedRows.pop_of.Goals.{After-is_none-ends_process, After-take-2}
+use Rattle.scope_core.proofs.hashed_rows.HashedRows.pop_of.Goals.{After-is_none-ends_process}
+use Rattle.scope_core.proofs.hashed_rows.HashedRows.pop_of.Goals.{After-take-2}
 use Rattle.scope_core.proofs.hashed_rows.HashedRows.pop_of.Goals.{In-Some-pop}
 use proofs.hashed_rows.HashedRows.pop_of.Goals as goal
 

@@ -2,7 +2,7 @@ use Rattle.scope_core.proofs
 use proofs.Words.{ap, arith, eq_by_cmp, eq_by_cmp_equiv, is_some, IsFromIterResult, None, refl, ◌∙◌}
 use Rattle.std.proofs.lemmas.Map.Made.{is_some-update_all, update_all_none}
 use Rattle.std.proofs.lemmas.Iterator.Adapters.{fact_from_collect, YieldsList-from_vec}
-use proofs.node_indexes.map_of.Goals as goal
+use proofs.small_map.map_of.Goals as goal
 
 pub returns : goal.returns
 returns g c =
