@@ -6,7 +6,7 @@ import os
 import socket
 import subprocess
 
-from cases_archive import fill, field_of, files_of, lines_of, lives_of
+from archives import field_of, files_of, fill, lines_of, lives_of
 from field import case
 from node import asked, new_pid, shown, start
 from talk import Control

@@ -34,8 +34,15 @@ enum Deed {
     Clear,
 }
 
+/// More of a group than stand in one list of its index, in no order.
+const CROWD: Numbers = &[
+    25, 50, 8, 33, 58, 16, 41, 66, 24, 49, 7, 32, 57, 15, 40, 65, 23, 48, 6, 31, 56, 14, 39, 64,
+    22, 47, 5, 30, 55, 13, 38, 63, 21, 46, 4, 29, 54, 12, 37, 62, 20, 45, 3, 28, 53, 11, 36, 61,
+    19, 44, 2, 27, 52, 10, 35, 60, 18, 43, 1, 26, 51, 9, 34, 59, 17, 42,
+];
+
 /// Rows come and go, own ones and those of two peers; refusals are among the answers.
-static DEEDS: [Deed; 23] = [
+static DEEDS: [Deed; 27] = [
     Deed::Join("g", &[2, 1, 1]),
     Deed::Join("h", &[1]),
     Deed::Leaving("g", &[1, 1, 1, 2]),
@@ -57,6 +64,10 @@ static DEEDS: [Deed; 23] = [
     Deed::Sync("c@h", "w", &[6, 2, 10, 9, 4, 1]),
     Deed::JoinRemote("a@h", "h", &[7]),
     Deed::JoinRemote("a@h", "g", &[1, 9, 8]),
+    Deed::Join("m", CROWD),
+    Deed::JoinRemote("a@h", "m", CROWD),
+    Deed::LeaveRemote("a@h", "m", &[66, 1, 30]),
+    Deed::Leave("m", &[3, 65, 7]),
     Deed::Exit(3),
     Deed::DropPeer("c@h"),
     Deed::DropPeer("z@h"),
