@@ -132,10 +132,13 @@ def main():
         with open(os.path.join(folder, "counting.c"), "w", encoding="ascii") as source:
             source.write(COUNTING)
         subprocess.run(["cc", "-shared", "-fPIC", "-O2", "-o", counting, source.name], check=True)
-        own, large = [row(number, 1) for number in range(ROWS)], [
-            row(0, number) for number in range(ROWS)
-        ]
-        for title, rows in (("of a group of its own", own), ("of one large group", large)):
+        for title, size in (
+            ("of a group of its own", 1),
+            ("of a group of two", 2),
+            ("of one of 64", 64),
+            ("of one large group", ROWS),
+        ):
+            rows = [row(number // size, number % size) for number in range(ROWS)]
             table, change, begun = (taken / ROWS for taken in Console(program, counting).kept(rows))
             print(
                 f"a row {title}: {table:.0f} bytes in the table, {change:.0f} in the change, "
