@@ -1,5 +1,5 @@
-"""What the scripts of a seed are made of: the actions of each theme, each with its weight, and those
-that come between two parts of a message, or behind a burst."""
+"""What the scripts of a seed are made of: the actions of each theme, each with its weight, and
+those that come between two parts of a message, or behind a burst."""
 
 # The actions of each theme, with their weights.
 LINKS = {
