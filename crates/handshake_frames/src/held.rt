@@ -1,5 +1,5 @@
 //! What a reader holds between two pieces.
-ghost use Rattle.std.specs.Prelude.{◌≡◌, ◌+◌, ◌<◌, ◌++◌, ◌∷◌, [], length, option_to_list, IfOk, IfSome, IfNone, OnErr};
+ghost use Rattle.std.specs.Prelude.{◌≡◌, ◌+◌, ◌<◌, ◌++◌, length, option_to_list, IfOk, IfSome, IfNone, OnErr};
 ghost use Rattle.std.specs.Int.{w16, to_be_bytes};
 ghost use Rattle.handshake_frames.specs.Held.{IsHeld, Takes, Gives};
 
@@ -58,18 +58,13 @@ fn length_at(first: Option<u8>, piece: &[u8]) -> Option<(u16, &[u8])>
         ≡ to_be_bytes w16 read.0 ++ read.1.now) }
     ensures short { IfNone result (length (option_to_list first) + length piece.now < 2) }
 {
-    let Some(high) = first else {
-        let (high, rest) = piece.split_first()?;
-        return length_behind(*high, rest);
+    let (high, rest) = match first {
+        Some(high) => (high, piece),
+        None => {
+            let (high, rest) = piece.split_first()?;
+            (*high, rest)
+        }
     };
-    length_behind(high, piece)
-}
-
-fn length_behind(high: u8, piece: &[u8]) -> Option<(u16, &[u8])>
-    ensures found { IfSome result (λ read. high ∷ piece.now ≡ to_be_bytes w16 read.0
-        ++ read.1.now) }
-    ensures short { IfNone result (piece.now ≡ []) }
-{
-    let (low, behind) = piece.split_first()?;
+    let (low, behind) = rest.split_first()?;
     Some((u16::from_be_bytes([high, *low]), behind))
 }

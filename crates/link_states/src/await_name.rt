@@ -118,7 +118,10 @@ fn peer_named<L: OtherLinks>(
     unless(!is_own(admission, frame.name), StateRule::OwnName)?;
     let name = NodeName::parse(alloc, frame.name)?;
     unless(allows(admission, &name), StateRule::NotAllowed)?;
-    let standing = Standing::of(links, &name);
+    let standing = Standing {
+        is_up: links.is_up(&name),
+        is_dialled: links.is_dialled(&name),
+    };
     unless(
         !outranks(admission, standing, &name),
         StateRule::Simultaneous,

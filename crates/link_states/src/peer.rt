@@ -43,11 +43,12 @@ impl Peer {
           version = link_version admission.now version;
         } }
     {
+        let both_know_2 = admission.links() == 2 && version == 2;
         Peer {
             name,
             creation,
             visible: is_visible(admission, flags),
-            version: link_version(admission, version),
+            version: if both_know_2 { 2 } else { 1 },
         }
     }
 }
@@ -56,15 +57,4 @@ fn is_visible(admission: &Admission, flags: Flags) -> bool
     ensures { result ≡ is_visible admission.now flags.0 }
 {
     admission.visible(flags)
-}
-
-/// The version that both ends know.
-fn link_version(admission: &Admission, version: u8) -> u8
-    ensures { result ≡ link_version admission.now version }
-{
-    if admission.links() == 2 && version == 2 {
-        2
-    } else {
-        1
-    }
 }

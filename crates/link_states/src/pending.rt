@@ -53,15 +53,3 @@ pub struct Standing {
     pub is_up: bool,
     pub is_dialled: bool,
 }
-
-impl Standing {
-    pub fn of<L: OtherLinks>(links: &L, peer: &NodeName) -> Standing
-        ensures up { result.is_up ≡ is_up (L.pending links.now) peer.now }
-        ensures dialled { result.is_dialled ≡ is_dialled (L.pending links.now) peer.now }
-    {
-        Standing {
-            is_up: links.is_up(peer),
-            is_dialled: links.is_dialled(peer),
-        }
-    }
-}
