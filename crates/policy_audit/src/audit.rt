@@ -128,22 +128,42 @@ impl Audit {
         ensures refused { IfErr result (λ fault. IsAuditFault fault self.old) }
         ensures same { OnErr result (self.new ≡ self.old) }
     {
+        if let Err(fault) = self.make_room() {
+            // By name, so that a check follows the end of each once, for its type.
+            drop(event);
+            drop(verdict);
+            drop(change);
+            return Err(fault);
+        }
+        self.push_reserved(seat, event, verdict, change);
+        Ok(())
+    }
+
+    /// Appends an entry under the next number, into the room that `make_room` has made. It takes no
+    /// memory.
+    pub fn push_reserved(&mut self, seat: u32, event: Event, verdict: Verdict, change: Changes)
+        requires room { self.old.has_room ≡ true }
+        requires space { length self.old.entries < self.old.limit }
+        ensures entries { self.new.entries
+            ≡ record {
+              number = length self.old.entries + 1;
+              seat = seat;
+              event = event;
+              verdict = verdict;
+              change = change;
+            } ∷ self.old.entries }
+        ensures limit { self.new.limit ≡ self.old.limit }
+        ensures forgotten { self.new.forgotten ≡ self.old.forgotten }
+    {
         let entry = Entry {
-            number: self.count.wrapping_add(1),
+            number: self.count + 1,
             seat,
             event,
             verdict,
             change,
         };
-        if let Err(fault) = self.make_room() {
-            // By name, so that a check follows the end of an entry once, and not here, variant by
-            // variant.
-            drop(entry);
-            return Err(fault);
-        }
         push_last(&mut self.pages, entry);
         self.count += 1;
-        Ok(())
     }
 
     /// How many of the oldest entries were handed out.
