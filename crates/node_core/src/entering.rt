@@ -1,11 +1,10 @@
 //! What an event is answered, and its entry in the audit.
-ghost use Rattle.std.specs.Prelude.{◌≡◌, ◌<◌, [], true, length, Ok, Err, IfOk};
-ghost use Rattle.node_core.specs.declared.fault.CoreFault.TheVariants as faults;
+ghost use Rattle.std.specs.Prelude.{◌≡◌, ◌<◌, [], true, length, Ok, IfOk};
 ghost use Rattle.node_core.specs.Step.{Says, one_more, reply_of};
 
 use crate::fault::CoreFault;
 use dist_types::{OutOfMemory, TryClone};
-use policy_audit::{Audit, Change, Changes, Event, Reply, Rule, Verdict};
+use policy_audit::{Audit, Change, Changes, Event, Reply, Verdict};
 use std::alloc::Global;
 
 /// What an accepted event is answered, once for the caller and once for the audit, and what it
@@ -84,10 +83,7 @@ impl Answered {
             copy,
             changes,
         } = self;
-        let verdict = Verdict::Accepted(copy);
-        audit
-            .push(seat, event, verdict, Changes::of(changes))
-            .unwrap();
+        audit.push_reserved(seat, event, Verdict::Accepted(copy), Changes::of(changes));
         reply
     }
 }
@@ -111,7 +107,8 @@ pub fn enter(
     match answered {
         Ok(answered) => Ok(answered.enter(audit, seat, event)),
         Err(CoreFault::Refused(rule)) => {
-            reject(alloc, audit, seat, event, rule);
+            let nothing = Changes::of(Vec::new(alloc));
+            audit.push_reserved(seat, event, Verdict::Refused(rule), nothing);
             Err(CoreFault::Refused(rule))
         }
         Err(CoreFault::OutOfMemory) => {
@@ -119,19 +116,4 @@ pub fn enter(
             Err(CoreFault::OutOfMemory)
         }
     }
-}
-
-/// Enters a refused event.
-fn reject(alloc: Global, audit: &mut Audit, seat: u32, event: Event, rule: Rule)
-    requires room { audit.old.has_room ≡ true }
-    requires space { length audit.old.entries < audit.old.limit }
-    ensures entries { audit.new.entries ≡ one_more audit.old.entries seat event
-        (Err (faults.Refused rule)) }
-    ensures limit { (audit.new.limit ≡ audit.old.limit)
-        × (audit.new.forgotten ≡ audit.old.forgotten) }
-{
-    let nothing = Changes::of(Vec::new(alloc));
-    audit
-        .push(seat, event, Verdict::Refused(rule), nothing)
-        .unwrap();
 }

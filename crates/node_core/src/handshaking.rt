@@ -5,7 +5,7 @@ ghost use Rattle.std.specs.Option.{unwrap_or};
 ghost use Rattle.link_frames.specs.declared.message.Message.TheVariants as said;
 ghost use Rattle.policy_audit.specs.Owed.{wide};
 ghost use Rattle.node_core.specs.Links.{known_peer, dial_beside, narrow_frames};
-ghost use Rattle.node_core.specs.Handshakes.{IsReady, HaveGoneOn, HaveEnded, HaveComeUp, moved_on, older_of, without_link};
+ghost use Rattle.node_core.specs.Handshakes.{IsReady, HaveGoneOn, HaveEnded, HaveComeUp, moved_on, older_of};
 ghost use Rattle.node_core.specs.Gone.{AreLost};
 ghost use Rattle.policy_audit.specs.declared.event.Event.TheVariants as events;
 ghost use Rattle.node_core.specs.FramesHere.{AwaitsEarly, AwaitsLast};
@@ -163,30 +163,27 @@ fn go_on(
     requires ready { IsReady link (length frames) }
     ensures { HaveGoneOn place link state frames gives_up links.old.items links.new.items }
 {
-    let dial = given_up(links, &state, gives_up);
+    let dial = if gives_up {
+        dial_beside(links, &state)
+    } else {
+        None
+    };
     let mut link = link.in_state(state);
     link.owe_bodies(frames);
     put(links, place, link);
-    remove_some(links, dial);
-}
-
-/// The number of the own dial beside a link in this state, where it is given up.
-fn given_up(links: &[Link], state: &LinkState, gives_up: bool) -> Option<u32>
-    ensures { result ≡ cond gives_up (dial_beside state.now links.now) None }
-{
-    if gives_up && let LinkState::Reply(reply) = state {
-        return Some(dial_to(links, reply.peer())?.number());
-    }
-    None
-}
-
-/// The link of this number is gone, if there is a number.
-fn remove_some(links: &mut Vec<Link>, number: Option<u32>)
-    ensures { links.new.items ≡ without_link number links.old.items }
-{
-    if let Some(number) = number {
+    if let Some(number) = dial {
         remove(links, number);
     }
+}
+
+/// The number of the own dial to the peer of a link in this state, which awaits a reply.
+fn dial_beside(links: &[Link], state: &LinkState) -> Option<u32>
+    ensures { result ≡ dial_beside state.now links.now }
+{
+    let LinkState::Reply(reply) = state else {
+        return None;
+    };
+    Some(dial_to(links, reply.peer())?.number())
 }
 
 /// A link has ended. It is kept, at this place, where frames wait for it.
@@ -225,7 +222,9 @@ fn come_up(
     let mut link = link.in_state(LinkState::Up(up));
     owe_all(&mut link, frames, visible, discovers);
     put(links, place, link);
-    remove_some(links, older);
+    if let Some(number) = older {
+        remove(links, number);
+    }
 }
 
 /// Puts a link in at this place, into the room that there is.

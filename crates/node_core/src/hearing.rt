@@ -68,14 +68,22 @@ fn hear_name(
     ensures { Hears admission.now others.now (states.Name state) body.now result }
 {
     match state.take(alloc, body, admission, others) {
-        Ok(Named::Alive(state, frames)) => on(LinkState::Answer(state), frames, false),
+        Ok(Named::Alive(state, frames)) => Heard::On {
+            state: LinkState::Answer(state),
+            frames,
+            gives_up: false,
+        },
         Ok(
             Named::Reply {
                 state,
                 frames,
                 gives_up,
             },
-        ) => on(LinkState::Reply(state), frames, gives_up),
+        ) => Heard::On {
+            state: LinkState::Reply(state),
+            frames,
+            gives_up,
+        },
         Err(Stopped::Ended { rule, frames }) => ended(rule, frames),
         Err(Stopped::OutOfMemory(state)) => Heard::OutOfMemory(LinkState::Name(state)),
     }
@@ -91,7 +99,11 @@ fn hear_answer(
     ensures { Hears admission.now others.now (states.Answer state) body.now result }
 {
     match state.take(alloc, body, admission, others) {
-        Ok((state, frames)) => on(LinkState::Reply(state), frames, false),
+        Ok((state, frames)) => Heard::On {
+            state: LinkState::Reply(state),
+            frames,
+            gives_up: false,
+        },
         Err(Stopped::Ended { rule, frames }) => ended(rule, frames),
         Err(Stopped::OutOfMemory(state)) => Heard::OutOfMemory(LinkState::Answer(state)),
     }
@@ -123,7 +135,11 @@ fn hear_status(
     ensures { Hears admission.now others.now (states.Status state) body.now result }
 {
     match state.take(alloc, body, admission, others) {
-        Ok((state, frames)) => on(LinkState::Challenge(state), frames, false),
+        Ok((state, frames)) => Heard::On {
+            state: LinkState::Challenge(state),
+            frames,
+            gives_up: false,
+        },
         Err(Stopped::Ended { rule, frames }) => ended(rule, frames),
         Err(Stopped::OutOfMemory(state)) => Heard::OutOfMemory(LinkState::Status(state)),
     }
@@ -139,7 +155,11 @@ fn hear_challenge(
     ensures { Hears admission.now others.now (states.Challenge state) body.now result }
 {
     match state.take(alloc, body, admission, others) {
-        Ok((state, frames)) => on(LinkState::Ack(state), frames, false),
+        Ok((state, frames)) => Heard::On {
+            state: LinkState::Ack(state),
+            frames,
+            gives_up: false,
+        },
         Err(Stopped::Ended { rule, frames }) => ended(rule, frames),
         Err(Stopped::OutOfMemory(state)) => Heard::OutOfMemory(LinkState::Challenge(state)),
     }
@@ -158,16 +178,6 @@ fn hear_ack(
         Ok((up, frames)) => Heard::Up { up, frames },
         Err(Stopped::Ended { rule, frames }) => ended(rule, frames),
         Err(Stopped::OutOfMemory(state)) => Heard::OutOfMemory(LinkState::Ack(state)),
-    }
-}
-
-fn on(state: LinkState, frames: Bodies, gives_up: bool) -> Heard
-    ensures { result ≡ Heard.On state frames gives_up }
-{
-    Heard::On {
-        state,
-        frames,
-        gives_up,
     }
 }
 

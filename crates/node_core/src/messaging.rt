@@ -102,7 +102,8 @@ impl Kept {
                 last,
                 rows,
             } => {
-                if is_only(count, last) {
+                // The only part of its message.
+                if last && count == 1 {
                     return self.whole(route, kind, scope, &rows);
                 }
                 self.part(route, kind, scope, count, last, rows)
@@ -217,13 +218,6 @@ impl Kept {
     }
 }
 
-/// Whether a part is the only one of its message.
-fn is_only(number: u32, last: bool) -> bool
-    ensures { result ≡ (last && number == 1) }
-{
-    last && number == 1
-}
-
 /// The message that a body says on a link.
 fn read(alloc: Global, link: &Link, body: &[u8]) -> Result<Message2, MessageFault>
     ensures { MatchResult result
@@ -244,19 +238,13 @@ fn read(alloc: Global, link: &Link, body: &[u8]) -> Result<Message2, MessageFaul
 fn in_one(message: Message) -> Message2
     ensures { result ≡ whole message }
 {
-    match message {
-        Message::Discover(scope) => Message2::Discover(scope),
-        Message::Sync(scope, rows) => one_part(PartKind::Sync, scope, rows),
-        Message::Join(scope, rows) => one_part(PartKind::Join, scope, rows),
-        Message::Leave(scope, rows) => one_part(PartKind::Leave, scope, rows),
-        Message::Down(scope) => Message2::Down(scope),
-    }
-}
-
-/// Rows as one part.
-fn one_part(kind: PartKind, scope: Scope, rows: Rows) -> Message2
-    ensures { result ≡ messages.Part kind scope 1 true rows }
-{
+    let (kind, scope, rows) = match message {
+        Message::Discover(scope) => return Message2::Discover(scope),
+        Message::Down(scope) => return Message2::Down(scope),
+        Message::Sync(scope, rows) => (PartKind::Sync, scope, rows),
+        Message::Join(scope, rows) => (PartKind::Join, scope, rows),
+        Message::Leave(scope, rows) => (PartKind::Leave, scope, rows),
+    };
     Message2::Part {
         kind,
         scope,

@@ -1,5 +1,5 @@
 //! A node.
-ghost use Rattle.std.specs.Prelude.{◌≡◌, ◌<◌, ◌≤◌, ◌^◌, ℕ, false, cond, List, [], Some, None, is_some, length, IfOk, IfErr, IfSome, OnOk};
+ghost use Rattle.std.specs.Prelude.{◌≡◌, ◌<◌, ◌≤◌, ◌^◌, ℕ, cond, List, [], Some, None, is_some, length, IfOk, IfErr, IfSome, OnOk};
 ghost use Rattle.dist_types.specs.declared.pid.Pid.{Pid};
 ghost use Rattle.handshake_frames.specs.Spelling.{IsVersion};
 ghost use Rattle.scope_core.specs.Table.{count_of};
@@ -8,7 +8,7 @@ ghost use Rattle.policy_audit.specs.History.{past, creation, audited, entered};
 ghost use Rattle.policy_audit.specs.Own.{is_running};
 ghost use Rattle.policy_audit.specs.Listed.{listed};
 ghost use Rattle.policy_audit.specs.Owed.{waiting, is_kept, max_waiting};
-ghost use Rattle.policy_audit.specs.Policy.{is_full, next_number, IsLegal};
+ghost use Rattle.policy_audit.specs.Policy.{is_full, IsLegal};
 ghost use Rattle.node_core.specs.Step.{IsOpenFault, IsStepped};
 
 use crate::entering::enter;
@@ -117,14 +117,6 @@ impl NodeCore {
         self.audit.len() >= self.kept.opening.entries as usize
     }
 
-    /// The number of the next entry.
-    fn next_number(&self) -> u32
-        requires { is_full self.now.history ≡ false }
-        ensures { result ≡ next_number self.now.history }
-    {
-        self.audit.len() as u32 + 1
-    }
-
     /// The creation of the node, which its processes and its frames carry.
     pub fn creation(&self) -> u32
         ensures { result ≡ creation self.now.history }
@@ -180,7 +172,7 @@ impl NodeCore {
             drop(event);
             return Err(CoreFault::from(fault));
         }
-        let number = self.next_number();
+        let number = self.audit.len() as u32 + 1;
         let event = self.kept.shared(event);
         let answered = self.kept.answer(&self.audit, seat, number, &event);
         enter(self.kept.alloc, &mut self.audit, seat, event, answered)

@@ -1,10 +1,11 @@
 use Rattle.node_core.proofs
-use proofs.Words.{ap, Bool, false, history, is_full, Kept, Opening, refl, sym, ◌∙◌, ◌≡◌}
+use proofs.Words.{ap, arith, Bool, false, history, is_full, Kept, length, Opening, refl, sym}
+use proofs.Words.{◌+◌, ◌<◌, ◌^◌, ◌∙◌, ◌≡◌}
 use Rattle.policy_audit.specs.Log.{Log}
 use Rattle.policy_audit.proofs.Losses.{made_audited}
 use Rattle.node_core.specs.Core.{IsCore}
-use proofs.StepAnswers.{core_count, core_keeps, core_limit, core_so, its_history, not_full, step_so}
-use proofs.StepAnswers.{unentered_step}
+use proofs.StepAnswers.{core_count, core_keeps, core_limit, core_so, core_space, its_history}
+use proofs.StepAnswers.{not_full, step_so, unentered_step}
 use proofs.Searched.{scopes_ascend}
 use Rattle.node_core.proofs.node.NodeCore.step.Goals.{In_default}
 use Rattle.node_core.proofs.node.NodeCore.step.Goals as goal
@@ -54,8 +55,21 @@ pub returns-in-Err-clause-forgotten : goal.returns-in-Err-clause-forgotten
 returns-in-Err-clause-forgotten c =
     ap (λ a. a.forgotten) c.in-Err.ensures.same ∙ ap (λ node. node.forgotten) c.self.view_is
 
-pub next_number-number-requires : goal.next_number-number-requires
-next_number-number-requires c = space c
+-- so the next number fits its type
+fits : (c : In_default) → length c.make_room.new.self.entries + 1 < 2 ^ 32
+fits c = core_space (core c) refl (space c)
+
+pub overflow_cast-number : goal.overflow_cast-number
+overflow_cast-number c =
+    let fits = fits (goal.at.overflow_cast-number c).In_default in
+    let is = c.len.ensures in
+    omega arith
+
+pub overflow_add-number : goal.overflow_add-number
+overflow_add-number c =
+    let fits = fits (goal.at.overflow_add-number c).In_default in
+    let is = c.len.ensures in
+    omega arith
 
 pub shared-event-requires : goal.shared-event-requires
 shared-event-requires c = scopes_ascend c.self.invariant.follows
@@ -66,7 +80,7 @@ answer-answered-requires c =
       record {
         called = record { keeps = core_keeps (core entered); space = space entered };
         seat_is = refl;
-        number_is = c.next_number-number.ensures;
+        number_is = ap (λ n. n + 1) (c.len.ensures ∙ sym (core_count (core entered) refl));
       },
       (
         sym (made_audited c.self.inside.kept.opening c.make_room.new.self.entries
@@ -75,9 +89,9 @@ answer-answered-requires c =
       ),
     )
 
-pub invariant_of-self-3 : goal.invariant_of-self-3
-invariant_of-self-3 c =
-    let entered = (goal.at.invariant_of-self-3 c).In_default in
+pub invariant_of-self-2 : goal.invariant_of-self-2
+invariant_of-self-2 c =
+    let entered = (goal.at.invariant_of-self-2 c).In_default in
     core_so c.self.inside.kept.opening _ (core entered).legal c.args.seat c.shared-event.result
     c.answer-answered.new.self
     c.answer-answered.result c.answer-answered.ensures c.enter.ensures.entries

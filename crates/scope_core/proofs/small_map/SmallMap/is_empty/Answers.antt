@@ -1,5 +1,6 @@
 use Rattle.scope_core.proofs
-use proofs.Words.{ap, Few, find, is_eq, is_some, lookup, Many, SmallMap, sym, true≢false, ◌==◌, ◌∙◌, ◌≡◌}
+use proofs.Words.{ap, Few, find, is_eq, is_some, lookup, Many, SmallMap, sym, true≢false, ◌==◌}
+use proofs.Words.{◌∙◌, ◌≡◌}
 use proofs.NestedMaps.{some_entry}
 use proofs.small_map.SmallMap.is_empty.Goals as goal
 
