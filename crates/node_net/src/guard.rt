@@ -5,6 +5,7 @@ use crate::lanes::Lanes;
 use dist_types::OutOfMemory;
 use handshake_frames::{Fed, HsReader, decode_challenge};
 use std::alloc::Global;
+use std::io::{self, ErrorKind};
 use std::sync::Wait;
 
 /// Looks through what comes of a link that this node has dialled, until it is up.
@@ -20,8 +21,26 @@ impl ReflectionGuard {
         }
     }
 
+    /// Looks at what has come. An error where a challenge of this node's own has come back, which
+    /// is counted.
+    pub(crate) fn look<R: Wait>(
+        &mut self,
+        rt: &R,
+        lanes: &Lanes<'_>,
+        piece: &[u8],
+    ) -> io::Result<()> {
+        match self.finds(rt, lanes, piece) {
+            Ok(false) => Ok(()),
+            Ok(true) => {
+                lanes.counts().reflection();
+                Err(io::Error::from(ErrorKind::PermissionDenied))
+            }
+            Err(_) => Err(io::Error::from(ErrorKind::OutOfMemory)),
+        }
+    }
+
     /// Whether a challenge that ends in the piece is that of a link of this node.
-    pub(crate) fn finds<R: Wait>(
+    fn finds<R: Wait>(
         &mut self,
         rt: &R,
         lanes: &Lanes<'_>,

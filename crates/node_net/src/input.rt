@@ -1,7 +1,6 @@
 //! What comes of a link, within its limits of time.
 use crate::guard::ReflectionGuard;
-use crate::lanes::Lanes;
-use crate::output::{Outlet, has_stood_still};
+use crate::output::Outlet;
 use crate::patience::HostedLink;
 use crate::progress::Progress;
 use dial_targets::Looks;
@@ -72,7 +71,10 @@ impl<R: Wait + Clock> LinkInput<'_, R> {
                     look_for_stock(self.at, piece);
                 }
                 *heard = heard.saturating_add(piece.len());
-                look_for_reflection(self.at.rt, self.at.lanes, guard, piece)
+                match guard {
+                    Some(guard) => guard.look(self.at.rt, self.at.lanes, piece),
+                    None => Ok(()),
+                }
             }
             Stage::Up(silent) => {
                 *silent = 0;
@@ -95,53 +97,19 @@ impl<R: Wait + Clock> LinkInput<'_, R> {
             Stage::Handshake(..) => ErrorKind::TimedOut,
         }
     }
-
-    /// Writes a tick, where one is due.
-    fn tick(&self) -> io::Result<()> {
-        let ticked = self.outlet.tick(self.at);
-        if has_stood_still(&ticked) {
-            self.at.note(Ending::Slow);
-        }
-        ticked
-    }
 }
 
-/// Counts a stock node that has connected where nodes of this program do: the flags of its Name
-/// tell it.
+/// Counts a stock node that has connected where nodes of this program do: the flags of the Name
+/// that begins here behind its length tell it (Distribution Protocol, Distribution Handshake). That
+/// is all that is looked at of it beside the node.
 fn look_for_stock<R: Wait + Clock>(at: &HostedLink<'_, R>, piece: &[u8]) {
-    if let Some(flags) = name_flags(piece)
-        && is_stock(flags)
+    if let Some((_, body)) = u16_at(piece)
+        && let Some(rest) = after_kind(b'N', body)
+        && let Some((flags, _)) = u64_at(rest)
+        && is_stock(Flags(flags))
     {
         at.lanes.counts().stock_node();
         at.node.wake(at.rt);
-    }
-}
-
-/// The flags of the Name that begins here behind its length (Distribution Protocol, Distribution
-/// Handshake): all that is looked at of it beside the node.
-fn name_flags(piece: &[u8]) -> Option<Flags> {
-    let (_, body) = u16_at(piece)?;
-    let (flags, _) = u64_at(after_kind(b'N', body)?)?;
-    Some(Flags(flags))
-}
-
-/// An error where a challenge of this node's own has come back.
-fn look_for_reflection<R: Wait>(
-    rt: &R,
-    lanes: &Lanes<'_>,
-    guard: &mut Option<ReflectionGuard>,
-    piece: &[u8],
-) -> io::Result<()> {
-    let Some(guard) = guard else {
-        return Ok(());
-    };
-    match guard.finds(rt, lanes, piece) {
-        Ok(false) => Ok(()),
-        Ok(true) => {
-            lanes.counts().reflection();
-            Err(io::Error::from(ErrorKind::PermissionDenied))
-        }
-        Err(_) => Err(io::Error::from(ErrorKind::OutOfMemory)),
     }
 }
 
@@ -150,7 +118,7 @@ impl<R: Wait + Clock> Read for LinkInput<'_, R> {
         self.limit()?;
         let mut stream = self.stream;
         let read = stream.read(buf);
-        self.tick()?;
+        self.outlet.tick(self.at)?;
         match read {
             Ok(count) => {
                 self.look(&buf[..count])?;

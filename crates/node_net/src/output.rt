@@ -1,9 +1,8 @@
 //! What goes out on a link: frames by its writer, and ticks by its reader.
 use crate::patience::{HostedLink, look};
 use dial_targets::Limits;
-use link_notes::Ending;
 use node_threads::LinkOut;
-use std::io::{self, ErrorKind, Write};
+use std::io::{self, Write};
 use std::net::{Shutdown, TcpStream};
 use std::sync::atomic::{AtomicBool, Ordering};
 use std::sync::{Mutex, Wait};
@@ -56,20 +55,12 @@ impl<'a> Outlet<'a> {
         self.is_up.load(Ordering::SeqCst)
     }
 
-    /// Writes a batch of frames, and notes where nobody reads them.
+    /// Writes a batch of frames.
     pub(crate) fn send<R: Wait + Clock>(
         &self,
         at: &HostedLink<'_, R>,
         batch: &[u8],
     ) -> io::Result<()> {
-        let sent = self.write_batch(at, batch);
-        if has_stood_still(&sent) {
-            at.note(Ending::Slow);
-        }
-        sent
-    }
-
-    fn write_batch<R: Wait + Clock>(&self, at: &HostedLink<'_, R>, batch: &[u8]) -> io::Result<()> {
         let mut written = self.written.lock(at.rt);
         at.write_all(self.stream, batch)?;
         *written = Instant::now(at.rt)?;
@@ -89,14 +80,6 @@ impl<'a> Outlet<'a> {
             *written = Instant::now(at.rt)?;
         }
         Ok(())
-    }
-}
-
-/// Whether a write has ended because nobody read for too long.
-pub(crate) fn has_stood_still<T: Drop>(written: &io::Result<T>) -> bool {
-    match written {
-        Ok(_) => false,
-        Err(error) => error.kind() == ErrorKind::WouldBlock,
     }
 }
 

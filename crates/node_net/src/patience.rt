@@ -35,8 +35,8 @@ impl<R: Wait + Clock> HostedLink<'_, R> {
     }
 
     /// Writes all of these bytes, however long that takes. An error where nothing goes out for the
-    /// time of a tick, and soon after the node has given the link up: a peer that doesn't read
-    /// would hold the stream open.
+    /// time of a tick, which is noted, and soon after the node has given the link up: a peer that
+    /// doesn't read would hold the stream open.
     pub(crate) fn write_all(&self, mut stream: &TcpStream, bytes: &[u8]) -> io::Result<()> {
         let mut left = bytes;
         let mut stop = Standstill::begin(self.rt)?;
@@ -101,6 +101,7 @@ impl Standstill {
     fn go_on<R: Wait + Clock>(&mut self, at: &HostedLink<'_, R>) -> io::Result<()> {
         let lasted = self.since.elapsed(at.rt)?;
         if lasted >= at.lanes.limits().tick {
+            at.note(Ending::Slow);
             return Err(io::Error::from(ErrorKind::WouldBlock));
         }
         if at.waiting().is_none() {
