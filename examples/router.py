@@ -3,11 +3,13 @@
 
 It hands each line of its standard input to a worker (worker.py), in turn to each that the pg_node
 behind the control socket CONTROL lists now, and prints the answer, or `nobody`. It prints
-`here HOST:PORT` and `gone HOST:PORT` when a worker comes or goes. At the end of its input it ends
-with status 0; when the node ends, or doesn't say who is listed, with a line on standard error and
-status 1. Where no node is there yet it says so, and waits for one."""
+`here HOST:PORT` and `gone HOST:PORT` when a worker comes or goes. Where no node is there any more
+it says so on standard error, nobody is listed, and it waits for the next one; at first it waits for
+one before it reads its input, at whose end it ends with status 0. Where a node doesn't say who is
+listed, it ends with a line on standard error and status 1."""
 
 import collections
+import contextlib
 import os
 import socket
 import sys
@@ -20,12 +22,12 @@ has_routed_all = threading.Event()
 
 
 def connect(path):
-    """A connection to the node, as soon as it is there."""
+    """A connection to the node, as soon as it is there, if not all is routed before."""
     stream = socket.socket(socket.AF_UNIX)
     try:
         if fault := stream.connect_ex(path):
             print(f"router.py: {path}: {os.strerror(fault)}; waiting", file=sys.stderr)
-            while stream.connect_ex(path):
+            while stream.connect_ex(path) and not has_routed_all.is_set():
                 time.sleep(0.1)
     except OSError as fault:  # a path that is too long
         sys.exit(f"router.py: {path}: {fault}")
@@ -45,11 +47,16 @@ def count(group, number):
         print("here" if now else "gone", group.removeprefix("jobs/"), flush=True)
 
 
+def forget():
+    """Nobody is listed any more."""
+    for group in list(listed):
+        count(group, -listed[group])
+
+
 def watch():
     """Asks who is listed, and to be told of changes. Whoever was listed before the node began anew
     is gone."""
-    for group in list(listed):
-        count(group, -listed[group])
+    forget()
     try:
         control.sendall(b"start jobs\nmonitor_scope jobs\n")
     except OSError:
@@ -99,7 +106,8 @@ def route():
     for turn, job in enumerate(sys.stdin):
         print(done(job, turn), flush=True)
     has_routed_all.set()
-    control.shutdown(socket.SHUT_RDWR)
+    with contextlib.suppress(OSError):  # there may be no node
+        control.shutdown(socket.SHUT_RDWR)
 
 
 def follow_all():
@@ -116,8 +124,13 @@ if len(sys.argv) != 2:
     sys.exit(2)
 sys.stdin.reconfigure(errors="replace")  # else a line that isn't UTF-8 ends the thread
 control = connect(sys.argv[1])
-watch()
 threading.Thread(target=route, daemon=True).start()
-follow_all()
-if not has_routed_all.is_set():
-    sys.exit("router.py: the node is gone")
+while not has_routed_all.is_set():
+    watch()
+    follow_all()
+    if not has_routed_all.is_set():
+        print("router.py: the node is gone", file=sys.stderr)
+        forget()
+        control.close()
+        time.sleep(0.1)
+        control = connect(sys.argv[1])

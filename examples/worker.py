@@ -3,9 +3,9 @@
 
 It does jobs that come as lines at HOST:PORT. Through the pg_node behind the control socket CONTROL
 it is listed as a process in the group jobs/HOST:PORT of the scope jobs. The node ends that process
-when the connection closes, in whatever way the worker ended. When the node ends, or doesn't list
-it, the worker ends, too, with a line on standard error and status 1. Where no node is there yet it
-says so, and waits for one."""
+when the connection closes, in whatever way the worker ended. Where no node is there, or not any
+more, the worker says so on standard error, goes on with its jobs, and is listed again once one is.
+Where a node doesn't list it, it ends with a line there and status 1."""
 
 import contextlib
 import os
@@ -30,6 +30,10 @@ class Jobs(socketserver.StreamRequestHandler):
         with contextlib.suppress(OSError):
             for job in self.rfile:
                 self.wfile.write(address.encode() + b" did " + job)
+
+
+class NodeGone(Exception):
+    """The connection to the node has ended."""
 
 
 def arguments():
@@ -78,7 +82,9 @@ def next_line():
         line = ""
     if line == "fault full\n":
         end("the node has no room for another client")
-    return line or end("the node is gone")
+    if not line:
+        raise NodeGone
+    return line
 
 
 def ask(line):
@@ -108,14 +114,25 @@ def join():
     end("the node answers: " + " ".join(answer))
 
 
+def stay():
+    """Is listed, until the node is gone."""
+    process = join()
+    while True:
+        news = next_line()
+        if news == "! stopped jobs\n":
+            ask(f"exit {process}")  # it lives on without its group
+        if news.startswith(("! restarted ", "! stopped jobs")):
+            process = join()
+
+
 control_path, address, place = arguments()
 serve()
-control = connect()
-lines = control.makefile()
-process = join()
 while True:
-    news = next_line()
-    if news == "! stopped jobs\n":
-        ask(f"exit {process}")  # it lives on without its group
-    if news.startswith(("! restarted ", "! stopped jobs")):
-        process = join()
+    control = connect()
+    lines = control.makefile()
+    try:
+        stay()
+    except NodeGone:
+        print("worker.py: the node is gone", file=sys.stderr)
+    control.close()
+    time.sleep(0.1)

@@ -52,6 +52,11 @@ class Client:
         expect("the status of an example", status, self.process.wait(LIMIT))
         self.expect_errors([words])
 
+    def expect_error(self, words):
+        """That its next line on standard error ends so."""
+        line = self.process.stderr.readline()
+        expect_that(line.endswith(f".py: {words}\n"), f"{words!r} on standard error", line)
+
     def expect_errors(self, wanted):
         """That its lines on standard error that weren't read yet have these words, a line
         each; it has ended."""
@@ -122,13 +127,12 @@ def work_goes_on(field):
 
 @case
 def ends_of_examples(field):
-    """Worker and router say so, and end with status 1, when their node dies, also while a job's
-    connection is open, or has no room; and a worker whose port is taken. Without words they say how
-    they are used."""
+    """Worker and router say so, and end with status 1, when their node has no room; and so does a
+    worker whose port is taken. Without words they say how they are used."""
     a = field.node("a@h", "--clients", "2", port=None)
     port = field.free_port()
     address = f"127.0.0.1:{port}"
-    worker = Client(field, "worker.py", a.control_path, address)
+    Client(field, "worker.py", a.control_path, address)
     router = Client(field, "router.py", a.control_path)
     router.expect(f"here {address}")
     other = f"127.0.0.1:{field.free_port()}"
@@ -137,12 +141,6 @@ def ends_of_examples(field):
     Client(field, "worker.py", a.control_path, address).expect_end(
         1, f"{address}: Address already in use"
     )
-    jobs = field.keep(socket.create_connection(("127.0.0.1", port), LIMIT))
-    jobs.sendall(b"one\n")
-    expect("an answer", f"{address} did one\n".encode(), jobs.recv(100))
-    a.kill()
-    for client in (worker, router):
-        client.expect_end(1, "the node is gone")
     for words in (
         ("worker.py",),
         ("worker.py", a.control_path, "nowhere"),
@@ -177,22 +175,35 @@ def examples_that_are_refused(field):
 
 @case
 def examples_wait(field):
-    """Worker and router that find no node say so once, and wait for it."""
+    """Worker and router that find no node, or find it gone, say so once, and wait for the next one;
+    a job that is under way isn't lost by it. At the end of its input a router waits no longer."""
     path = os.path.join(field.folder, "a@h.control")
-    address = f"127.0.0.1:{field.free_port()}"
+    port = field.free_port()
+    address = f"127.0.0.1:{port}"
     clients = [Client(field, "worker.py", path, address), Client(field, "router.py", path)]
     for client in clients:
-        line = client.process.stderr.readline()
-        expect_that(
-            line.endswith(f".py: {path}: No such file or directory; waiting\n"),
-            "that it waits",
-            line,
-        )
+        client.expect_error(f"{path}: No such file or directory; waiting")
+    router = clients[1]
     a = field.node("a@h", port=None)
-    clients[1].expect(f"here {address}")
+    router.expect(f"here {address}")
+    jobs = field.keep(socket.create_connection(("127.0.0.1", port), LIMIT))
     a.kill()
     for client in clients:
-        client.expect_end(1, "the node is gone")
+        client.expect_error("the node is gone")
+        client.expect_error(f"{path}: Connection refused; waiting")
+    jobs.sendall(b"one\n")
+    expect("an answer", f"{address} did one\n".encode(), jobs.recv(100))
+    router.expect(f"gone {address}")
+    router.send("one")
+    router.expect("nobody")
+    a = field.node("a@h", port=None)
+    router.expect(f"here {address}")
+    router.send("two")
+    router.expect(f"{address} did two")
+    a.kill()
+    router.expect(f"gone {address}")
+    router.process.stdin.close()
+    expect("the status", 0, router.process.wait(LIMIT))
 
 
 @case
