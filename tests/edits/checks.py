@@ -24,6 +24,8 @@ LIMITS = re.compile(
 READING = re.compile(
     r"is not in scope|has no field|is no name|operand is missing|expected the end|cannot continue"
 )
+# How it says that it can't judge a function, whatever that does.
+UNJUDGED = re.compile(r"fn \S+: no proof: .*the borrow checker does not cover this function")
 FAULT = re.compile(r"(?:\./)?((?:src|specs)/\S+):\d+:\d+: error: (?:(`[^`]*`): )?(.*)")
 # How it says that a proof is refused for another one alone.
 RESTS = re.compile(r"was not admitted|is not proved|not admit")
@@ -203,6 +205,8 @@ def judged(status, lines):
         return UNKNOWN, ""
     if unread := [line for line in lines if cannot_read(line)]:
         return COMPILE, unread[0][:160]
+    if unjudged := [line for line in lines if UNJUDGED.match(line)]:
+        return UNSURE, unjudged[0][-160:]
     if status == 1 and any(re.match("logic=not-proved|only=[1-9]", line) for line in lines):
         return REFUSED, first
     if compiler := [line for line in lines if re.search(r"\berror\[[\w-]+\]|^rattle: error", line)]:
