@@ -47,14 +47,8 @@ impl Peer {
         Peer {
             name,
             creation,
-            visible: is_visible(admission, flags),
+            visible: admission.visible(flags),
             version: if both_know_2 { 2 } else { 1 },
         }
     }
-}
-
-fn is_visible(admission: &Admission, flags: Flags) -> bool
-    ensures { result ≡ is_visible admission.now flags.0 }
-{
-    admission.visible(flags)
 }

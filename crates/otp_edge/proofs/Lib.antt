@@ -11,6 +11,7 @@ pub mod RowLemmas
 pub mod BodyLemmas
 pub mod NamedLemmas
 pub mod TallyLemmas
+pub mod RowTallies
 pub mod SignalLemmas
 pub mod WordLemmas
 pub mod GroupedLemmas

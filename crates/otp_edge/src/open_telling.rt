@@ -14,6 +14,7 @@ ghost use Rattle.otp_edge.specs.ScopeEdges.{seen_of, with_told, now_told, told_t
 use crate::life::Life;
 use crate::open_scope::OpenScope;
 use crate::own_terms::{member_term, reference_term};
+use crate::row_tally::RowTally;
 use crate::scope_edge::Run;
 use crate::told_bodies::{Ends, join_bodies, leave_bodies, put_asked, put_sought, sync_body};
 use crate::told_control::{put_end, put_unwatch};
@@ -153,7 +154,8 @@ impl OpenScope {
         let told = groups_of(alloc, &kept, life)?;
         let out = leave_bodies(alloc, ends, &told)?;
         let gone = rows_told(alloc, &told)?;
-        self.seen.tell_leave(&gone);
+        let tally = RowTally::of(alloc, &gone)?;
+        self.seen.tell_leave(tally);
         Ok(out)
     }
 

@@ -2,10 +2,11 @@
 ghost use Rattle.std.specs.Prelude.{◌≡◌, ◌≤◌, ◌+◌, ◌++◌, OnErr, OnOk, IfOk, length};
 ghost use Rattle.dist_types.specs.declared.row.Row.{Row};
 ghost use Rattle.otp_edge.specs.ScopeEdges.{seen_of, with_told, now_told};
-ghost use Rattle.otp_edge.specs.Tallies.{times, IsCutTo};
+ghost use Rattle.otp_edge.specs.Tallies.{times, counted, IsCutTo};
 
+use crate::row_tally::RowTally;
 use crate::scope_edge::ScopeEdge;
-use crate::tally::{counts_in, cut_to, take_out};
+use crate::tally::{common, take_out};
 use dist_types::{OutOfMemory, Row};
 use std::alloc::Global;
 
@@ -35,18 +36,15 @@ impl ScopeEdge {
         ensures cut { IfOk result (λ kept. IsCutTo rows.now kept.items
             (λ r. times r self.now.told.items)) }
     {
-        let counts = counts_in(alloc, rows, &self.told)?;
-        cut_to(alloc, rows, &counts)
+        common(alloc, rows, &self.told)
     }
 
     /// These rows were told to have left.
-    pub fn tell_leave(&mut self, rows: &[Row])
+    pub fn tell_leave(&mut self, mut gone: RowTally)
         ensures seen { seen_of self.new ≡ now_told self.new.told.items (seen_of self.old) }
-        ensures left { (r : Row) → times r rows.now ≤ times r self.old.told.items →
-            times r self.new.told.items + times r rows.now ≡ times r self.old.told.items }
+        ensures left { (r : Row) → counted r gone ≤ times r self.old.told.items →
+            times r self.new.told.items + counted r gone ≡ times r self.old.told.items }
     {
-        for row in rows {
-            take_out(&mut self.told, row);
-        }
+        take_out(&mut self.told, &mut gone);
     }
 }

@@ -5,7 +5,7 @@ use crate::made::{Process, alone, group_of, name_of, row_of, scope_of};
 use crate::steps::{STEPS, Step};
 use dist_types::{Items, Row, Scope, TryClone};
 use link_frames::Message;
-use otp_edge::{Dropped, Edge, HearFault, Heard, Life, Run, counts_in};
+use otp_edge::{Dropped, Edge, HearFault, Heard, Life, Run};
 use std::alloc::Global;
 
 fn run_of(alloc: Global, name: &[u8], creation: u32) -> Option<Run> {
@@ -33,7 +33,11 @@ struct Kept {
 /// Cuts a leave to the rows that the peer stated.
 fn cut(alloc: Global, heard: &mut Heard, stated: &[Row]) -> Option<()> {
     if let Some(left) = &heard.left {
-        let counts = counts_in(alloc, left.rows.as_slice(), stated).ok()?;
+        let mut counts = Vec::new(alloc);
+        for row in left.rows.as_slice() {
+            let count = stated.iter().filter(|listed| row == *listed).count();
+            counts.push(count).ok()?;
+        }
         heard.cut(alloc, &counts).ok()?;
     }
     Some(())

@@ -1,26 +1,37 @@
 use Rattle.otp_edge.proofs
-use proofs.TallyLemmas.{cut_end, cut_start, CutSoFar, kept_step}
-use Rattle.std.proofs.lemmas.List.{take_all}
-use Rattle.std.specs.Prelude.{get_or}
-use proofs.Words.{ap, arith, length, refl, subst, sym}
+use proofs.Words.{ap, arith, sym, ◌+◌, ◌∙◌}
+use Rattle.std.proofs.lemmas.List.{length_push, take_all}
+use Rattle.otp_edge.specs.Tallies.{once}
+use proofs.TallyLemmas.{cut_end, kept_more, kept_one, kept_same}
+use Rattle.otp_edge.proofs.tally.cut_to.Goals.{else-get-counts}
+use Rattle.otp_edge.proofs.tally.cut_to.Goals.{then-get-counts+in_ok-put+in_ok-try_clone+in_ok-push}
 use Rattle.otp_edge.proofs.tally.cut_to.Goals as goal
 
-pub loop-place-init : goal.loop-place-init
-loop-place-init c = record {
-  so = subst (λ l. CutSoFar 0 c.args.rows.now l c.args.counts.now) (sym c.new-kept.ensures.items)
-      (cut_start c.args.rows.now c.args.counts.now);
-  few = omega (arith, ap length c.new-kept.ensures.items);
-}
-
 pub loop-place-preserved : goal.loop-place-preserved
-loop-place-preserved c = record {
-  so = kept_step c.loop-place.place c.args.rows.now c.loop-place.kept.items
-      c.keep.new.kept.items c.args.counts.now c.index-rows-place.result
-      (get_or c.args.counts.now c.loop-place.place 0)
-      c.loop-place.invariant.so c.loop-place-test.true c.index-rows-place.is
-      refl c.in_ok-keep.ensures.more c.in_ok-keep.ensures.same;
-  few = omega (arith, c.in_ok-keep.ensures.few, c.loop-place.invariant.few);
-}
+loop-place-preserved c =
+    let row = c.index-rows-place.result in
+    let kept = c.loop-place.kept.items in
+    let many = c.get.ensures ∙ c.loop-place.invariant.counted row in
+    elim c.if-get-counts.branch [
+      | then-get-counts+in_ok-put+in_ok-try_clone+in_ok-push w ↦
+          let more = rw w.in_ok-try_clone.ensures at w.in_ok-push.ensures.items in
+          rw (w.kept-is, w.tally-is, more) (record {
+            so = kept_more c.loop-place.place c.args.rows.now kept c.args.counts.now row
+                c.loop-place.invariant.so c.loop-place-test.true c.index-rows-place.is
+                (omega (arith, w.if-get-counts.true, many));
+            few = omega (arith, length_push kept row, c.loop-place.invariant.few);
+            counted = λ r. w.in_ok-put.ensures r
+                ∙ ap (λ n. n + once r row) (c.loop-place.invariant.counted r)
+                ∙ sym (kept_one kept row r);
+          })
+      | else-get-counts w ↦ rw (w.kept-is, w.tally-is) (record {
+        so = kept_same c.loop-place.place c.args.rows.now kept c.args.counts.now row
+            c.loop-place.invariant.so c.loop-place-test.true c.index-rows-place.is
+            (omega (arith, w.if-get-counts.false, many));
+        few = omega (arith, c.loop-place.invariant.few);
+        counted = c.loop-place.invariant.counted;
+      })
+    ]
 
 pub returns-clause-cut : goal.returns-clause-cut
 returns-clause-cut c = λ listed are. cut_end c.loop-place.place c.args.rows.now

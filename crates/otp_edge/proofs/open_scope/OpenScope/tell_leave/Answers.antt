@@ -1,6 +1,6 @@
 use Rattle.otp_edge.proofs
 use Rattle.otp_edge.specs
-use proofs.Words.{ap, subst, sym, ◌+◌, ◌≡◌, ◌≤◌}
+use proofs.Words.{ap, subst, sym, ◌+◌, ◌∙◌, ◌≡◌, ◌≤◌}
 use specs.Tallies.{times}
 use specs.Opens.{open_of, with_seen}
 use specs.Sayings.{leaves}
@@ -22,9 +22,10 @@ returns-clause-told c = λ other is.
           c.args.rows.now c.in_ok-kept.kept.items c.in_ok-gone.gone.items c.in_ok-out.out.items
           c.args.self.now.seen.told.items c.tell_leave.new.self.told.items
           c.in_ok-kept.ensures.cut told
-          (λ r few. subst (λ l. times r c.tell_leave.new.self.told.items + times r l
-          ≡ times r c.args.self.now.seen.told.items) c.deref-4.ensures.value
-          (c.tell_leave.ensures.left r (subst (λ l. times r l
-          ≤ times r c.args.self.now.seen.told.items) (sym c.deref-4.ensures.value) few))),
+          (λ r few.
+          let same = c.in_ok-tally.ensures r ∙ ap (times r) c.deref-4.ensures.value in
+          ap (λ n. times r c.tell_leave.new.self.told.items + n) (sym same)
+          ∙ c.tell_leave.ensures.left r
+          (subst (λ n. n ≤ times r c.args.self.now.seen.told.items) (sym same) few)),
       ap (λ s. with_seen s (open_of c.args.self.now)) c.tell_leave.ensures.seen,
     )
