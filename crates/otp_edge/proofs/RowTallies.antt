@@ -1,6 +1,6 @@
 -- What a tally counts after a row is put in or taken out.
 use Rattle.otp_edge.proofs
-use proofs.Words.{ap, arith, Bool, cond, false, List, None, Option, refl, Row, Some, sym, true, ℕ, ◌+◌}
+use proofs.Words.{ap, arith, Bool, cond, false, length, List, None, Option, refl, Row, Some, sym, true, ℕ, [], ◌∷◌, ◌+◌}
 use proofs.Words.{suc, zero, ◌<◌, ◌∙◌, ◌≡◌, ◌≤◌}
 use Rattle.std.specs.declared.cmp.Ordering.{Ordering}
 use Rattle.std.specs.declared.cmp.Ordering.TheVariants.{Equal}
@@ -105,3 +105,19 @@ pub last_one : (entries : List (Row × ℕ)) (row : Row) (n : ℕ) → Some n �
     → HasSome entries → n ≤ 1 → 0 + 1 ≡ counted row entries
 last_one entries row zero at some few = absurd (some row (sym at))
 last_one entries row (suc n) at some few = omega (arith, ap (λ o. unwrap_or o 0) at, few)
+
+above_none : (n m : ℕ) → n ≡ m → (m ≡ 0 → ⊥) → 0 < n
+above_none n zero is some = absurd (some refl)
+above_none n (suc m) is some = omega (arith, is)
+
+-- where there are entries, there is a row
+pub some_row : (entries : List (Row × ℕ)) → HasSome entries → (length entries ≡ 0 → ⊥)
+    → (r : Row) × (0 < counted r entries)
+some_row [] some full = absurd (full refl)
+some_row (e ∷ entries) some full =
+    let first : count_at e.0 (e ∷ entries) ≡ Some e.1 =
+    ap (λ o. cond (is_eq o) (Some e.1) (count_at e.0 entries)) (tied_itself rows_total e.0) in (
+      e.0,
+      above_none (counted e.0 (e ∷ entries)) e.1 (ap (λ o. unwrap_or o 0) first)
+          (λ none. some e.0 (first ∙ ap Some none)),
+    )

@@ -1,5 +1,5 @@
 //! How often rows stand somewhere.
-ghost use Rattle.std.specs.Prelude.{◌≡◌, ◌+◌, ◌<◌, ◌^◌, cond, false, IsTrue, IfOk, OnOk};
+ghost use Rattle.std.specs.Prelude.{◌≡◌, ◌+◌, ◌<◌, ◌^◌, cond, false, IsTrue, IfOk, OnOk, OnErr};
 ghost use Rattle.dist_types.specs.declared.row.Row.{Row};
 ghost use Rattle.otp_edge.specs.Tallies.{times, once, counted};
 
@@ -55,7 +55,8 @@ impl RowTally {
 
     /// Whether there is no row.
     pub fn is_empty(&self) -> bool
-        ensures { IsTrue result → (r : Row) → counted r self.now ≡ 0 }
+        ensures none { IsTrue result → (r : Row) → counted r self.now ≡ 0 }
+        ensures some { result ≡ false → (r : Row) × (0 < counted r self.now) }
     {
         self.counts.is_empty()
     }
@@ -70,8 +71,9 @@ impl RowTally {
     /// Puts the row in once more.
     pub fn put(&mut self, alloc: Global, row: &Row) -> Result<(), OutOfMemory>
         requires { counted row.now self.old + 1 < 2 ^ 64 }
-        ensures { OnOk result ((r : Row) → counted r self.new
+        ensures ok { OnOk result ((r : Row) → counted r self.new
             ≡ counted r self.old + once r row.now) }
+        ensures same { OnErr result (self.new ≡ self.old) }
     {
         let count = self.get(row) + 1;
         self.counts.insert(row.try_clone(alloc)?, count)?;

@@ -13,7 +13,7 @@ pub returns-then-is_empty-clause-cut : goal.returns-then-is_empty-clause-cut
 returns-then-is_empty-clause-cut c =
     common_end c.loop-row.row-index c.args.rows.now c.args.others.now c.loop-row.kept.items
     c.loop-row.asked c.loop-row.invariant
-    (λ r more. absurd (omega (arith, more, c.is_empty.ensures c.if-is_empty.true r)))
+    (λ r more. absurd (omega (arith, more, c.is_empty.ensures.none c.if-is_empty.true r)))
 
 pub loop-row-preserved : goal.loop-row-preserved
 loop-row-preserved c =

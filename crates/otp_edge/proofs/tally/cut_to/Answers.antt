@@ -20,7 +20,7 @@ loop-place-preserved c =
                 c.loop-place.invariant.so c.loop-place-test.true c.index-rows-place.is
                 (omega (arith, w.if-get-counts.true, many));
             few = omega (arith, length_push kept row, c.loop-place.invariant.few);
-            counted = λ r. w.in_ok-put.ensures r
+            counted = λ r. w.in_ok-put.ensures.ok r
                 ∙ ap (λ n. n + once r row) (c.loop-place.invariant.counted r)
                 ∙ sym (kept_one kept row r);
           })

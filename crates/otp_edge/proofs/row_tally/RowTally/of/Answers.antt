@@ -19,7 +19,7 @@ put-requires c =
     )
 
 pub loop-row-preserved : goal.loop-row-preserved
-loop-row-preserved c = λ r. c.in_ok-put.ensures r
+loop-row-preserved c = λ r. c.in_ok-put.ensures.ok r
     ∙ ap (λ n. n + once r c.row-item.result) (c.loop-row.invariant r)
     ∙ sym (asked_more c.args.rows.now c.loop-row.row-index c.row-item.result r
     c.loop-row-test.true c.row-item.is)

@@ -9,8 +9,8 @@ invariant_of-self-2 c =
     put_some c.self.inside.counts.entries c.insert.new.self.entries c.in_ok-try_clone.field-0
     (c.get-count.result + 1) (omega arith) c.in_ok-insert.ensures.updates.0 c.self.invariant
 
-pub returns : goal.returns
-returns c = λ r.
+pub returns-clause-ok : goal.returns-clause-ok
+returns-clause-ok c = λ r.
     let key = c.in_ok-try_clone.field-0 in
     put_once c.self.inside.counts.entries c.insert.new.self.entries key (c.get-count.result + 1)
     (grind (arith, c.get-count.ensures, c.self.view_is, c.in_ok-try_clone.ensures))
