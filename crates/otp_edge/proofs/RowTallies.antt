@@ -1,7 +1,7 @@
 -- What a tally counts after a row is put in or taken out.
 use Rattle.otp_edge.proofs
-use proofs.Words.{ap, arith, Bool, cond, false, length, List, None, Option, refl, Row, Some, sym, true, ℕ, [], ◌∷◌, ◌+◌}
-use proofs.Words.{suc, zero, ◌<◌, ◌∙◌, ◌≡◌, ◌≤◌}
+use proofs.Words.{ap, arith, Bool, cond, false, length, List, None, Option, refl, Row, Some, suc}
+use proofs.Words.{sym, true, zero, ℕ, [], ◌+◌, ◌<◌, ◌∙◌, ◌∷◌, ◌≡◌, ◌≤◌}
 use Rattle.std.specs.declared.cmp.Ordering.{Ordering}
 use Rattle.std.specs.declared.cmp.Ordering.TheVariants.{Equal}
 use Rattle.std.specs.Option.{unwrap_or}
