@@ -3,7 +3,7 @@
 # installed: both in one process and by the clock, from this one run, with the ratio. Each figure is
 # the least of some rounds, and has in it the making of the event and the letting go of its answer.
 # The program is no crate of the gate, so its source isn't named as one: it is built in a folder of
-# its own over what the crates keep of their proofs (build pg_console first, by bin/pg_console), and
+# its own over what the crates keep of their proofs (prove them first, by bin/build), and
 # proved, which takes minutes. NODE_SPEED may name a file where the built program is kept, and taken
 # from at the next run. With ONE=1 both are measured by processor time on the last processor, OTP
 # with one scheduler and without the second node, whose timers want a clock that goes on.

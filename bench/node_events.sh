@@ -8,7 +8,7 @@ set -eu
 here=$(cd "$(dirname "$0")" && pwd)
 program=${PG_CONSOLE:-$here/../crates/pg_console/out/pg_console}
 runs=${RUNS:-7}
-[ -x "$program" ] || { echo "build it first, by bin/pg_console" >&2; exit 1; }
+[ -x "$program" ] || { echo "build it first, by bin/build" >&2; exit 1; }
 folder=$(mktemp -d)
 trap 'rm -rf "$folder"' EXIT
 

@@ -4,7 +4,7 @@
 # two figures agree.
 set -eu
 program=$(cd "$(dirname "$0")/.." && pwd)/crates/pg_console/out/pg_console
-[ -x "$program" ] || { echo "build it first, by bin/pg_console" >&2; exit 1; }
+[ -x "$program" ] || { echo "build it first, by bin/build" >&2; exit 1; }
 folder=$(mktemp -d)
 trap 'rm -rf "$folder"' EXIT
 
