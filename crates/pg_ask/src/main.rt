@@ -7,6 +7,7 @@ mod fault;
 mod hold;
 mod line;
 mod run;
+mod socket;
 mod talk;
 
 use bell::Outcome;

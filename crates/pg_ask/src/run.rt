@@ -3,13 +3,16 @@ use crate::bell::{Bell, Outcome};
 use crate::errand::{Deed, Errand};
 use crate::fault::Fault;
 use crate::hold::Hold;
+use crate::socket::{socket_at, wait_until_gone};
 use crate::talk::{Talk, connect};
 use anyhow::anyhow;
 use pg_answers::Said;
 use std::alloc::Global;
+use std::fs::Files;
 use std::io::{ErrorKind, Read};
 use std::net::Net;
 use std::sync::{Arc, Wait};
+use std::time::Clock;
 
 /// How many bytes of standard input are read at a time.
 const PIECE: usize = 4_096;
@@ -44,7 +47,10 @@ impl Start {
 }
 
 /// Does what the command line asks for, and ends the program.
-pub fn do_errand<R: Net + Wait + Print>(rt: &R, alloc: Global, errand: &Errand, bell: &Bell) {
+pub fn do_errand<R>(rt: &R, alloc: Global, errand: &Errand, bell: &Bell)
+where
+    R: Net + Files + Wait + Clock + Print,
+{
     let outcome = converse(rt, alloc, errand, bell);
     bell.end(rt, outcome);
 }
@@ -78,12 +84,12 @@ fn read_out<R: Wait + Input>(rt: &R) {
 /// Talks with the node until it is to end.
 fn converse<R>(rt: &R, alloc: Global, errand: &Errand, bell: &Bell) -> Outcome
 where
-    R: Net + Wait + Print,
+    R: Net + Files + Wait + Clock + Print,
 {
     let stream = connect(rt, errand.control.as_str())?;
     let mut talk = Talk::new(rt, alloc, &stream, errand.show)?;
     match &errand.deed {
-        Deed::Ask(line) => ask(rt, &mut talk, line.as_str(), errand.show.follows, bell),
+        Deed::Ask(line) => ask(rt, &mut talk, line.as_str(), errand, bell),
         Deed::Hold { scope, group } => {
             let hold = Hold::new(alloc, scope.as_str(), group.as_str())?;
             hold.keep(rt, &mut talk, bell)
@@ -91,23 +97,37 @@ where
     }
 }
 
-/// Shows the answer to a line, and what comes unasked behind it.
-fn ask<R: Wait + Print>(
+/// Shows the answer to a line, and what comes unasked behind it. Where the line ends the node, that
+/// has ended by then.
+fn ask<R: Files + Wait + Clock + Print>(
     rt: &R,
     talk: &mut Talk<'_, R>,
     line: &str,
-    follows: bool,
+    errand: &Errand,
     bell: &Bell,
 ) -> Outcome {
+    let path = errand.control.as_str();
+    let socket = socket_at(rt, path);
     let said = talk.ask(line)?;
+    if said == Said::Done
+        && ends_node(line)
+        && let Some(socket) = socket
+    {
+        wait_until_gone(rt, path, socket);
+    }
     // The answer has come, however slowly it is read from here.
     bell.answer(rt);
     talk.print()?;
-    if said != Said::Done || !follows {
+    if said != Said::Done || !errand.show.follows {
         return Ok(said.status());
     }
     for _ in rt.forever() {
         talk.next()?;
     }
     unreachable!()
+}
+
+/// Whether the node ends behind the answer to this line.
+fn ends_node(line: &str) -> bool {
+    matches!(line.trim(), "drain" | "quit")
 }

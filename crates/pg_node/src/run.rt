@@ -115,42 +115,65 @@ pub fn run<R: Host + Files<File = File>>(
     let hub_settings = hub_settings(files, alloc, clients, keeping, last_entry, targets, log)?;
     let (hub, lanes) = maker.begin(rt, alloc, hub_settings, told)?;
     hub.notes.edges.set_parts(in_parts);
-    let ended = live_outside(rt, files, outside, &hub, &closer, &mut maker, lanes);
-    finish(rt, hub, &closer, ended)
+    live_outside(rt, files, outside, hub, &closer, &mut maker, lanes)
 }
 
-/// Lives where it can be reached, until the end. The lanes come back.
+/// Where it can be reached, opened.
+#[derive(Drop)]
+struct Opened<'a> {
+    otp_place: Option<OtpPlace>,
+    places: Places<'a>,
+}
+
+/// Lives where it can be reached, until the end, and closes the last life.
 fn live_outside<R: Host + Files<File = File>>(
     rt: &R,
     files: &HostRuntime,
     outside: Outside<'_>,
-    hub: &Hub,
+    hub: Hub,
     closer: &Closer<'_>,
     maker: &mut LifeMaker,
     lanes: Vec<Lane>,
-) -> Result<Vec<Lane>> {
-    let (alloc, log) = (hub.alloc, &hub.log);
+) -> Result<()> {
+    let alloc = hub.alloc;
+    let opened = match open_outside(rt, files, outside, &hub) {
+        Ok(opened) => opened,
+        Err(reason) => return finish(rt, hub, closer, Err(reason)),
+    };
+    log_begin(rt, &hub);
+    let program = Program {
+        hub: &hub,
+        limits: outside.limits,
+        places: &opened.places,
+        otp_place: opened.otp_place.as_ref(),
+        closer,
+        streams: outside.queues.streams(),
+    };
+    let ended = serve(rt, program, maker, lanes);
+    let finished = finish(rt, hub, closer, ended);
+    // Behind the archive: who waits for a control socket to go finds that written.
+    opened.places.remove(rt, alloc);
+    finished
+}
+
+fn open_outside<'a, R: Host + Files<File = File>>(
+    rt: &R,
+    files: &HostRuntime,
+    outside: Outside<'a>,
+    hub: &Hub,
+) -> Result<Opened<'a>> {
     let Outside {
         listen,
         otp,
         faces,
-        limits,
         queues,
+        ..
     } = outside;
-    let otp_place = open_otp(rt, alloc, otp, &name_of(rt, hub)?, queues, log)?;
-    let places = open_places(rt, files, alloc, listen, faces, queues, log)?;
-    log_begin(rt, hub);
-    let program = Program {
-        hub,
-        limits,
-        places: &places,
-        otp_place: otp_place.as_ref(),
-        closer,
-        streams: queues.streams(),
-    };
-    let ended = serve(rt, program, maker, lanes);
-    places.remove(rt, alloc);
-    ended
+    let (alloc, log) = (hub.alloc, &hub.log);
+    Ok(Opened {
+        otp_place: open_otp(rt, alloc, otp, &name_of(rt, hub)?, queues, log)?,
+        places: open_places(rt, files, alloc, listen, faces, queues, log)?,
+    })
 }
 
 fn name_of<R: Wait>(rt: &R, hub: &Hub) -> Result<NodeName> {
