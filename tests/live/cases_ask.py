@@ -7,6 +7,7 @@ import signal
 import subprocess
 import time
 
+from archives import fill
 from field import case
 from node import asked, audit, await_members, await_nodes, member, members, plain_lines, size, start
 from waiting import LIMIT, expect, expect_that, seconds_since, until
@@ -299,6 +300,22 @@ def answer_that_is_read_slowly(field):
     slow = Asking(field, "--timeout", 1000, a.control_path, "members", "pg", "g")
     time.sleep(2)
     expect("the answer and the status", (answer + "\n", 0), slow.end())
+
+
+@case
+def ended_from_a_shell(field):
+    """Where a line ends the node pg_ask does so behind it: then the archive is written, and whoever
+    kills what is left loses nothing."""
+    for line in ("quit", "drain"):
+        path = os.path.join(field.folder, line)
+        a = field.node("a@h", "--audit", path)
+        start(a)
+        fill(a, member(a), 20_000)
+        expect_asked(field, ("--timeout", 60_000, a.control_path, line), "ok\n", 0)
+        written = os.path.getsize(path)
+        expect_that(not os.path.exists(a.control_path), "no control socket", a.control_path)
+        expect("the status", 0, a.status())
+        expect("what is written behind it", 0, os.path.getsize(path) - written)
 
 
 @case
