@@ -110,6 +110,8 @@ def asked_by_a_line_on_standard_input(field):
             f"{said!r} for {text[:20]!r}",
             (errors, done.stdout),
         )
+    waiting = Asking(field, "--timeout", 300, a.control_path, "-", stdin=subprocess.PIPE)
+    expect("the status where the line doesn't end", 3, waiting.process.wait(LIMIT))
     expect_asked(field, [a.control_path, "nodes"], "nodes\n", 0)
 
 

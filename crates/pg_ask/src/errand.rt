@@ -1,6 +1,5 @@
 //! What the command line asks for.
 use crate::fault::Fault;
-use crate::line::read_line;
 use anyhow::anyhow;
 use clap::{Arg, ArgAction, ArgMatches, Command, Error as ClapError, value_parser};
 use command_line::VERSION;
@@ -49,6 +48,8 @@ impl Drop for Errand {
 pub enum Deed {
     /// A line, with its line feed.
     Ask(String),
+    /// The line on standard input.
+    AskInput,
     /// A process in a group of a scope.
     Hold { scope: String, group: String },
 }
@@ -111,16 +112,12 @@ fn timeout<'a>(alloc: Global) -> Arg<'a> {
 }
 
 /// What the program is to do.
-pub fn read_errand<R: Input>(
-    rt: &R,
-    alloc: Global,
-    matches: &ArgMatches<'_>,
-) -> Result<Errand, Fault> {
+pub fn read_errand(alloc: Global, matches: &ArgMatches<'_>) -> Result<Errand, Fault> {
     let words = matches.get_strs("COMMAND").unwrap_or(&[]);
     let patience = matches.get_one::<u32>("timeout").unwrap_or(PATIENCE);
     Ok(Errand {
         control: String::from_str(alloc, matches.get_str("CONTROL").unwrap_or(""))?,
-        deed: read_deed(rt, alloc, words)?,
+        deed: read_deed(alloc, words)?,
         patience: Duration::from_millis(u64::from(patience)),
         show: Show {
             follows: matches.get_flag("follow"),
@@ -129,10 +126,9 @@ pub fn read_errand<R: Input>(
     })
 }
 
-fn read_deed<R: Input>(rt: &R, alloc: Global, words: &[&str]) -> Result<Deed, Fault> {
+fn read_deed(alloc: Global, words: &[&str]) -> Result<Deed, Fault> {
     if let ["-"] = words {
-        let line = read_line(rt, alloc)?;
-        return Ok(Deed::Ask(line_of(alloc, &[line.as_str()])?));
+        return Ok(Deed::AskInput);
     }
     let first = words.first().copied().unwrap_or("");
     if first.starts_with("hold ") {
@@ -156,7 +152,7 @@ fn is_word(word: &str) -> bool {
 }
 
 /// The words as one line, which has an answer.
-fn line_of(alloc: Global, words: &[&str]) -> Result<String, Fault> {
+pub fn line_of(alloc: Global, words: &[&str]) -> Result<String, Fault> {
     let mut line = String::new(alloc);
     for word in words {
         if !line.is_empty() {

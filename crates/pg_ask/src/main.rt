@@ -33,7 +33,7 @@ fn main(rt: HostRuntime) -> ExitCode {
         Ok(matches) => matches,
         Err(status) => return status,
     };
-    let start = match prepare(&rt, alloc, &matches) {
+    let start = match prepare(alloc, &matches) {
         Ok(start) => start,
         Err(fault) => return end(&rt, Err(fault)),
     };
@@ -63,8 +63,8 @@ fn main(rt: HostRuntime) -> ExitCode {
 }
 
 /// What the program runs with.
-fn prepare<R: Input>(rt: &R, alloc: Global, matches: &ArgMatches<'_>) -> Result<Start, Fault> {
-    let errand = read_errand(rt, alloc, matches)?;
+fn prepare(alloc: Global, matches: &ArgMatches<'_>) -> Result<Start, Fault> {
+    let errand = read_errand(alloc, matches)?;
     Start::new(alloc, errand)
 }
 

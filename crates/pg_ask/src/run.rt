@@ -1,8 +1,9 @@
 //! What a run begins with, and what its threads do.
 use crate::bell::{Bell, Outcome};
-use crate::errand::{Deed, Errand};
+use crate::errand::{Deed, Errand, line_of};
 use crate::fault::Fault;
 use crate::hold::Hold;
+use crate::line::read_line;
 use crate::socket::{socket_at, wait_until_gone};
 use crate::talk::{Talk, connect};
 use anyhow::anyhow;
@@ -35,7 +36,7 @@ impl Start {
         let talking = Arc::try_clone(&bell)?;
         let reading = match &errand.deed {
             Deed::Hold { .. } => Some(Arc::try_clone(&bell)?),
-            Deed::Ask(_) => None,
+            Deed::Ask(_) | Deed::AskInput => None,
         };
         Ok(Start {
             errand,
@@ -49,7 +50,7 @@ impl Start {
 /// Does what the command line asks for, and ends the program.
 pub fn do_errand<R>(rt: &R, alloc: Global, errand: &Errand, bell: &Bell)
 where
-    R: Net + Files + Wait + Clock + Print,
+    R: Net + Files + Wait + Clock + Print + Input,
 {
     let outcome = converse(rt, alloc, errand, bell);
     bell.end(rt, outcome);
@@ -84,14 +85,19 @@ fn read_out<R: Wait + Input>(rt: &R) {
 /// Talks with the node until it is to end.
 fn converse<R>(rt: &R, alloc: Global, errand: &Errand, bell: &Bell) -> Outcome
 where
-    R: Net + Files + Wait + Clock + Print,
+    R: Net + Files + Wait + Clock + Print + Input,
 {
-    let stream = connect(rt, errand.control.as_str())?;
-    let mut talk = Talk::new(rt, alloc, &stream, errand.show)?;
     match &errand.deed {
-        Deed::Ask(line) => ask(rt, &mut talk, line.as_str(), errand, bell),
+        Deed::Ask(line) => ask(rt, alloc, line.as_str(), errand, bell),
+        Deed::AskInput => {
+            let said = read_line(rt, alloc)?;
+            let line = line_of(alloc, &[said.as_str()])?;
+            ask(rt, alloc, line.as_str(), errand, bell)
+        }
         Deed::Hold { scope, group } => {
             let hold = Hold::new(alloc, scope.as_str(), group.as_str())?;
+            let stream = connect(rt, errand.control.as_str())?;
+            let mut talk = Talk::new(rt, alloc, &stream, errand.show)?;
             hold.keep(rt, &mut talk, bell)
         }
     }
@@ -99,15 +105,17 @@ where
 
 /// Shows the answer to a line, and what comes unasked behind it. Where the line ends the node, that
 /// has ended by then.
-fn ask<R: Files + Wait + Clock + Print>(
+fn ask<R: Net + Files + Wait + Clock + Print>(
     rt: &R,
-    talk: &mut Talk<'_, R>,
+    alloc: Global,
     line: &str,
     errand: &Errand,
     bell: &Bell,
 ) -> Outcome {
     let path = errand.control.as_str();
+    let stream = connect(rt, path)?;
     let socket = socket_at(rt, path);
+    let mut talk = Talk::new(rt, alloc, &stream, errand.show)?;
     let said = talk.ask(line)?;
     if said == Said::Done
         && ends_node(line)
