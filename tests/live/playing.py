@@ -113,6 +113,9 @@ def verdicts(cases, make_field, limit, at_once):
         yield from players.imap(
             functools.partial(judge_named, make_field, limit), [case.__name__ for case in cases]
         )
+        # A player that is ended by a signal while it waits may miss it, and is waited for then.
+        players.close()
+        players.join()
 
 
 def play_all(cases, make_field, limit, at_once=1):
