@@ -1,7 +1,7 @@
 -- How often a row stands in lists that rows are taken out of.
 use Rattle.otp_edge.proofs
-use proofs.Words.{ap, arith, Bool, cond, false, length, List, refl, Row, subst, suc, sym, take, true}
-use proofs.Words.{ℕ, [], ◌++◌, ◌+◌, ◌<◌, ◌∙◌, ◌∷◌, ◌≡◌, ◌≤◌}
+use proofs.Words.{ap, arith, Bool, cond, false, length, List, refl, Row, subst, suc, sym, take}
+use proofs.Words.{true, ℕ, [], ◌++◌, ◌+◌, ◌<◌, ◌∙◌, ◌∷◌, ◌≡◌, ◌≤◌}
 use Rattle.std.specs.Prelude.{get_or}
 use Rattle.std.specs.List.{remove, swap_remove}
 use Rattle.std.proofs.Common.{inl, inr}

@@ -30,6 +30,6 @@ count_at row entries = lookup (λ r. is_eq (row_cmp row r)) entries
 abbrev pub counted : Row → List (Row × ℕ) → ℕ
 counted row entries = unwrap_or (count_at row entries) 0
 
--- no row stands there that the tally doesn't have
+-- each row that stands in a tally is there once at least
 abbrev pub HasSome : List (Row × ℕ) → Type 0
 HasSome entries = (row : Row) → count_at row entries ≡ Some 0 → ⊥
